@@ -1,0 +1,88 @@
+-- The laws of linear combinations: linear in the coefficients, carried by every linear map, and split over append. Assumes nothing.
+use mathlib.Core.Path.{_≡_, refl, sym, ap, ap₂, _∙_}
+use mathlib.Core.Bool.{Bool, true, false}
+use mathlib.Core.List.{List, [], _∷_, _++_, map}
+use Prim.Native.Nat.{ℕ, zero, suc, _/_, _%_, _^_, _<_}
+use native.Mathlib.Nat.{div-one, zero-lt-suc}
+use native.Mathlib.Numerals.{add-one, one-add}
+use native.Mathlib.Omega.{arith}
+use lib.Pow.{pow-pos, shr-shr, mod-mod-pow, field}
+use lib.ListN.{length, getD}
+use Rattle.span.specs.Word.{_⊕_, odd, bit, sel}
+use Rattle.span.specs.Combination.{combination, Below}
+use Rattle.span.proofs.Word.{xor-zero-l, xor-zero-r, xor-assoc, xor-swap, xor-lt, xor-half, odd-of, odd-mod, odd-xor, sel-xor, sel-lt}
+
+pub combination-zero : (ws : List ℕ) → combination ws 0 ≡ 0
+unfolding combination odd
+combination-zero [] = refl
+combination-zero (w ∷ ws) = xor-zero-l (combination ws 0) ∙ combination-zero ws
+
+pub combination-xor : (ws : List ℕ) (c d : ℕ) → combination ws (c ⊕ d) ≡ combination ws c ⊕ combination ws d
+unfolding combination
+combination-xor [] c d = sym (xor-zero-l 0)
+combination-xor (w ∷ ws) c d =
+    ap₂ _⊕_
+    (ap (λ (s : Bool). sel s w) (odd-xor c d) ∙ sel-xor (odd c) (odd d) w)
+    (ap (combination ws) (xor-half c d) ∙ combination-xor ws (c / 2) (d / 2))
+    ∙ xor-swap (sel (odd c) w) (sel (odd d) w) (combination ws (c / 2)) (combination ws (d / 2))
+
+-- the words of the second list are selected by the bits above those of the first
+pub combination-append : (us vs : List ℕ) (c : ℕ) → combination (us ++ vs) c ≡ combination us c ⊕ combination vs (c / 2 ^ length us)
+unfolding combination
+combination-append [] vs c = ap (combination vs) (sym (div-one c)) ∙ sym (xor-zero-l (combination vs (c / 1)))
+combination-append (u ∷ us) vs c =
+    ap (λ (x : ℕ). sel (odd c) u ⊕ x)
+    (combination-append us vs (c / 2)
+    ∙ ap (λ (x : ℕ). combination us (c / 2) ⊕ combination vs x) (shr-shr c 1 (length us) ∙ ap (λ (k : ℕ). c / 2 ^ k) (one-add (length us))))
+    ∙ sym (xor-assoc (sel (odd c) u) (combination us (c / 2)) (combination vs (c / 2 ^ suc (length us))))
+
+pub combination-last : (ws : List ℕ) (w c : ℕ) → combination (ws ++ (w ∷ [])) c ≡ combination ws c ⊕ sel (bit (length ws) c) w
+unfolding combination bit
+combination-last ws w c =
+    combination-append ws (w ∷ []) c
+    ∙ ap (λ (x : ℕ). combination ws c ⊕ x) (xor-zero-r (sel (bit (length ws) c) w))
+
+-- bits past the last word select nothing
+pub combination-low : (ws : List ℕ) (c : ℕ) → combination ws (c % 2 ^ length ws) ≡ combination ws c
+unfolding combination
+combination-low [] c = refl
+combination-low (w ∷ ws) c =
+    ap₂ (λ (s : Bool) (x : ℕ). sel s w ⊕ x)
+    (odd-of (odd c) (c % 2 ^ suc k) (rw (← add-one k) (mod-mod-pow c k 1) ∙ odd-mod c))
+    (ap (combination ws) (rw (← add-one k) (field c k 1)) ∙ combination-low ws (c / 2))
+  where
+    k : ℕ
+    k = length ws
+
+-- a single bit selects its word
+pub combination-pow : (ws : List ℕ) (i : ℕ) → combination ws (2 ^ i) ≡ getD ws i 0
+unfolding combination odd
+combination-pow [] i = refl
+combination-pow (w ∷ ws) zero = ap (λ (x : ℕ). w ⊕ x) (combination-zero ws) ∙ xor-zero-r w
+combination-pow (w ∷ ws) (suc i) =
+    ap₂ (λ (s : Bool) (c : ℕ). sel s w ⊕ combination ws c) (odd-of false (2 ^ suc i) (omega arith)) (omega arith)
+    ∙ xor-zero-l (combination ws (2 ^ i))
+    ∙ combination-pow ws i
+
+pub below-tail : (N w : ℕ) (ws : List ℕ) → Below N (w ∷ ws) → Below N ws
+below-tail N w ws h i l = h (suc i) (omega arith)
+
+pub combination-lt : (N : ℕ) (ws : List ℕ) (c : ℕ) → Below N ws → combination ws c < 2 ^ N
+unfolding combination
+combination-lt N [] c h = pow-pos N
+combination-lt N (w ∷ ws) c h =
+    xor-lt N (sel (odd c) w) (combination ws (c / 2))
+    (sel-lt N (odd c) w (h 0 (zero-lt-suc (length ws))))
+    (combination-lt N ws (c / 2) (below-tail N w ws h))
+
+-- a linear map of the words is that map of the combination
+pub combination-map : (f : ℕ → ℕ) → f 0 ≡ 0 → ((a b : ℕ) → f (a ⊕ b) ≡ f a ⊕ f b)
+    → (ws : List ℕ) (c : ℕ) → combination (map f ws) c ≡ f (combination ws c)
+unfolding combination
+combination-map f f0 fx [] c = sym f0
+combination-map f f0 fx (w ∷ ws) c =
+    ap₂ _⊕_ (go (odd c)) (combination-map f f0 fx ws (c / 2)) ∙ sym (fx (sel (odd c) w) (combination ws (c / 2)))
+  where
+    go : (s : Bool) → sel s (f w) ≡ f (sel s w)
+    go true = refl
+    go false = sym f0

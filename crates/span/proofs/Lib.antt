@@ -1,0 +1,2 @@
+mod Word
+mod Combination

@@ -1,0 +1,112 @@
+-- `span::reduce::reduce`: after i turns the word is reduced by the first i triples. Assumes nothing.
+use mathlib.Core.Path.{_≡_, sym, ap, _∙_}
+use Prim.Native.Nat.{ℕ, suc, _+_, _-_, _≤_, _<_, min}
+use native.Mathlib.Nat.{le-antisymm}
+use native.Mathlib.Numerals.{add-one}
+use native.Mathlib.Omega.{arith}
+use borrow.Author.Needs.{needs}
+use lib.ListN.{getD}
+use Rattle.span.specs.declared.reduce.Basis.{Basis}
+use Rattle.span.specs.declared.reduce.Reduced.{Reduced}
+use Rattle.span.specs.Word.{_⊕_, odd, sel, digit, common}
+use Rattle.span.specs.Basis.{reducedBy, reducedTo, reduction}
+use Rattle.span.proofs.Word.{odd-digit}
+use Rattle.span.proofs.reduce.reduce.Statement.{statement}
+use Rattle.span.proofs.reduce.reduce.Tie as tie
+
+abbrev Inv-loop : tie.InvT-loop
+Inv-loop x b size rest₀ coefficients₀ i₀ rest coefficients i =
+    (i ≤ size) × (_≡_ {A = Reduced} (record { rest = rest; coefficients = coefficients }) (reducedTo b i x))
+
+abbrev μ-loop : tie.MeasureT-loop
+μ-loop x b size rest₀ coefficients₀ i₀ rest coefficients i = size - i
+
+one-more : (b : Basis) (i x rest coefficients on v q : ℕ) → _≡_ {A = Reduced} (record { rest = rest; coefficients = coefficients }) (reducedTo b i x)
+    → on ≡ digit (common 64 rest (getD (b .checks) i 0))
+    → v ≡ sel (odd on) (getD (b .vectors) i 0)
+    → q ≡ sel (odd on) (getD (b .coefficients) i 0)
+    → _≡_ {A = Reduced} (record { rest = rest ⊕ v; coefficients = coefficients ⊕ q }) (reducedTo b (i + 1) x)
+unfolding reducedTo reducedBy
+one-more b i x rest coefficients on v q e on-is v-is q-is =
+    let s = common 64 rest (getD (b .checks) i 0) in
+    let on-odd : odd on ≡ s = ap odd on-is ∙ odd-digit s in
+    rw (add-one i, ← e, v-is, q-is, on-odd)
+
+at-most-requires : tie.Need-at-most-requires Inv-loop μ-loop
+at-most-requires c κs = search needs
+
+loop-holds : tie.Need-loop-holds Inv-loop μ-loop
+unfolding reducedTo
+loop-holds c = search needs
+
+mul-common-parity : tie.Need-mul-common-parity Inv-loop μ-loop
+mul-common-parity c = search needs
+
+element-copy-out-common-parity : tie.Need-element-copy-out-common-parity Inv-loop μ-loop
+element-copy-out-common-parity c = search needs
+
+common-parity-requires : tie.Need-common-parity-requires Inv-loop μ-loop
+common-parity-requires c κs = search needs
+
+mul-select : tie.Need-mul-select Inv-loop μ-loop
+mul-select c = search needs
+
+element-copy-out-select : tie.Need-element-copy-out-select Inv-loop μ-loop
+element-copy-out-select c = search needs
+
+select-requires : tie.Need-select-requires Inv-loop μ-loop
+select-requires c κs = search needs
+
+mul-select-2 : tie.Need-mul-select-2 Inv-loop μ-loop
+mul-select-2 c = search needs
+
+element-copy-out-select-2 : tie.Need-element-copy-out-select-2 Inv-loop μ-loop
+element-copy-out-select-2 c = search needs
+
+select-requires-2 : tie.Need-select-requires-2 Inv-loop μ-loop
+select-requires-2 c κs = search needs
+
+add-i : tie.Need-add-i Inv-loop μ-loop
+add-i c = search needs
+
+loop-less : tie.Need-loop-less Inv-loop μ-loop
+loop-less c = search needs
+
+loop-again : tie.Need-loop-again Inv-loop μ-loop
+unfolding _⊕_
+loop-again c =
+    let l = c .before .before .before .before .before .before .before in
+    let a = l .before .before .args in (
+      omega arith,
+      one-more (a .t1) (l .loop .i) (a .x) (l .loop .rest) (l .loop .coefficients) (c .before .before .before .before .common-parity .result) (c .before .before .select .result) (c .select2 .result)
+          (l .loop .inv .1) (c .before .before .before .before .common-parity .ensures) (c .before .before .select .ensures) (c .select2 .ensures),
+    )
+
+returns : tie.Need-returns Inv-loop μ-loop
+unfolding reduction
+returns c =
+    let l = c .before in
+    let a = l .before .before .args in
+    l .loop .inv .1 ∙ ap (λ (i : ℕ). reducedTo (a .t1) i (a .x)) (omega arith)
+
+pub reduce-spec : {M : Type 1} → statement M
+reduce-spec =
+    tie.close
+    (tie.spec
+    Inv-loop
+    μ-loop
+    at-most-requires
+    loop-holds
+    mul-common-parity
+    element-copy-out-common-parity
+    common-parity-requires
+    mul-select
+    element-copy-out-select
+    select-requires
+    mul-select-2
+    element-copy-out-select-2
+    select-requires-2
+    add-i
+    loop-less
+    loop-again
+    returns)

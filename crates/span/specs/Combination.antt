@@ -1,0 +1,21 @@
+-- Linear combinations over GF(2).
+--
+--   combination ws c   the exclusive or of the words of ws that c selects: word i, counted from 0, by bit i of c
+--   Independent ws     no combination of the words is 0 but the empty one
+--   Below N ws         every word is below 2^N
+use mathlib.Core.Path.{_≡_}
+use mathlib.Core.List.{List, [], _∷_}
+use Prim.Native.Nat.{ℕ, _/_, _^_, _<_}
+use lib.ListN.{length, getD}
+use Rattle.span.specs.Word.{_⊕_, odd, sel}
+
+-- 000, eq. 6, and 01, The code: "the image of e is the exclusive or of the rows of its ones". Bits of c past the last word select nothing.
+unfoldable pub combination : List ℕ → ℕ → ℕ
+combination [] c = 0
+combination (w ∷ ws) c = sel (odd c) w ⊕ combination ws (c / 2)
+
+abbrev pub Independent : List ℕ → Type 0
+Independent ws = (c : ℕ) → c < 2 ^ length ws → combination ws c ≡ 0 → c ≡ 0
+
+abbrev pub Below : ℕ → List ℕ → Type 0
+Below N ws = (i : ℕ) → i < length ws → getD ws i 0 < 2 ^ N

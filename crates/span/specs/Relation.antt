@@ -1,0 +1,30 @@
+-- The least relation among words: the one question that the layers above ask about rows.
+--
+--   leastFrom p a n           the least number that passes the test p, of the n numbers from a on
+--   leastRelation ws f        the least relation among ws from f: the least c with 2^f ≤ c < 2^k and combination c = 0, of k words
+--   leastCoefficients ws x    the least c below 2^k whose combination is x
+--   IsLeast P a b r           r is the least number from a to b − 1 of which P holds, or `Missing` where P holds of none
+use mathlib.Core.Path.{_≡_}
+use mathlib.Core.Bool.{Bool, true, false}
+use mathlib.Core.List.{List}
+use Prim.Native.Nat.{ℕ, zero, suc, _-_, _^_, _≤_, _<_}
+use lib.Dec.{eqb}
+use lib.ListN.{length}
+use Rattle.span.specs.declared.least.Least.{Least}
+use Rattle.span.specs.declared.least.Least.the-variants.{Found, Missing}
+use Rattle.span.specs.Combination.{combination}
+
+-- by ascending search
+unfoldable pub leastFrom : (ℕ → Bool) → ℕ → ℕ → Least
+leastFrom p a zero = Missing
+leastFrom p a (suc n) = elim (p a) [ true ↦ Found a | false ↦ leastFrom p (suc a) n ]
+
+unfoldable pub leastRelation : List ℕ → ℕ → Least
+leastRelation ws f = leastFrom (λ c. eqb (combination ws c) 0) (2 ^ f) (2 ^ length ws - 2 ^ f)
+
+unfoldable pub leastCoefficients : List ℕ → ℕ → Least
+leastCoefficients ws x = leastFrom (λ c. eqb (combination ws c) x) 0 (2 ^ length ws)
+
+abbrev pub IsLeast : (ℕ → Type 0) → ℕ → ℕ → Least → Type 0
+IsLeast P a b (Found c) = (a ≤ c) × (c < b) × P c × ((d : ℕ) → a ≤ d → d < b → P d → c ≤ d)
+IsLeast P a b Missing = (d : ℕ) → a ≤ d → d < b → P d → ⊥
