@@ -2,15 +2,16 @@
 use mathlib.Core.Path.{_≡_, refl, sym, ap, ap₂, _∙_}
 use mathlib.Core.Bool.{Bool, true, false}
 use mathlib.Core.List.{List, [], _∷_, _++_, map}
-use Prim.Native.Nat.{ℕ, zero, suc, _/_, _%_, _^_, _<_}
+use Prim.Native.Nat.{ℕ, zero, suc, _+_, _/_, _%_, _^_, _<_}
 use native.Mathlib.Nat.{div-one, zero-lt-suc}
 use native.Mathlib.Numerals.{add-one, one-add}
 use native.Mathlib.Omega.{arith}
 use lib.Pow.{pow-pos, shr-shr, mod-mod-pow, field}
 use lib.ListN.{length, getD}
+use lib.Seq.{getD-append-seam}
 use Rattle.span.specs.Word.{_⊕_, odd, bit, sel}
 use Rattle.span.specs.Combination.{combination, Below}
-use Rattle.span.proofs.Word.{xor-zero-l, xor-zero-r, xor-assoc, xor-swap, xor-lt, xor-half, odd-of, odd-mod, odd-xor, sel-xor, sel-lt}
+use Rattle.span.proofs.Word.{xor-zero-l, xor-zero-r, xor-assoc, xor-swap, xor-lt, xor-half, odd-of, odd-mod, odd-xor, sel-xor, sel-lt, bit-none, xor-comm, pow-add-xor}
 
 pub combination-zero : (ws : List ℕ) → combination ws 0 ≡ 0
 unfolding combination odd
@@ -74,6 +75,17 @@ combination-lt N (w ∷ ws) c h =
     xor-lt N (sel (odd c) w) (combination ws (c / 2))
     (sel-lt N (odd c) w (h 0 (zero-lt-suc (length ws))))
     (combination-lt N ws (c / 2) (below-tail N w ws h))
+
+-- a last word whose bit is not set changes nothing, and one whose bit is set joins in
+pub combination-below : (ws : List ℕ) (w c : ℕ) → c < 2 ^ length ws → combination (ws ++ (w ∷ [])) c ≡ combination ws c
+combination-below ws w c h =
+    combination-last ws w c ∙ ap (λ (s : Bool). combination ws c ⊕ sel s w) (bit-none (length ws) c h) ∙ xor-zero-r (combination ws c)
+
+pub combination-above : (ws : List ℕ) (w c : ℕ) → c < 2 ^ length ws → combination (ws ++ (w ∷ [])) (2 ^ length ws + c) ≡ combination ws c ⊕ w
+combination-above ws w c h =
+    ap (combination (ws ++ (w ∷ []))) (pow-add-xor (length ws) c h ∙ xor-comm (2 ^ length ws) c)
+    ∙ combination-xor (ws ++ (w ∷ [])) c (2 ^ length ws)
+    ∙ ap₂ _⊕_ (combination-below ws w c h) (combination-pow (ws ++ (w ∷ [])) (length ws) ∙ getD-append-seam ws w [] 0)
 
 -- a linear map of the words is that map of the combination
 pub combination-map : (f : ℕ → ℕ) → f 0 ≡ 0 → ((a b : ℕ) → f (a ⊕ b) ≡ f a ⊕ f b)

@@ -1,2 +1,5 @@
 mod Word
 mod Combination
+mod Relation
+mod Elimination
+mod Basis

@@ -4,7 +4,7 @@ use mathlib.Core.Path.{_≡_, refl, sym, ap, ap₂, _∙_, subst}
 use mathlib.Core.Bool.{Bool, true, false, xor, _&&_}
 use mathlib.Core.Logic.{_≢_}
 use Prim.Native.Nat.{ℕ, zero, suc, _+_, _*_, _/_, _%_, _^_, _≤_, _<_}
-use native.Mathlib.Nat.{add-zero, zero-mul, suc-mul, zero-mod, mod-mod, mod-lt, div-one, div-eq-of-lt, div-eq-of-lt-le}
+use native.Mathlib.Nat.{add-zero, zero-mul, one-mul, suc-mul, zero-mod, mod-mod, mod-lt, div-one, div-eq-of-lt, div-eq-of-lt-le}
 use native.Mathlib.Numerals.{one-add}
 use native.Mathlib.Omega.{arith}
 use borrow.Author.Tests.{eq-eqb, ne-eqb, eqb-true, eqb-false}
@@ -157,6 +157,11 @@ xor-swap = swap-middle _⊕_ xor-assoc xor-comm
 pub xor-lt : (k a b : ℕ) → a < 2 ^ k → b < 2 ^ k → a ⊕ b < 2 ^ k
 unfolding _⊕_
 xor-lt k a b ha hb = Bits.xor-lt k a b ha hb
+
+-- a bit above a word adds to it
+pub pow-add-xor : (k c : ℕ) → c < 2 ^ k → 2 ^ k + c ≡ 2 ^ k ⊕ c
+unfolding _⊕_
+pow-add-xor k c h = sym (rw (one-mul (2 ^ k)) at (Bits.xor-shifted 1 k c h))
 
 -- ---- selection
 
