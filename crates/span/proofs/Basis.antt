@@ -4,24 +4,25 @@ use mathlib.Core.Bool.{Bool, true, false}
 use mathlib.Core.Logic.{_≢_}
 use mathlib.Core.List.{List, [], _∷_, _++_, append-nil}
 use Prim.Native.Nat.{ℕ, zero, suc, _+_, _^_, _≤_, _<_, min, zero-le}
-use native.Mathlib.Nat.{add-zero, zero-add, le-refl, lt-of-le-of-lt}
+use native.Mathlib.Nat.{add-zero, zero-add, le-refl, le-of-lt, lt-of-le-of-lt, min-comm}
 use native.Mathlib.Numerals.{add-one}
 use native.Mathlib.Omega.{arith}
-use borrow.Author.Tests.{eqb-true, eqb-false}
+use borrow.Author.Tests.{eq-eqb, ne-eqb, eqb-true, eqb-false}
 use lib.Count.{trailingZeros}
 use lib.Dec.{eqb}
-use lib.ListN.{length, getD, set, length-append, length-set, List·getD-append}
-use lib.Seq.{getD-set-same, getD-set-other, getD-append-seam, append-snoc}
-use Rattle.span.specs.declared.least.Least.{Least}
-use Rattle.span.specs.declared.reduce.Basis.{Basis}
-use Rattle.span.specs.declared.reduce.Reduced.{Reduced}
+use lib.ListN.{length, getD, set, take, drop, length-append, length-set, length-take, take-append-drop, List·getD-append}
+use lib.Seq.{getD-set-same, getD-set-other, getD-append-seam, getD-take, append-snoc, take-suc, take-all, take-take, length-take-le}
+use Rattle.span.specs.declared.eliminate.Least.{Least}
+use Rattle.span.specs.declared.eliminate.Least.the-variants.{Found, Missing}
+use Rattle.span.specs.declared.eliminate.Basis.{Basis}
+use Rattle.span.specs.declared.eliminate.Reduced.{Reduced}
 use Rattle.span.specs.Word.{_⊕_, bit, common}
 use Rattle.span.specs.Combination.{combination, Below}
-use Rattle.span.specs.Relation.{leastCoefficients}
-use Rattle.span.specs.Basis.{reducedBy, reducedTo, reduction, answer, lowestOne, emptyBasis, grown, pickBasis, joined, extended, basisOf}
+use Rattle.span.specs.Relation.{leastRelation, leastCoefficients, IsLeast}
+use Rattle.span.specs.Basis.{reducedBy, reducedTo, reduction, pickLeast, answer, lowestOne, emptyBasis, grown, pickBasis, joined, extended, basisOf, counted}
 use Rattle.span.proofs.Word.{xor-twice, xor-lt, common-pow, trailing-bit}
 use Rattle.span.proofs.Combination.{combination-lt}
-use Rattle.span.proofs.Relation.{least-unique, least-coefficients}
+use Rattle.span.proofs.Relation.{least-unique, least-coefficients, relation-found, relation-none}
 use Rattle.span.proofs.Elimination.{Reduces, start, pass, join, least-by}
 
 -- ---- one triple more
@@ -121,6 +122,9 @@ module _ (ws : List ℕ) (b : Basis) (w : ℕ) (h : Built ws b) (room : length w
 below-left : (N : ℕ) (us vs : List ℕ) → Below N (us ++ vs) → Below N us
 below-left N us vs h i l = subst (λ (x : ℕ). x < 2 ^ N) (List·getD-append us vs 0 i l) (h i (rw (length-append us vs) (omega arith)))
 
+below-take : (N i : ℕ) (ws : List ℕ) → Below N ws → Below N (take i ws)
+below-take N i ws h = below-left N (take i ws) (drop i ws) (rw (take-append-drop i ws) h)
+
 built-from : (us ws : List ℕ) (b : Basis) → Built us b → length (us ++ ws) ≤ 32 → Below 64 (us ++ ws) → Built (us ++ ws) (extended (length us) b ws)
 unfolding extended
 built-from us [] b h room bound = rw (append-nil us) h
@@ -157,3 +161,73 @@ unfolding basisOf
 basis-last us w =
     extended-last us 0 emptyBasis w
     ∙ ap (λ (k : ℕ). joined k (basisOf us) (reduction (basisOf us) w)) (zero-add (length us))
+
+-- ---- word by word
+
+-- the words that count: how many, which, and their bound
+pub counted-length : (n : ℕ) (ws : List ℕ) → length (counted n ws) ≡ min (min n (length ws)) 32
+counted-length n ws = length-take 32 (take n ws) ∙ ap (min 32) (length-take n ws) ∙ min-comm 32 (min n (length ws))
+
+pub counted-at : (n : ℕ) (ws : List ℕ) (i : ℕ) → i < length (counted n ws) → getD (counted n ws) i 0 ≡ getD ws i 0
+counted-at n ws i h =
+    let l = counted-length n ws in
+    getD-take 32 (take n ws) i 0 (omega arith) ∙ getD-take n ws i 0 (omega arith)
+
+pub counted-below : (N n : ℕ) (ws : List ℕ) → ((i : ℕ) → getD ws i 0 < 2 ^ N) → Below N (counted n ws)
+counted-below N n ws h i l = subst (λ (x : ℕ). x < 2 ^ N) (sym (counted-at n ws i l)) (h i)
+
+-- the first of the words that count
+pub counted-fewer : (i n : ℕ) (ws : List ℕ) → i ≤ length (counted n ws) → counted i ws ≡ take i (counted n ws)
+counted-fewer i n ws h =
+    let l = counted-length n ws in
+    take-all 32 (take i ws) (rw (length-take i ws) (omega arith))
+    ∙ sym (take-take i 32 (take n ws) (omega arith) ∙ take-take i n ws (omega arith))
+
+-- one more word of a loop over the words that count, in the loop's terms
+module _ (n : ℕ) (ws : List ℕ) (bound : (j : ℕ) → getD ws j 0 < 2 ^ 64) (i : ℕ) (h : i < min (min n (length ws)) 32) (b : Basis)
+    (so-far : b ≡ basisOf (take i (counted n ws))) where
+  inside : i < length (counted n ws)
+  inside = let l = counted-length n ws in omega arith
+
+  size-taken : length (take i (counted n ws)) ≡ i
+  size-taken = length-take-le i (counted n ws) (le-of-lt inside)
+
+  part-built : Built (take i (counted n ws)) (basisOf (take i (counted n ws)))
+  part-built = built (take i (counted n ws)) (rw size-taken (omega arith)) (below-take 64 i (counted n ws) (counted-below 64 n ws bound))
+
+  pub turn-room : b .size < 32
+  turn-room = let s = part-built .size in rw so-far (omega (arith, size-taken))
+
+  pub turn-basis : (b′ : Basis) → b′ ≡ joined i b (reduction b (getD ws i 0)) → b′ ≡ basisOf (take (i + 1) (counted n ws))
+  turn-basis b′ e =
+      e
+      ∙ rw (
+        so-far,
+        ← counted-at n ws i inside,
+        add-one i,
+        take-suc (counted n ws) i 0 inside,
+        basis-last (take i (counted n ws)) (getD (counted n ws) i 0),
+        size-taken,
+      )
+
+  pub turn-answer : answer (reduction b (getD ws i 0)) ≡ leastCoefficients (take i (counted n ws)) (getD (counted n ws) i 0)
+  turn-answer =
+      rw (so-far, ← counted-at n ws i inside)
+      (basis-least (take i (counted n ws)) (rw size-taken (omega arith)) (below-take 64 i (counted n ws) (counted-below 64 n ws bound))
+      (getD (counted n ws) i 0))
+
+  module _ (f : ℕ) (l : f ≤ i) (none : IsLeast (λ (c : ℕ). combination (counted n ws) c ≡ 0) (2 ^ f) (2 ^ i) Missing) where
+    pub turn-found : reduction b (getD ws i 0) .rest ≡ 0 → Found (reduction b (getD ws i 0) .coefficients ⊕ 2 ^ i) ≡ leastRelation (counted n ws) f
+    unfolding answer
+    turn-found e =
+        let r = reduction b (getD ws i 0) in
+        relation-found (counted n ws) f i inside l none (r .coefficients)
+        (sym turn-answer ∙ ap (λ (s : Bool). pickLeast s (Found (r .coefficients)) Missing) (eq-eqb (r .rest) 0 e))
+
+    pub turn-none : (reduction b (getD ws i 0) .rest ≡ 0 → ⊥) → IsLeast (λ (c : ℕ). combination (counted n ws) c ≡ 0) (2 ^ f) (2 ^ (i + 1)) Missing
+    unfolding answer
+    turn-none ne =
+        let r = reduction b (getD ws i 0) in
+        rw (add-one i)
+        (relation-none (counted n ws) f i inside l none
+        (sym turn-answer ∙ ap (λ (s : Bool). pickLeast s (Found (r .coefficients)) Missing) (ne-eqb (r .rest) 0 ne)))

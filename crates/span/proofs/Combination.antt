@@ -2,13 +2,13 @@
 use mathlib.Core.Path.{_≡_, refl, sym, ap, ap₂, _∙_}
 use mathlib.Core.Bool.{Bool, true, false}
 use mathlib.Core.List.{List, [], _∷_, _++_, map}
-use Prim.Native.Nat.{ℕ, zero, suc, _+_, _/_, _%_, _^_, _<_}
-use native.Mathlib.Nat.{div-one, zero-lt-suc}
+use Prim.Native.Nat.{ℕ, zero, suc, _+_, _/_, _%_, _^_, _≤_, _<_}
+use native.Mathlib.Nat.{div-one, div-eq-of-lt, zero-lt-suc}
 use native.Mathlib.Numerals.{add-one, one-add}
 use native.Mathlib.Omega.{arith}
 use lib.Pow.{pow-pos, shr-shr, mod-mod-pow, field}
-use lib.ListN.{length, getD}
-use lib.Seq.{getD-append-seam}
+use lib.ListN.{length, getD, take, drop, take-append-drop}
+use lib.Seq.{getD-append-seam, length-take-le}
 use Rattle.span.specs.Word.{_⊕_, odd, bit, sel}
 use Rattle.span.specs.Combination.{combination, Below}
 use Rattle.span.proofs.Word.{xor-zero-l, xor-zero-r, xor-assoc, xor-swap, xor-lt, xor-half, odd-of, odd-mod, odd-xor, sel-xor, sel-lt, bit-none, xor-comm, pow-add-xor}
@@ -86,6 +86,16 @@ combination-above ws w c h =
     ap (combination (ws ++ (w ∷ []))) (pow-add-xor (length ws) c h ∙ xor-comm (2 ^ length ws) c)
     ∙ combination-xor (ws ++ (w ∷ [])) c (2 ^ length ws)
     ∙ ap₂ _⊕_ (combination-below ws w c h) (combination-pow (ws ++ (w ∷ [])) (length ws) ∙ getD-append-seam ws w [] 0)
+
+-- coefficients below 2^i select among the first i words only
+pub combination-take : (ws : List ℕ) (i c : ℕ) → c < 2 ^ i → i ≤ length ws → combination (take i ws) c ≡ combination ws c
+combination-take ws i c h l =
+    let none : c / 2 ^ length (take i ws) ≡ 0 = rw (length-take-le i ws l) (div-eq-of-lt h) in
+    sym (ap (λ (l : List ℕ). combination l c) (sym (take-append-drop i ws))
+    ∙ combination-append (take i ws) (drop i ws) c
+    ∙ ap (λ (x : ℕ). combination (take i ws) c ⊕ combination (drop i ws) x) none
+    ∙ ap (λ (x : ℕ). combination (take i ws) c ⊕ x) (combination-zero (drop i ws))
+    ∙ xor-zero-r (combination (take i ws) c))
 
 -- a linear map of the words is that map of the combination
 pub combination-map : (f : ℕ → ℕ) → f 0 ≡ 0 → ((a b : ℕ) → f (a ⊕ b) ≡ f a ⊕ f b)

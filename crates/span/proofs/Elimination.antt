@@ -17,8 +17,8 @@ use lib.Dec.{eqb}
 use lib.ListN.{length, length-append}
 use lib.Seq.{getD-append-seam}
 use lib.Pow.{pow-pos, pow-mono, pow-lt}
-use Rattle.span.specs.declared.least.Least.{Least}
-use Rattle.span.specs.declared.least.Least.the-variants.{Found, Missing}
+use Rattle.span.specs.declared.eliminate.Least.{Least}
+use Rattle.span.specs.declared.eliminate.Least.the-variants.{Found, Missing}
 use Rattle.span.specs.Word.{_⊕_, bit, sel, common}
 use Rattle.span.specs.Combination.{combination}
 use Rattle.span.specs.Relation.{IsLeast}

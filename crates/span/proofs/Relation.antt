@@ -3,20 +3,23 @@ use mathlib.Core.Path.{_≡_, refl, sym, ap, _∙_, subst}
 use mathlib.Core.Bool.{Bool, true, false, false≢true}
 use mathlib.Core.List.{List, [], _∷_, _++_}
 use Prim.Native.Nat.{ℕ, zero, suc, _+_, _-_, _^_, _≤_, _<_, zero-le}
-use native.Mathlib.Nat.{le-refl, le-of-lt, le-antisymm}
+use native.Mathlib.Nat.{le-refl, le-trans, le-of-lt, le-of-suc-le-suc, lt-of-lt-of-le, lt-of-not-le, le-antisymm}
+use native.Mathlib.Decide.{decLt}
 use native.Mathlib.Numerals.{add-one}
 use native.Mathlib.Omega.{arith}
 use borrow.Author.Tests.{eq-eqb, eqb-true}
 use lib.Arith.{lt-of-le-ne}
 use lib.Dec.{eqb}
-use lib.ListN.{length, length-append}
-use Rattle.span.specs.declared.least.Least.{Least}
-use Rattle.span.specs.declared.least.Least.the-variants.{Found, Missing}
+use lib.ListN.{length, getD, take, length-append}
+use lib.Pow.{pow-mono}
+use lib.Seq.{take-suc, length-take-le}
+use Rattle.span.specs.declared.eliminate.Least.{Least}
+use Rattle.span.specs.declared.eliminate.Least.the-variants.{Found, Missing}
 use Rattle.span.specs.Word.{_⊕_}
 use Rattle.span.specs.Combination.{combination}
 use Rattle.span.specs.Relation.{leastFrom, leastRelation, leastCoefficients, raised, IsLeast}
-use Rattle.span.proofs.Word.{xor-eq, xor-self}
-use Rattle.span.proofs.Combination.{combination-above}
+use Rattle.span.proofs.Word.{xor-comm, xor-eq, xor-self, pow-add-xor}
+use Rattle.span.proofs.Combination.{combination-above, combination-take}
 
 above : (P : ℕ → Type 0) (a d : ℕ) → (P a → ⊥) → a ≤ d → P d → suc a ≤ d
 above P a d none h p = lt-of-le-ne h (λ (e : a ≡ d). none (subst P (sym e) p))
@@ -88,3 +91,58 @@ module _ (ws : List ℕ) (x : ℕ) where
       least-unique (λ (c : ℕ). combination (ws ++ (x ∷ [])) c ≡ 0) (2 ^ length ws) (2 ^ length (ws ++ (x ∷ [])))
       (leastRelation (ws ++ (x ∷ [])) (length ws)) (raised (length ws) (leastCoefficients ws x))
       (least-relation (ws ++ (x ∷ [])) (length ws)) (raised-least (leastCoefficients ws x) (least-coefficients ws x))
+
+-- ---- the search word by word
+
+least-map : (P Q : ℕ → Type 0) (a b : ℕ) (r : Least) → ((c : ℕ) → c < b → P c → Q c) → ((c : ℕ) → c < b → Q c → P c)
+    → IsLeast P a b r → IsLeast Q a b r
+least-map P Q a b (Found c) to from h = (h .0, h .1, to c (h .1) (h .2), λ d l u q. h .3 d l u (from d u q))
+least-map P Q a b Missing to from h = λ d l u q. h d l u (from d u q)
+
+-- what is above the least does not matter
+least-wider : (P : ℕ → Type 0) (a b b′ c : ℕ) → b ≤ b′ → IsLeast P a b (Found c) → IsLeast P a b′ (Found c)
+least-wider P a b b′ c l h = (h .0, lt-of-lt-of-le (h .1) l, h .2, λ d u v p. go d u p (decLt d b))
+  where
+    go : (d : ℕ) → a ≤ d → P d → Dec (d < b) → c ≤ d
+    go d u p (yes w) = h .3 d u w p
+    go d u p (no w) = let k = h .1 in omega arith
+
+-- where there is none in a first stretch, the least of the next is the least of both
+least-glue : (P : ℕ → Type 0) (a b c : ℕ) (r : Least) → a ≤ b → IsLeast P a b Missing → IsLeast P b c r → IsLeast P a c r
+least-glue P a b c (Found x) l none h =
+    (le-trans l (h .0), h .1, h .2, λ d u v p. h .3 d (le-of-suc-le-suc (lt-of-not-le (λ (w : d < b). none d u w p))) v p)
+least-glue P a b c Missing l none h = λ d u v p. h d (le-of-suc-le-suc (lt-of-not-le (λ (w : d < b). none d u w p))) v p
+
+module _ (ws : List ℕ) (f i : ℕ) (h : i < length ws) (l : f ≤ i) (none : IsLeast (λ (c : ℕ). combination ws c ≡ 0) (2 ^ f) (2 ^ i) Missing) where
+  -- relations from f up to the word i, by the coefficients of that word among those before it
+  relation-turn : IsLeast (λ (c : ℕ). combination ws c ≡ 0) (2 ^ f) (2 ^ suc i) (raised i (leastCoefficients (take i ws) (getD ws i 0)))
+  relation-turn =
+      let us = take i ws in
+      let r = leastCoefficients us (getD ws i 0) in
+      least-glue (λ (c : ℕ). combination ws c ≡ 0) (2 ^ f) (2 ^ i) (2 ^ suc i) (raised i r) (pow-mono l) none
+      (least-map (λ (c : ℕ). combination (take (suc i) ws) c ≡ 0) (λ (c : ℕ). combination ws c ≡ 0) (2 ^ i) (2 ^ suc i) (raised i r)
+      (λ c u e. sym (combination-take ws (suc i) c u h) ∙ e)
+      (λ c u e. combination-take ws (suc i) c u h ∙ e)
+      (rw (← take-suc ws i 0 h, length-take-le (suc i) ws h, length-take-le i ws (le-of-lt h)) at
+      (raised-least us (getD ws i 0) r (least-coefficients us (getD ws i 0)))))
+
+  pub relation-found : (c : ℕ) → leastCoefficients (take i ws) (getD ws i 0) ≡ Found c → Found (c ⊕ 2 ^ i) ≡ leastRelation ws f
+  relation-found c e =
+      let low : c < 2 ^ i =
+      rw (length-take-le i ws (le-of-lt h)) at
+      (subst (IsLeast (λ (d : ℕ). combination (take i ws) d ≡ getD ws i 0) 0 (2 ^ length (take i ws))) e
+      (least-coefficients (take i ws) (getD ws i 0)) .1)
+      in
+      ap Found (xor-comm c (2 ^ i) ∙ sym (pow-add-xor i c low))
+      ∙ least-unique (λ (c : ℕ). combination ws c ≡ 0) (2 ^ f) (2 ^ length ws) (Found (2 ^ i + c)) (leastRelation ws f)
+      (least-wider (λ (c : ℕ). combination ws c ≡ 0) (2 ^ f) (2 ^ suc i) (2 ^ length ws) (2 ^ i + c) (pow-mono h)
+      (subst (λ (r : Least). IsLeast (λ (c : ℕ). combination ws c ≡ 0) (2 ^ f) (2 ^ suc i) (raised i r)) e relation-turn))
+      (least-relation ws f)
+
+  pub relation-none : leastCoefficients (take i ws) (getD ws i 0) ≡ Missing → IsLeast (λ (c : ℕ). combination ws c ≡ 0) (2 ^ f) (2 ^ suc i) Missing
+  relation-none e = subst (λ (r : Least). IsLeast (λ (c : ℕ). combination ws c ≡ 0) (2 ^ f) (2 ^ suc i) (raised i r)) e relation-turn
+
+pub relation-missing : (ws : List ℕ) (f i : ℕ) → length ws ≤ i → IsLeast (λ (c : ℕ). combination ws c ≡ 0) (2 ^ f) (2 ^ i) Missing → Missing ≡ leastRelation ws f
+relation-missing ws f i l none =
+    least-unique (λ (c : ℕ). combination ws c ≡ 0) (2 ^ f) (2 ^ length ws) Missing (leastRelation ws f)
+    (λ d u v e. none d u (lt-of-lt-of-le v (pow-mono l)) e) (least-relation ws f)

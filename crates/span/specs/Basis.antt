@@ -7,6 +7,7 @@
 --   lowestOne v         the lowest one of a word, alone
 --   joined i b w        b with word number i taken up
 --   basisOf ws          the basis of a list of words
+--   counted n ws        the words of ws that count where n are asked for: at most 32
 --
 -- What a basis of words means is `REDUCES` in `Laws`; a reader who believes that need not follow the elimination below.
 use mathlib.Core.Bool.{Bool, true, false}
@@ -14,11 +15,11 @@ use mathlib.Core.List.{List, [], _∷_}
 use Prim.Native.Nat.{ℕ, zero, suc, _+_, _^_, min}
 use lib.Count.{trailingZeros}
 use lib.Dec.{eqb}
-use lib.ListN.{getD, set, replicate}
-use Rattle.span.specs.declared.reduce.Basis.{Basis}
-use Rattle.span.specs.declared.reduce.Reduced.{Reduced}
-use Rattle.span.specs.declared.least.Least.{Least}
-use Rattle.span.specs.declared.least.Least.the-variants.{Found, Missing}
+use lib.ListN.{getD, set, take, replicate}
+use Rattle.span.specs.declared.eliminate.Basis.{Basis}
+use Rattle.span.specs.declared.eliminate.Reduced.{Reduced}
+use Rattle.span.specs.declared.eliminate.Least.{Least}
+use Rattle.span.specs.declared.eliminate.Least.the-variants.{Found, Missing}
 use Rattle.span.specs.Word.{_⊕_, sel, common}
 
 -- a word is reduced by a triple exactly if it and the check word have an odd count of common ones
@@ -71,3 +72,6 @@ extended i b (w ∷ ws) = extended (suc i) (joined i b (reduction b w)) ws
 
 unfoldable pub basisOf : List ℕ → Basis
 basisOf ws = extended 0 emptyBasis ws
+
+abbrev pub counted : ℕ → List ℕ → List ℕ
+counted n ws = take 32 (take n ws)

@@ -11,8 +11,8 @@ use mathlib.Core.List.{List}
 use Prim.Native.Nat.{ℕ, zero, suc, _+_, _-_, _^_, _≤_, _<_}
 use lib.Dec.{eqb}
 use lib.ListN.{length}
-use Rattle.span.specs.declared.least.Least.{Least}
-use Rattle.span.specs.declared.least.Least.the-variants.{Found, Missing}
+use Rattle.span.specs.declared.eliminate.Least.{Least}
+use Rattle.span.specs.declared.eliminate.Least.the-variants.{Found, Missing}
 use Rattle.span.specs.Combination.{combination}
 
 -- by ascending search

@@ -2,5 +2,4 @@
 pub mod bits;
 pub mod bound;
 pub mod combine;
-pub mod least;
-pub mod reduce;
+pub mod eliminate;

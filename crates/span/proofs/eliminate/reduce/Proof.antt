@@ -1,4 +1,4 @@
--- `span::reduce::reduce`: after i turns the word is reduced by the first i triples. Assumes nothing.
+-- `span::eliminate::reduce`: after i turns the word is reduced by the first i triples. Assumes nothing.
 use mathlib.Core.Path.{_≡_, sym, ap, _∙_}
 use Prim.Native.Nat.{ℕ, suc, _+_, _-_, _≤_, _<_, min}
 use native.Mathlib.Nat.{le-antisymm}
@@ -6,13 +6,13 @@ use native.Mathlib.Numerals.{add-one}
 use native.Mathlib.Omega.{arith}
 use borrow.Author.Needs.{needs}
 use lib.ListN.{getD}
-use Rattle.span.specs.declared.reduce.Basis.{Basis}
-use Rattle.span.specs.declared.reduce.Reduced.{Reduced}
+use Rattle.span.specs.declared.eliminate.Basis.{Basis}
+use Rattle.span.specs.declared.eliminate.Reduced.{Reduced}
 use Rattle.span.specs.Word.{_⊕_, odd, sel, digit, common}
 use Rattle.span.specs.Basis.{reducedBy, reducedTo, reduction}
 use Rattle.span.proofs.Word.{odd-digit}
-use Rattle.span.proofs.reduce.reduce.Statement.{statement}
-use Rattle.span.proofs.reduce.reduce.Tie as tie
+use Rattle.span.proofs.eliminate.reduce.Statement.{statement}
+use Rattle.span.proofs.eliminate.reduce.Tie as tie
 
 abbrev Inv-loop : tie.InvT-loop
 Inv-loop x b size rest₀ coefficients₀ i₀ rest coefficients i =
