@@ -3,3 +3,4 @@ pub mod Word
 pub mod Combination
 pub mod Relation
 pub mod Basis
+pub mod Laws
