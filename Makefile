@@ -2,4 +2,4 @@
 .PHONY: test
 
 test:
-	@tests/tally tests/layout 'rt ci' tests/statements tests/statements_test tests/tally_test
+	@tests/tally tests/layout 'rt ci' tests/statements $(wildcard tests/*_test)

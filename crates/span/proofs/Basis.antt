@@ -4,23 +4,27 @@ use mathlib.Core.Bool.{Bool, true, false}
 use mathlib.Core.Logic.{_≢_}
 use mathlib.Core.List.{List, [], _∷_, _++_, append-nil}
 use Prim.Native.Nat.{ℕ, zero, suc, _+_, _^_, _≤_, _<_, min, zero-le}
-use native.Mathlib.Nat.{add-zero, zero-add, le-refl, le-of-lt, lt-of-le-of-lt, min-comm}
+use native.Mathlib.Nat.{add-zero, zero-add, le-refl, le-of-lt, lt-of-le-of-lt}
+use native.Mathlib.Decide.{decLe}
 use native.Mathlib.Numerals.{add-one}
 use native.Mathlib.Omega.{arith}
 use borrow.Author.Tests.{eq-eqb, ne-eqb, eqb-true, eqb-false}
 use lib.Count.{trailingZeros}
 use lib.Dec.{eqb}
 use lib.ListN.{length, getD, set, take, drop, length-append, length-set, length-take, take-append-drop, List·getD-append}
-use lib.Seq.{getD-set-same, getD-set-other, getD-append-seam, getD-take, append-snoc, take-suc, take-all, take-take, length-take-le}
+use lib.Pow.{pow-mono}
+use lib.Seq.{getD-set-same, getD-set-other, getD-append-seam, append-snoc, take-suc, take-all, take-take, length-take-le}
 use Rattle.span.specs.declared.eliminate.Least.{Least}
 use Rattle.span.specs.declared.eliminate.Least.the-variants.{Found, Missing}
 use Rattle.span.specs.declared.eliminate.Basis.{Basis}
 use Rattle.span.specs.declared.eliminate.Reduced.{Reduced}
-use Rattle.span.specs.Word.{_⊕_, bit, common}
+use Rattle.span.specs.Word.{_⊕_, bit, commonParity}
 use Rattle.span.specs.Combination.{combination, Below}
 use Rattle.span.specs.Relation.{leastRelation, leastCoefficients, IsLeast}
-use Rattle.span.specs.Basis.{reducedBy, reducedTo, reduction, pickLeast, answer, lowestOne, emptyBasis, grown, pickBasis, joined, extended, basisOf, counted}
-use Rattle.span.proofs.Word.{xor-twice, xor-lt, common-pow, trailing-bit}
+use Rattle.span.specs.Basis.{basis, reducedBy, reducedTo, reduction, answer}
+use Rattle.span.specs.Elimination.{lowestOne, emptyBasis, grown, pickBasis, joined, extended, basisOf}
+use Rattle.span.specs.Combination.{counted}
+use Rattle.span.proofs.Word.{xor-twice, xor-lt, parity-pow, trailing-bit}
 use Rattle.span.proofs.Combination.{combination-lt}
 use Rattle.span.proofs.Relation.{least-unique, least-coefficients, relation-found, relation-none}
 use Rattle.span.proofs.Elimination.{Reduces, start, pass, join, least-by}
@@ -79,11 +83,11 @@ unfolding reduction reducedTo
 built-none = record { whole = record { vectors = refl; checks = refl; coefficients = refl }; size = zero-le; reduces = start }
 
 -- the lowest one of what is left is common to it and the check word, alone
-check-odd : (x : ℕ) → x ≢ 0 → x < 2 ^ 64 → common 64 x (lowestOne x) ≡ true
+check-odd : (x : ℕ) → x ≢ 0 → x < 2 ^ 64 → commonParity 64 x (lowestOne x) ≡ true
 unfolding lowestOne
 check-odd x ne h =
     let t = trailing-bit 64 x (omega arith) h in
-    common-pow 64 (trailingZeros 64 x) x (t .0) ∙ t .1
+    parity-pow 64 (trailingZeros 64 x) x (t .0) ∙ t .1
 
 module _ (ws : List ℕ) (b : Basis) (w : ℕ) (h : Built ws b) (room : length ws < 32) (bound : Below 64 ws) (w-bound : w < 2 ^ 64) where
   rest-lt : reduction b w .rest < 2 ^ 64
@@ -162,72 +166,54 @@ basis-last us w =
     extended-last us 0 emptyBasis w
     ∙ ap (λ (k : ℕ). joined k (basisOf us) (reduction (basisOf us) w)) (zero-add (length us))
 
+pub answer-found : (r : Reduced) → r .rest ≡ 0 → answer r ≡ Found (r .coefficients)
+unfolding answer
+answer-found r e = rw (eq-eqb (r .rest) 0 e)
+
+pub answer-missing : (r : Reduced) → (r .rest ≡ 0 → ⊥) → answer r ≡ Missing
+unfolding answer
+answer-missing r ne = rw (ne-eqb (r .rest) 0 ne)
+
 -- ---- word by word
 
--- the words that count: how many, which, and their bound
-pub counted-length : (n : ℕ) (ws : List ℕ) → length (counted n ws) ≡ min (min n (length ws)) 32
-counted-length n ws = length-take 32 (take n ws) ∙ ap (min 32) (length-take n ws) ∙ min-comm 32 (min n (length ws))
+pub joined-passed : (i : ℕ) (b : Basis) (r : Reduced) → r .rest ≡ 0 → joined i b r ≡ b
+unfolding joined
+joined-passed i b r e = rw (eq-eqb (r .rest) 0 e)
 
-pub counted-at : (n : ℕ) (ws : List ℕ) (i : ℕ) → i < length (counted n ws) → getD (counted n ws) i 0 ≡ getD ws i 0
-counted-at n ws i h =
-    let l = counted-length n ws in
-    getD-take 32 (take n ws) i 0 (omega arith) ∙ getD-take n ws i 0 (omega arith)
+-- the stores of the code
+pub joined-stored : (i : ℕ) (b : Basis) (r : Reduced) (check one : ℕ) → (r .rest ≡ 0 → ⊥) → check ≡ lowestOne (r .rest) → one ≡ 2 ^ i
+    → joined i b r
+    ≡ basis (b .size + 1) (set (b .vectors) (b .size) (r .rest)) (set (b .checks) (b .size) check)
+    (set (b .coefficients) (b .size) (r .coefficients ⊕ one))
+unfolding joined grown
+joined-stored i b r check one ne e f = rw (ne-eqb (r .rest) 0 ne, e, f)
 
-pub counted-below : (N n : ℕ) (ws : List ℕ) → ((i : ℕ) → getD ws i 0 < 2 ^ N) → Below N (counted n ws)
-counted-below N n ws h i l = subst (λ (x : ℕ). x < 2 ^ N) (sym (counted-at n ws i l)) (h i)
+-- one more word, in the terms of a loop over the words
+module _ (ws : List ℕ) (room : length ws ≤ 32) (bound : Below 64 ws) (i : ℕ) (h : i < length ws) (b : Basis) (so-far : b ≡ basisOf (take i ws)) where
+  size-taken : length (take i ws) ≡ i
+  size-taken = length-take-le i ws (le-of-lt h)
 
--- the first of the words that count
-pub counted-fewer : (i n : ℕ) (ws : List ℕ) → i ≤ length (counted n ws) → counted i ws ≡ take i (counted n ws)
-counted-fewer i n ws h =
-    let l = counted-length n ws in
-    take-all 32 (take i ws) (rw (length-take i ws) (omega arith))
-    ∙ sym (take-take i 32 (take n ws) (omega arith) ∙ take-take i n ws (omega arith))
+  pub turn-basis : basisOf (take (i + 1) ws) ≡ joined i b (reduction b (getD ws i 0))
+  turn-basis = rw (so-far, add-one i, take-suc ws i 0 h, basis-last (take i ws) (getD ws i 0), size-taken)
 
--- one more word of a loop over the words that count, in the loop's terms
-module _ (n : ℕ) (ws : List ℕ) (bound : (j : ℕ) → getD ws j 0 < 2 ^ 64) (i : ℕ) (h : i < min (min n (length ws)) 32) (b : Basis)
-    (so-far : b ≡ basisOf (take i (counted n ws))) where
-  inside : i < length (counted n ws)
-  inside = let l = counted-length n ws in omega arith
-
-  size-taken : length (take i (counted n ws)) ≡ i
-  size-taken = length-take-le i (counted n ws) (le-of-lt inside)
-
-  part-built : Built (take i (counted n ws)) (basisOf (take i (counted n ws)))
-  part-built = built (take i (counted n ws)) (rw size-taken (omega arith)) (below-take 64 i (counted n ws) (counted-below 64 n ws bound))
-
-  pub turn-room : b .size < 32
-  turn-room = let s = part-built .size in rw so-far (omega (arith, size-taken))
-
-  pub turn-basis : (b′ : Basis) → b′ ≡ joined i b (reduction b (getD ws i 0)) → b′ ≡ basisOf (take (i + 1) (counted n ws))
-  turn-basis b′ e =
-      e
-      ∙ rw (
-        so-far,
-        ← counted-at n ws i inside,
-        add-one i,
-        take-suc (counted n ws) i 0 inside,
-        basis-last (take i (counted n ws)) (getD (counted n ws) i 0),
-        size-taken,
-      )
-
-  pub turn-answer : answer (reduction b (getD ws i 0)) ≡ leastCoefficients (take i (counted n ws)) (getD (counted n ws) i 0)
+  turn-answer : answer (reduction b (getD ws i 0)) ≡ leastCoefficients (take i ws) (getD ws i 0)
   turn-answer =
-      rw (so-far, ← counted-at n ws i inside)
-      (basis-least (take i (counted n ws)) (rw size-taken (omega arith)) (below-take 64 i (counted n ws) (counted-below 64 n ws bound))
-      (getD (counted n ws) i 0))
+      rw so-far (basis-least (take i ws) (rw size-taken (omega arith)) (below-take 64 i ws bound) (getD ws i 0))
 
-  module _ (f : ℕ) (l : f ≤ i) (none : IsLeast (λ (c : ℕ). combination (counted n ws) c ≡ 0) (2 ^ f) (2 ^ i) Missing) where
-    pub turn-found : reduction b (getD ws i 0) .rest ≡ 0 → Found (reduction b (getD ws i 0) .coefficients ⊕ 2 ^ i) ≡ leastRelation (counted n ws) f
-    unfolding answer
-    turn-found e =
+  module _ (f : ℕ) (none : IsLeast (λ (c : ℕ). combination ws c ≡ 0) (2 ^ f) (2 ^ i) Missing) where
+    pub turn-found : f ≤ i → reduction b (getD ws i 0) .rest ≡ 0
+        → Found (reduction b (getD ws i 0) .coefficients ⊕ 2 ^ i) ≡ leastRelation ws f
+    turn-found l e =
         let r = reduction b (getD ws i 0) in
-        relation-found (counted n ws) f i inside l none (r .coefficients)
-        (sym turn-answer ∙ ap (λ (s : Bool). pickLeast s (Found (r .coefficients)) Missing) (eq-eqb (r .rest) 0 e))
+        relation-found ws f i h l none (r .coefficients) (sym turn-answer ∙ answer-found r e)
 
-    pub turn-none : (reduction b (getD ws i 0) .rest ≡ 0 → ⊥) → IsLeast (λ (c : ℕ). combination (counted n ws) c ≡ 0) (2 ^ f) (2 ^ (i + 1)) Missing
-    unfolding answer
-    turn-none ne =
-        let r = reduction b (getD ws i 0) in
-        rw (add-one i)
-        (relation-none (counted n ws) f i inside l none
-        (sym turn-answer ∙ ap (λ (s : Bool). pickLeast s (Found (r .coefficients)) Missing) (ne-eqb (r .rest) 0 ne)))
+    pub turn-none : (f ≤ i → reduction b (getD ws i 0) .rest ≡ 0 → ⊥) → IsLeast (λ (c : ℕ). combination ws c ≡ 0) (2 ^ f) (2 ^ (i + 1)) Missing
+    turn-none ne = rw (add-one i) (go (decLe f i))
+      where
+        r : Reduced
+        r = reduction b (getD ws i 0)
+
+        go : Dec (f ≤ i) → IsLeast (λ (c : ℕ). combination ws c ≡ 0) (2 ^ f) (2 ^ suc i) Missing
+        go (yes l) =
+            relation-none ws f i h l none (sym turn-answer ∙ answer-missing r (ne l))
+        go (no l) = λ d u v e. let p : 2 ^ suc i ≤ 2 ^ f = pow-mono (omega arith) in omega arith

@@ -1,16 +1,16 @@
 -- The laws of linear combinations: linear in the coefficients, carried by every linear map, and split over append. Assumes nothing.
-use mathlib.Core.Path.{_≡_, refl, sym, ap, ap₂, _∙_}
+use mathlib.Core.Path.{_≡_, refl, sym, ap, ap₂, _∙_, subst}
 use mathlib.Core.Bool.{Bool, true, false}
 use mathlib.Core.List.{List, [], _∷_, _++_, map}
-use Prim.Native.Nat.{ℕ, zero, suc, _+_, _/_, _%_, _^_, _≤_, _<_}
+use Prim.Native.Nat.{ℕ, zero, suc, _+_, _/_, _%_, _^_, _≤_, _<_, min}
 use native.Mathlib.Nat.{div-one, div-eq-of-lt, zero-lt-suc}
 use native.Mathlib.Numerals.{add-one, one-add}
 use native.Mathlib.Omega.{arith}
 use lib.Pow.{pow-pos, shr-shr, mod-mod-pow, field}
-use lib.ListN.{length, getD, take, drop, take-append-drop}
-use lib.Seq.{getD-append-seam, length-take-le}
+use lib.ListN.{length, getD, take, drop, length-take, take-append-drop}
+use lib.Seq.{getD-append-seam, getD-take, length-take-le, take-all, take-take}
 use Rattle.span.specs.Word.{_⊕_, odd, bit, sel}
-use Rattle.span.specs.Combination.{combination, Below}
+use Rattle.span.specs.Combination.{combination, Below, counted}
 use Rattle.span.proofs.Word.{xor-zero-l, xor-zero-r, xor-assoc, xor-swap, xor-lt, xor-half, odd-of, odd-mod, odd-xor, sel-xor, sel-lt, bit-none, xor-comm, pow-add-xor}
 
 pub combination-zero : (ws : List ℕ) → combination ws 0 ≡ 0
@@ -108,3 +108,22 @@ combination-map f f0 fx (w ∷ ws) c =
     go : (s : Bool) → sel s (f w) ≡ f (sel s w)
     go true = refl
     go false = sym f0
+
+-- ---- the words that count: how many, which, their bound, and how the code takes them
+
+pub counted-length : (n : ℕ) (ws : List ℕ) → length (counted n ws) ≡ min 32 (min n (length ws))
+counted-length n ws = length-take 32 (take n ws) ∙ ap (min 32) (length-take n ws)
+
+pub counted-at : (n : ℕ) (ws : List ℕ) (i : ℕ) → i < length (counted n ws) → getD (counted n ws) i 0 ≡ getD ws i 0
+counted-at n ws i h =
+    let l = counted-length n ws in
+    getD-take 32 (take n ws) i 0 (omega arith) ∙ getD-take n ws i 0 (omega arith)
+
+pub counted-below : (N n : ℕ) (ws : List ℕ) → ((i : ℕ) → getD ws i 0 < 2 ^ N) → Below N (counted n ws)
+counted-below N n ws h i l = subst (λ (x : ℕ). x < 2 ^ N) (sym (counted-at n ws i l)) (h i)
+
+pub counted-take : (n : ℕ) (ws : List ℕ) → take (min (min n (length ws)) 32) ws ≡ counted n ws
+counted-take n ws =
+    let e = min (min n (length ws)) 32 in
+    let l = counted-length n ws in
+    sym (take-take e n ws (omega arith)) ∙ sym (take-take e 32 (take n ws) (omega arith)) ∙ take-all e (counted n ws) (omega arith)

@@ -15,7 +15,7 @@ use lib.Pow.{pow-lt}
 use Rattle.span.specs.declared.eliminate.Least.{Least}
 use Rattle.span.specs.declared.eliminate.Least.the-variants.{Found, Missing}
 use Rattle.span.specs.Word.{_⊕_}
-use Rattle.span.specs.Combination.{combination, Independent, Below}
+use Rattle.span.specs.Combination.{combination, Member, Independent, Below}
 use Rattle.span.specs.Relation.{leastCoefficients, IsLeast}
 use Rattle.span.proofs.Word.{xor-eq, xor-self, xor-lt}
 use Rattle.span.proofs.Combination.{combination-xor, combination-lt}
@@ -96,10 +96,10 @@ module _ (N : ℕ) (ws : List ℕ) (bound : Below N ws) (independent : Independe
           let q = pigeonhole (2 ^ N) (2 ^ length ws) (combination ws) into different in
           absurd (omega arith)
 
-  pub spanning : length ws ≡ N → (y : ℕ) → y < 2 ^ N → (c : ℕ) × (c < 2 ^ N) × (combination ws c ≡ y)
+  pub spanning : length ws ≡ N → (y : ℕ) → y < 2 ^ N → Member ws y
   spanning e y h = go (leastCoefficients ws y) (least-coefficients ws y)
     where
-      go : (r : Least) → IsLeast (λ (c : ℕ). combination ws c ≡ y) 0 (2 ^ length ws) r → (c : ℕ) × (c < 2 ^ N) × (combination ws c ≡ y)
-      go (Found c) l = (c, rw e at (l .1), l .2)
+      go : (r : Least) → IsLeast (λ (c : ℕ). combination ws c ≡ y) 0 (2 ^ length ws) r → Member ws y
+      go (Found c) l = (c, l .1, l .2)
       go Missing l =
           absurd (onto (2 ^ length ws) (combination ws) (rw (← e) at into) different y (rw e h) (λ x u p. l x zero-le u p))

@@ -19,11 +19,11 @@ use lib.Seq.{getD-append-seam}
 use lib.Pow.{pow-pos, pow-mono, pow-lt}
 use Rattle.span.specs.declared.eliminate.Least.{Least}
 use Rattle.span.specs.declared.eliminate.Least.the-variants.{Found, Missing}
-use Rattle.span.specs.Word.{_⊕_, bit, sel, common}
+use Rattle.span.specs.Word.{_⊕_, bit, sel, commonParity}
 use Rattle.span.specs.Combination.{combination}
 use Rattle.span.specs.Relation.{IsLeast}
 use Rattle.span.specs.Basis.{pickLeast}
-use Rattle.span.proofs.Word.{xor-zero-l, xor-zero-r, xor-self, xor-assoc, xor-comm, xor-swap, xor-eq, xor-lt, sel-xor, sel-lt, bit-xor, bit-none, bit-pow-other, xor-false-l, common-xor, common-zero-l, xor-less}
+use Rattle.span.proofs.Word.{xor-zero-l, xor-zero-r, xor-self, xor-assoc, xor-comm, xor-swap, xor-eq, xor-lt, sel-xor, sel-lt, bit-xor, bit-none, bit-pow-other, xor-false-l, parity-xor, parity-zero-l, xor-less}
 use Rattle.span.proofs.Combination.{combination-zero, combination-xor, combination-last, combination-below, combination-pow}
 use Rattle.span.proofs.Relation.{lowered}
 
@@ -95,9 +95,9 @@ module _ (ws : List ℕ) (rest coefficients : ℕ → ℕ) (r : Reduces ws rest 
       go false = refl
 
   -- the new word joins: what is left of it is the vector, h its check word
-  module _ (some-left : rest w ≢ 0) (h : ℕ) (check : common 64 (rest w) h ≡ true) where
+  module _ (some-left : rest w ≢ 0) (h : ℕ) (check : commonParity 64 (rest w) h ≡ true) where
     hit : ℕ → Bool
-    hit x = common 64 (rest x) h
+    hit x = commonParity 64 (rest x) h
 
     made : ℕ
     made = coefficients w ⊕ 2 ^ length ws
@@ -133,7 +133,7 @@ module _ (ws : List ℕ) (rest coefficients : ℕ → ℕ) (r : Reduces ws rest 
     unfolding hit
     join-linear x y =
         ap₂ _⊕_ (r .linear x y)
-        (ap (λ (s : Bool). sel s (rest w)) (ap (λ (z : ℕ). common 64 z h) (r .linear x y) ∙ common-xor 64 (rest x) (rest y) h)
+        (ap (λ (s : Bool). sel s (rest w)) (ap (λ (z : ℕ). commonParity 64 z h) (r .linear x y) ∙ parity-xor 64 (rest x) (rest y) h)
         ∙ sel-xor (hit x) (hit y) (rest w))
         ∙ xor-swap (rest x) (rest y) (sel (hit x) (rest w)) (sel (hit y) (rest w))
 
@@ -141,9 +141,9 @@ module _ (ws : List ℕ) (rest coefficients : ℕ → ℕ) (r : Reduces ws rest 
     unfolding hit
     join-kills c = rw (left-of c) (go (bit (length ws) c))
       where
-        go : (s : Bool) → sel s (rest w) ⊕ sel (common 64 (sel s (rest w)) h) (rest w) ≡ 0
+        go : (s : Bool) → sel s (rest w) ⊕ sel (commonParity 64 (sel s (rest w)) h) (rest w) ≡ 0
         go true = ap (λ (s : Bool). rest w ⊕ sel s (rest w)) check ∙ xor-self (rest w)
-        go false = ap (λ (s : Bool). 0 ⊕ sel s (rest w)) (common-zero-l 64 h) ∙ xor-zero-l 0
+        go false = ap (λ (s : Bool). 0 ⊕ sel s (rest w)) (parity-zero-l 64 h) ∙ xor-zero-l 0
 
     join-honest : (x : ℕ) → combination (ws ++ (w ∷ [])) (coefficients x ⊕ sel (hit x) made) ⊕ (rest x ⊕ sel (hit x) (rest w)) ≡ x
     join-honest x =
@@ -166,8 +166,8 @@ module _ (ws : List ℕ) (rest coefficients : ℕ → ℕ) (r : Reduces ws rest 
         go true = made-normal j d l u b e
         go false = bit-none j 0 (pow-pos j)
 
-    pub join : Reduces (ws ++ (w ∷ [])) (λ x. rest x ⊕ sel (common 64 (rest x) h) (rest w))
-        (λ x. coefficients x ⊕ sel (common 64 (rest x) h) (coefficients w ⊕ 2 ^ length ws))
+    pub join : Reduces (ws ++ (w ∷ [])) (λ x. rest x ⊕ sel (commonParity 64 (rest x) h) (rest w))
+        (λ x. coefficients x ⊕ sel (commonParity 64 (rest x) h) (coefficients w ⊕ 2 ^ length ws))
     unfolding hit made
     join = record {
       linear = join-linear;

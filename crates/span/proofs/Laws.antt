@@ -2,7 +2,7 @@
 -- The theorems in capitals are stated in `specs/Laws`. Assumes nothing.
 --
 --   exclusive or          a group in which each word is its own inverse; halves, bits, shifts and masks pass through it
---   parity                linear in each word
+--   parity                linear in the first word and, by `parity-comm`, in the second
 --   combination           linear, 0 at 0, split over append, carried by linear maps
 --   least relation        found: it is one and no smaller one is; missing: there is none. A basis answers with it
 --   dimension             independent words
@@ -10,11 +10,14 @@ use mathlib.Core.Path.{_≡_}
 use mathlib.Core.Bool.{Bool, true, false, xor}
 use mathlib.Core.Logic.{_≢_}
 use mathlib.Core.List.{List, [], _∷_, _++_, map}
-use Prim.Native.Nat.{ℕ, suc, _+_, _*_, _/_, _%_, _^_, _≤_, _<_}
+use Prim.Native.Nat.{ℕ, suc, _+_, _*_, _/_, _%_, _^_, _≤_, _<_, min}
 use lib.ListN.{length, getD, take}
-use Rattle.span.specs.Word.{_⊕_, odd, bit, sel, digit, common, shifted}
-use Rattle.span.specs.Combination.{combination, Below}
-use Rattle.span.specs.Laws.{COMMON-ONES, LINEAR, LEAST-RELATION, LEAST-COEFFICIENTS, LEAST-UNIQUE, LEAST-RAISED, REDUCES, DIMENSION, SPANNING}
+use Rattle.span.specs.declared.eliminate.Reduced.{Reduced}
+use Rattle.span.specs.declared.eliminate.Least.the-variants.{Found, Missing}
+use Rattle.span.specs.Basis.{answer}
+use Rattle.span.specs.Word.{_⊕_, odd, bit, sel, digit, commonParity, shifted}
+use Rattle.span.specs.Combination.{combination, Below, counted}
+use Rattle.span.specs.Laws.{COMMON-ONES, COMBINATION-LINEAR, SHIFTED-LINEAR, LEAST-RELATION, LEAST-COEFFICIENTS, LEAST-UNIQUE, LEAST-RAISED, MEMBERSHIP, INDEPENDENCE, REDUCES, DIMENSION, SPANNING}
 use Rattle.span.proofs.Word as Word
 use Rattle.span.proofs.Combination as Combination
 use Rattle.span.proofs.Relation as Relation
@@ -100,13 +103,16 @@ pow-add-xor = Word.pow-add-xor
 pub sel-xor : (s t : Bool) (a : ℕ) → sel (xor s t) a ≡ sel s a ⊕ sel t a
 sel-xor = Word.sel-xor
 
+pub xor-sel : (s : Bool) (a b : ℕ) → sel s (a ⊕ b) ≡ sel s a ⊕ sel s b
+xor-sel = Word.xor-sel
+
 pub sel-lt : (k : ℕ) (s : Bool) (a : ℕ) → a < 2 ^ k → sel s a < 2 ^ k
 sel-lt = Word.sel-lt
 
 pub shifted-zero : (N l : ℕ) → shifted N l 0 ≡ 0
 shifted-zero = Word.shifted-zero
 
-pub shifted-xor : (N l a b : ℕ) → shifted N l (a ⊕ b) ≡ shifted N l a ⊕ shifted N l b
+pub shifted-xor : SHIFTED-LINEAR
 shifted-xor = Word.shifted-xor
 
 pub shifted-lt : (N l a : ℕ) → shifted N l a < 2 ^ N
@@ -114,27 +120,27 @@ shifted-lt = Word.shifted-lt
 
 -- ---- parity
 
-pub common-ones : COMMON-ONES
-common-ones = Word.common-ones
+pub parity-ones : COMMON-ONES
+parity-ones = Word.parity-ones
 
-pub common-zero : (k h : ℕ) → common k 0 h ≡ false
-common-zero = Word.common-zero-l
+pub parity-zero-l : (k h : ℕ) → commonParity k 0 h ≡ false
+parity-zero-l = Word.parity-zero-l
 
-pub common-comm : (k a b : ℕ) → common k a b ≡ common k b a
-common-comm = Word.common-comm
+pub parity-comm : (k a b : ℕ) → commonParity k a b ≡ commonParity k b a
+parity-comm = Word.parity-comm
 
-pub common-xor : (k a b h : ℕ) → common k (a ⊕ b) h ≡ xor (common k a h) (common k b h)
-common-xor = Word.common-xor
+pub parity-xor : (k a b h : ℕ) → commonParity k (a ⊕ b) h ≡ xor (commonParity k a h) (commonParity k b h)
+parity-xor = Word.parity-xor
 
-pub common-pow : (k p x : ℕ) → p < k → common k x (2 ^ p) ≡ bit p x
-common-pow = Word.common-pow
+pub parity-pow : (k p x : ℕ) → p < k → commonParity k x (2 ^ p) ≡ bit p x
+parity-pow = Word.parity-pow
 
 -- ---- combination
 
 pub combination-zero : (ws : List ℕ) → combination ws 0 ≡ 0
 combination-zero = Combination.combination-zero
 
-pub combination-xor : LINEAR
+pub combination-xor : COMBINATION-LINEAR
 combination-xor = Combination.combination-xor
 
 pub combination-append : (us vs : List ℕ) (c : ℕ) → combination (us ++ vs) c ≡ combination us c ⊕ combination vs (c / 2 ^ length us)
@@ -179,8 +185,29 @@ least-unique = Relation.least-unique
 pub least-raised : LEAST-RAISED
 least-raised = Relation.least-raised
 
+pub membership : MEMBERSHIP
+membership = Relation.membership
+
+pub independence : INDEPENDENCE
+independence = Relation.independence
+
 pub reduces : REDUCES
 reduces = Basis.basis-least
+
+pub answer-found : (r : Reduced) → r .rest ≡ 0 → answer r ≡ Found (r .coefficients)
+answer-found = Basis.answer-found
+
+pub answer-missing : (r : Reduced) → (r .rest ≡ 0 → ⊥) → answer r ≡ Missing
+answer-missing = Basis.answer-missing
+
+pub counted-length : (n : ℕ) (ws : List ℕ) → length (counted n ws) ≡ min 32 (min n (length ws))
+counted-length = Combination.counted-length
+
+pub counted-at : (n : ℕ) (ws : List ℕ) (i : ℕ) → i < length (counted n ws) → getD (counted n ws) i 0 ≡ getD ws i 0
+counted-at = Combination.counted-at
+
+pub counted-below : (N n : ℕ) (ws : List ℕ) → ((i : ℕ) → getD ws i 0 < 2 ^ N) → Below N (counted n ws)
+counted-below = Combination.counted-below
 
 -- ---- dimension
 

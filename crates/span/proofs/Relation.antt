@@ -1,9 +1,10 @@
 -- What the search finds is the least there is, and the least is one. Assumes nothing.
 use mathlib.Core.Path.{_≡_, refl, sym, ap, _∙_, subst}
 use mathlib.Core.Bool.{Bool, true, false, false≢true}
+use mathlib.Core.Logic.{_↔_, _⊎_, inl, inr}
 use mathlib.Core.List.{List, [], _∷_, _++_}
 use Prim.Native.Nat.{ℕ, zero, suc, _+_, _-_, _^_, _≤_, _<_, zero-le}
-use native.Mathlib.Nat.{le-refl, le-trans, le-of-lt, le-of-suc-le-suc, lt-of-lt-of-le, lt-of-not-le, le-antisymm}
+use native.Mathlib.Nat.{le-refl, le-trans, le-of-lt, le-of-suc-le-suc, lt-of-lt-of-le, lt-of-not-le, le-antisymm, eq-zero-or-pos}
 use native.Mathlib.Decide.{decLt}
 use native.Mathlib.Numerals.{add-one}
 use native.Mathlib.Omega.{arith}
@@ -16,7 +17,7 @@ use lib.Seq.{take-suc, length-take-le}
 use Rattle.span.specs.declared.eliminate.Least.{Least}
 use Rattle.span.specs.declared.eliminate.Least.the-variants.{Found, Missing}
 use Rattle.span.specs.Word.{_⊕_}
-use Rattle.span.specs.Combination.{combination}
+use Rattle.span.specs.Combination.{combination, Member, Relation, Independent}
 use Rattle.span.specs.Relation.{leastFrom, leastRelation, leastCoefficients, raised, IsLeast}
 use Rattle.span.proofs.Word.{xor-comm, xor-eq, xor-self, pow-add-xor}
 use Rattle.span.proofs.Combination.{combination-above, combination-take}
@@ -59,6 +60,30 @@ least-unique P a b (Found c) (Found d) h k = ap Found (le-antisymm (h .3 d (k .0
 least-unique P a b (Found c) Missing h k = absurd (k c (h .0) (h .1) (h .2))
 least-unique P a b Missing (Found d) h k = absurd (h d (k .0) (k .1) (k .2))
 least-unique P a b Missing Missing h k = refl
+
+pub membership : (ws : List ℕ) (x : ℕ) → Member ws x ↔ (leastCoefficients ws x ≡ Missing → ⊥)
+membership ws x = (λ m e. refuted m (subst Least-of e (least-coefficients ws x)), λ ne. go (leastCoefficients ws x) refl (least-coefficients ws x) ne)
+  where
+    Least-of : Least → Type 0
+    Least-of = IsLeast (λ (c : ℕ). combination ws c ≡ x) 0 (2 ^ length ws)
+
+    refuted : Member ws x → Least-of Missing → ⊥
+    refuted m none = none (m .0) zero-le (m .1) (m .2)
+
+    go : (r : Least) → leastCoefficients ws x ≡ r → Least-of r → (leastCoefficients ws x ≡ Missing → ⊥) → Member ws x
+    go (Found c) e l ne = (c, l .1, l .2)
+    go Missing e l ne = absurd (ne e)
+
+pub independence : (ws : List ℕ) → Independent ws ↔ (leastRelation ws 0 ≡ Missing)
+independence ws = (
+  λ free. least-unique (Relation ws) 1 (2 ^ length ws) (leastRelation ws 0) Missing (least-relation ws 0)
+      (λ d l u e. let z = free d u e in omega arith),
+  λ e c u q. go c u q (eq-zero-or-pos c) (subst (IsLeast (Relation ws) 1 (2 ^ length ws)) e (least-relation ws 0)),
+)
+  where
+    go : (c : ℕ) → c < 2 ^ length ws → Relation ws c → (c ≡ 0) ⊎ (0 < c) → IsLeast (Relation ws) 1 (2 ^ length ws) Missing → c ≡ 0
+    go c u q (inl z) none = z
+    go c u q (inr p) none = absurd (none c p u q)
 
 -- a relation that ends in the last word is that word's bit above coefficients of it
 module _ (ws : List ℕ) (x : ℕ) where

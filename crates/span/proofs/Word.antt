@@ -13,7 +13,7 @@ use lib.Pow.{pow-pos, shr-shr, split}
 use lib.Bits.{bitXor, bitAnd, and-shr, and-mod, xor-block}
 use lib.Bits as Bits
 use lib.Count.{ones, ones-step, trailingZeros, under}
-use Rattle.span.specs.Word.{_⊕_, odd, bit, sel, digit, common, shifted}
+use Rattle.span.specs.Word.{_⊕_, odd, bit, sel, digit, commonParity, shifted}
 
 -- ---- exclusive or of two truth values
 
@@ -172,6 +172,10 @@ sel-xor true false a = sym (xor-zero-r a)
 sel-xor false true a = sym (xor-zero-l a)
 sel-xor false false a = sym (xor-zero-l 0)
 
+pub xor-sel : (s : Bool) (a b : ℕ) → sel s (a ⊕ b) ≡ sel s a ⊕ sel s b
+xor-sel true a b = refl
+xor-sel false a b = sym (xor-zero-l 0)
+
 pub sel-lt : (k : ℕ) (s : Bool) (a : ℕ) → a < 2 ^ k → sel s a < 2 ^ k
 sel-lt k true a h = h
 sel-lt k false a h = pow-pos k
@@ -248,35 +252,35 @@ shifted-lt N l a = mod-lt (a * 2 ^ l) (pow-pos N)
 
 -- ---- parity with a fixed word
 
-pub common-zero-l : (k h : ℕ) → common k 0 h ≡ false
-unfolding common odd
-common-zero-l zero h = refl
-common-zero-l (suc k) h = xor-false-l (common k 0 (h / 2)) ∙ common-zero-l k (h / 2)
+pub parity-zero-l : (k h : ℕ) → commonParity k 0 h ≡ false
+unfolding commonParity odd
+parity-zero-l zero h = refl
+parity-zero-l (suc k) h = xor-false-l (commonParity k 0 (h / 2)) ∙ parity-zero-l k (h / 2)
 
-pub common-comm : (k a b : ℕ) → common k a b ≡ common k b a
-unfolding common
-common-comm zero a b = refl
-common-comm (suc k) a b = ap₂ xor (and-comm-bool (odd a) (odd b)) (common-comm k (a / 2) (b / 2))
+pub parity-comm : (k a b : ℕ) → commonParity k a b ≡ commonParity k b a
+unfolding commonParity
+parity-comm zero a b = refl
+parity-comm (suc k) a b = ap₂ xor (and-comm-bool (odd a) (odd b)) (parity-comm k (a / 2) (b / 2))
 
-pub common-xor : (k a b h : ℕ) → common k (a ⊕ b) h ≡ xor (common k a h) (common k b h)
-unfolding common
-common-xor zero a b h = sym (xor-false-l false)
-common-xor (suc k) a b h =
+pub parity-xor : (k a b h : ℕ) → commonParity k (a ⊕ b) h ≡ xor (commonParity k a h) (commonParity k b h)
+unfolding commonParity
+parity-xor zero a b h = sym (xor-false-l false)
+parity-xor (suc k) a b h =
     ap₂ xor
     (ap (λ (s : Bool). s && odd h) (odd-xor a b) ∙ and-xor (odd a) (odd b) (odd h))
-    (ap (λ (x : ℕ). common k x (h / 2)) (xor-half a b) ∙ common-xor k (a / 2) (b / 2) (h / 2))
-    ∙ swap-middle xor xor-assoc-bool xor-comm-bool (odd a && odd h) (odd b && odd h) (common k (a / 2) (h / 2)) (common k (b / 2) (h / 2))
+    (ap (λ (x : ℕ). commonParity k x (h / 2)) (xor-half a b) ∙ parity-xor k (a / 2) (b / 2) (h / 2))
+    ∙ swap-middle xor xor-assoc-bool xor-comm-bool (odd a && odd h) (odd b && odd h) (commonParity k (a / 2) (h / 2)) (commonParity k (b / 2) (h / 2))
 
 -- a single one asks for the bit there
-pub common-pow : (k p x : ℕ) → p < k → common k x (2 ^ p) ≡ bit p x
-unfolding common odd
-common-pow zero p x h = absurd (omega arith)
-common-pow (suc k) zero x h =
-    ap₂ xor (and-comm-bool (odd x) true) (common-comm k (x / 2) 0 ∙ common-zero-l k (x / 2)) ∙ xor-false-r (odd x) ∙ sym (bit-zero x)
-common-pow (suc k) (suc p) x h =
+pub parity-pow : (k p x : ℕ) → p < k → commonParity k x (2 ^ p) ≡ bit p x
+unfolding commonParity odd
+parity-pow zero p x h = absurd (omega arith)
+parity-pow (suc k) zero x h =
+    ap₂ xor (and-comm-bool (odd x) true) (parity-comm k (x / 2) 0 ∙ parity-zero-l k (x / 2)) ∙ xor-false-r (odd x) ∙ sym (bit-zero x)
+parity-pow (suc k) (suc p) x h =
     ap₂ xor
     (ap (λ (s : Bool). odd x && s) (odd-of false (2 ^ suc p) (omega arith)) ∙ and-comm-bool (odd x) false)
-    (ap (common k (x / 2)) (omega arith) ∙ common-pow k p (x / 2) (omega arith))
+    (ap (commonParity k (x / 2)) (omega arith) ∙ parity-pow k p (x / 2) (omega arith))
     ∙ xor-false-l (bit p (x / 2))
     ∙ sym (bit-suc p x)
 
@@ -301,11 +305,11 @@ odd-ones x =
     ∙ ap (λ (s : Bool). xor s (odd (ones (x / 2)))) (odd-of (odd x) (x % 2) (mod-mod x 2 ∙ odd-mod x))
 
 -- the count of common ones has that parity
-pub common-ones : (k a b : ℕ) → a < 2 ^ k → common k a b ≡ odd (ones (bitAnd a b))
-unfolding common odd ones
-common-ones zero a b h = ap (λ (x : ℕ). odd (ones (bitAnd x b))) (sym (lt-one h))
-common-ones (suc k) a b h =
-    ap₂ xor (sym (odd-and a b)) (common-ones k (a / 2) (b / 2) (omega arith) ∙ ap (λ (x : ℕ). odd (ones x)) (sym (and-shr a b 1)))
+pub parity-ones : (k a b : ℕ) → a < 2 ^ k → commonParity k a b ≡ odd (ones (bitAnd a b))
+unfolding commonParity odd ones
+parity-ones zero a b h = ap (λ (x : ℕ). odd (ones (bitAnd x b))) (sym (lt-one h))
+parity-ones (suc k) a b h =
+    ap₂ xor (sym (odd-and a b)) (parity-ones k (a / 2) (b / 2) (omega arith) ∙ ap (λ (x : ℕ). odd (ones x)) (sym (and-shr a b 1)))
     ∙ sym (odd-ones (bitAnd a b))
 
 -- ---- order

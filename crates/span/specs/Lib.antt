@@ -3,4 +3,5 @@ pub mod Word
 pub mod Combination
 pub mod Relation
 pub mod Basis
+pub mod Elimination
 pub mod Laws

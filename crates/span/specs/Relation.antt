@@ -23,6 +23,7 @@ leastFrom p a (suc n) = elim (p a) [ true ↦ Found a | false ↦ leastFrom p (s
 unfoldable pub leastRelation : List ℕ → ℕ → Least
 leastRelation ws f = leastFrom (λ c. eqb (combination ws c) 0) (2 ^ f) (2 ^ length ws - 2 ^ f)
 
+-- 01, a decoding step, line 3: "If some e has the register as image, the least such e is the error"
 unfoldable pub leastCoefficients : List ℕ → ℕ → Least
 leastCoefficients ws x = leastFrom (λ c. eqb (combination ws c) x) 0 (2 ^ length ws)
 

@@ -1,11 +1,11 @@
 // One word: the parity of the ones that it has in common with another, and selection by a mask.
 use std::num::wrapping_sub_u64;
 ghost use mathlib.Core.Path.{_≡_};
-ghost use Rattle.span.specs.Word.{sel, digit, odd, common};
+ghost use Rattle.span.specs.Word.{sel, digit, odd, commonParity};
 
 // 1 where the count of common ones is odd, else 0.
 pub fn common_parity(a: u64, b: u64) -> u64
-    ensures { λ r. ⌜ r ≡ digit (common 64 a b) ⌝ }
+    ensures { λ r. ⌜ r ≡ digit (commonParity 64 a b) ⌝ }
 {
     (u64::count_ones(a & b) % 2) as u64
 }

@@ -3,9 +3,12 @@ use crate::bits::common_parity;
 use crate::bits::select;
 use crate::bound::at_most;
 ghost use mathlib.Core.Path.{_≡_};
-ghost use Prim.Native.Nat.{_<_, _^_};
-ghost use Rattle.span.specs.Basis.{reduction, lowestOne, joined, basisOf, counted};
+ghost use Prim.Native.Nat.{_<_, _≤_, _^_};
+ghost use lib.ListN.{length, take};
 ghost use Rattle.span.specs.Relation.{leastRelation};
+ghost use Rattle.span.specs.Basis.{basis, reduction};
+ghost use Rattle.span.specs.Elimination.{lowestOne, basisOf};
+ghost use Rattle.span.specs.Combination.{counted};
 
 // `size` triples: what was left of a word that joined, a check word that has an odd count of common ones with it, and the coefficients
 // that make it from the words.
@@ -28,21 +31,44 @@ pub enum Least {
     Missing,
 }
 
-// The word reduced by the triples in their order. Of a malformed basis too: a size above 32 counts as 32.
+// Where an elimination stopped: the basis of the words taken up, and the relation that the next word gave.
+struct Eliminated {
+    basis: Basis,
+    found: Least,
+}
+
+// A word reduced by the triples in their order, the arrays lent: no copy of a basis is made in a loop. Any arrays and any size have an
+// answer: a size above 32 counts as 32.
+pub fn reduce_by<'a>(
+    size: usize,
+    vectors: &'a [u64; 32],
+    checks: &'a [u64; 32],
+    coefficients: &'a [u64; 32],
+    x: u64,
+) -> Reduced
+    ensures { λ r. ⌜ r ≡ reduction (basis size (now (vectors .entry)) (now (checks .entry)) (now (coefficients .entry))) x ⌝ }
+{
+    let end = at_most(size, 32);
+    let mut rest = x;
+    let mut taken: u64 = 0;
+    let mut i = 0;
+    while i < end {
+        let on = common_parity(rest, checks[i]);
+        rest ^= select(vectors[i], on);
+        taken ^= select(coefficients[i], on);
+        i += 1;
+    }
+    Reduced {
+        rest,
+        coefficients: taken,
+    }
+}
+
+// The same of a basis by value, malformed ones included.
 pub fn reduce(b: Basis, x: u64) -> Reduced
     ensures { λ r. ⌜ r ≡ reduction b x ⌝ }
 {
-    let size = at_most(b.size, 32);
-    let mut rest = x;
-    let mut coefficients: u64 = 0;
-    let mut i = 0;
-    while i < size {
-        let on = common_parity(rest, b.checks[i]);
-        rest ^= select(b.vectors[i], on);
-        coefficients ^= select(b.coefficients[i], on);
-        i += 1;
-    }
-    Reduced { rest, coefficients }
+    reduce_by(b.size, &b.vectors, &b.checks, &b.coefficients, x)
 }
 
 fn one_at(place: usize) -> u64
@@ -59,29 +85,13 @@ fn lowest_one(v: u64) -> u64
     one_at(u64::trailing_zeros(v) as usize)
 }
 
-// Word i, reduced, taken up: what is left of it joins, and where nothing is left it is passed over.
-fn join(b: Basis, i: usize, r: Reduced) -> Basis
-    requires { ⌜ (b .size < 32) × (i < 32) ⌝ }
-    ensures { λ n. ⌜ n ≡ joined i b r ⌝ }
+// The first `end` words taken up one by one, up to the first from `f` on that gives a relation. What is left of a word joins the basis; a
+// word below f of which nothing is left is passed over.
+fn eliminate(words: &[u64], end: usize, f: usize) -> Eliminated
+    requires { ⌜ (end ≤ length (now words)) × (end ≤ 32) ⌝ }
+    ensures relation { λ r. ⌜ r .found ≡ leastRelation (take end (now (words .entry))) f ⌝ }
+    ensures basis { λ r. ⌜ (r .found ≡ Least.Missing → r .basis ≡ basisOf (take end (now (words .entry)))) ⌝ }
 {
-    let rest = r.rest;
-    if rest == 0 {
-        return b;
-    }
-    let at = b.size;
-    let mut next = b;
-    next.vectors[at] = rest;
-    next.checks[at] = lowest_one(rest);
-    next.coefficients[at] = r.coefficients ^ one_at(i);
-    next.size = at + 1;
-    next
-}
-
-// The basis of the first `count` words. A count past the slice's end is its length, and words past the 32nd do not count.
-pub fn basis_of(words: &[u64], count: usize) -> Basis
-    ensures { λ r. ⌜ r ≡ basisOf (counted count (now (words .entry))) ⌝ }
-{
-    let end = at_most(at_most(count, words.len()), 32);
     let mut b = Basis {
         size: 0,
         vectors: [0; 32],
@@ -90,30 +100,41 @@ pub fn basis_of(words: &[u64], count: usize) -> Basis
     };
     let mut i = 0;
     while i < end {
-        let r = reduce(b, words[i]);
-        b = join(b, i, r);
+        let r = reduce_by(b.size, &b.vectors, &b.checks, &b.coefficients, words[i]);
+        let rest = r.rest;
+        if rest == 0 {
+            if f <= i {
+                return Eliminated {
+                    basis: b,
+                    found: Least::Found(r.coefficients ^ one_at(i)),
+                };
+            }
+        } else {
+            let at = b.size;
+            b.vectors[at] = rest;
+            b.checks[at] = lowest_one(rest);
+            b.coefficients[at] = r.coefficients ^ one_at(i);
+            b.size = at + 1;
+        }
         i += 1;
     }
-    b
+    Eliminated {
+        basis: b,
+        found: Least::Missing,
+    }
+}
+
+// The basis of the first `count` words. A count past the slice's end is its length, and words past the 32nd do not count.
+pub fn basis_of(words: &[u64], count: usize) -> Basis
+    ensures { λ r. ⌜ r ≡ basisOf (counted count (now (words .entry))) ⌝ }
+{
+    let end = at_most(at_most(count, words.len()), 32);
+    eliminate(words, end, end).basis
 }
 
 // The least relation from `f` among the first `count` words, counted as for a basis. There is none where f is the count or above.
 pub fn least_relation(words: &[u64], count: usize, f: usize) -> Least
     ensures { λ r. ⌜ r ≡ leastRelation (counted count (now (words .entry))) f ⌝ }
 {
-    let end = at_most(at_most(count, words.len()), 32);
-    if end <= f {
-        return Least::Missing;
-    }
-    let mut b = basis_of(words, f);
-    let mut i = f;
-    while i < end {
-        let r = reduce(b, words[i]);
-        if r.rest == 0 {
-            return Least::Found(r.coefficients ^ one_at(i));
-        }
-        b = join(b, i, r);
-        i += 1;
-    }
-    Least::Missing
+    eliminate(words, at_most(at_most(count, words.len()), 32), f).found
 }

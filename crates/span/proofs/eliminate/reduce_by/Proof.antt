@@ -1,4 +1,4 @@
--- `span::eliminate::reduce`: after i turns the word is reduced by the first i triples. Assumes nothing.
+-- `span::eliminate::reduce_by`: after i turns the word is reduced by the first i triples. Assumes nothing.
 use mathlib.Core.Path.{_≡_, sym, ap, _∙_}
 use Prim.Native.Nat.{ℕ, suc, _+_, _-_, _≤_, _<_, min}
 use native.Mathlib.Nat.{le-antisymm}
@@ -8,27 +8,27 @@ use borrow.Author.Needs.{needs}
 use lib.ListN.{getD}
 use Rattle.span.specs.declared.eliminate.Basis.{Basis}
 use Rattle.span.specs.declared.eliminate.Reduced.{Reduced}
-use Rattle.span.specs.Word.{_⊕_, odd, sel, digit, common}
-use Rattle.span.specs.Basis.{reducedBy, reducedTo, reduction}
+use Rattle.span.specs.Word.{_⊕_, odd, sel, digit, commonParity}
+use Rattle.span.specs.Basis.{basis, reducedBy, reducedTo, reduction}
 use Rattle.span.proofs.Word.{odd-digit}
-use Rattle.span.proofs.eliminate.reduce.Statement.{statement}
-use Rattle.span.proofs.eliminate.reduce.Tie as tie
+use Rattle.span.proofs.eliminate.reduce_by.Statement.{statement}
+use Rattle.span.proofs.eliminate.reduce_by.Tie as tie
 
 abbrev Inv-loop : tie.InvT-loop
-Inv-loop x b size rest₀ coefficients₀ i₀ rest coefficients i =
-    (i ≤ size) × (_≡_ {A = Reduced} (record { rest = rest; coefficients = coefficients }) (reducedTo b i x))
+Inv-loop size vectors checks coefficients x end rest₀ taken₀ i₀ rest taken i =
+    (i ≤ end) × (_≡_ {A = Reduced} (record { rest = rest; coefficients = taken }) (reducedTo (basis size vectors checks coefficients) i x))
 
 abbrev μ-loop : tie.MeasureT-loop
-μ-loop x b size rest₀ coefficients₀ i₀ rest coefficients i = size - i
+μ-loop size vectors checks coefficients x end rest₀ taken₀ i₀ rest taken i = end - i
 
 one-more : (b : Basis) (i x rest coefficients on v q : ℕ) → _≡_ {A = Reduced} (record { rest = rest; coefficients = coefficients }) (reducedTo b i x)
-    → on ≡ digit (common 64 rest (getD (b .checks) i 0))
+    → on ≡ digit (commonParity 64 rest (getD (b .checks) i 0))
     → v ≡ sel (odd on) (getD (b .vectors) i 0)
     → q ≡ sel (odd on) (getD (b .coefficients) i 0)
     → _≡_ {A = Reduced} (record { rest = rest ⊕ v; coefficients = coefficients ⊕ q }) (reducedTo b (i + 1) x)
 unfolding reducedTo reducedBy
 one-more b i x rest coefficients on v q e on-is v-is q-is =
-    let s = common 64 rest (getD (b .checks) i 0) in
+    let s = commonParity 64 rest (getD (b .checks) i 0) in
     let on-odd : odd on ≡ s = ap odd on-is ∙ odd-digit s in
     rw (add-one i, ← e, v-is, q-is, on-odd)
 
@@ -78,7 +78,8 @@ loop-again c =
     let l = c .before .before .before .before .before .before .before in
     let a = l .before .before .args in (
       omega arith,
-      one-more (a .t1) (l .loop .i) (a .x) (l .loop .rest) (l .loop .coefficients) (c .before .before .before .before .common-parity .result) (c .before .before .select .result) (c .select2 .result)
+      one-more (basis (a .size) (a .vectors .now) (a .checks .now) (a .coefficients .now)) (l .loop .i) (a .x) (l .loop .rest)
+          (l .loop .taken) (c .before .before .before .before .common-parity .result) (c .before .before .select .result) (c .select2 .result)
           (l .loop .inv .1) (c .before .before .before .before .common-parity .ensures) (c .before .before .select .ensures) (c .select2 .ensures),
     )
 
@@ -87,10 +88,11 @@ unfolding reduction
 returns c =
     let l = c .before in
     let a = l .before .before .args in
-    l .loop .inv .1 ∙ ap (λ (i : ℕ). reducedTo (a .t1) i (a .x)) (omega arith)
+    l .loop .inv .1
+    ∙ ap (λ (i : ℕ). reducedTo (basis (a .size) (a .vectors .now) (a .checks .now) (a .coefficients .now)) i (a .x)) (omega arith)
 
-pub reduce-spec : {M : Type 1} → statement M
-reduce-spec =
+pub reduce-by-spec : {M : Type 1} → statement M
+reduce-by-spec =
     tie.close
     (tie.spec
     Inv-loop
