@@ -118,6 +118,9 @@ shifted-xor = Word.shifted-xor
 pub shifted-lt : (N l a : ℕ) → shifted N l a < 2 ^ N
 shifted-lt = Word.shifted-lt
 
+pub shifted-past : (N l a : ℕ) → N ≤ l → shifted N l a ≡ 0
+shifted-past = Word.shifted-past
+
 -- ---- parity
 
 pub parity-ones : COMMON-ONES

@@ -3,13 +3,13 @@
 use mathlib.Core.Path.{_≡_, refl, sym, ap, ap₂, _∙_, subst}
 use mathlib.Core.Bool.{Bool, true, false, xor, _&&_}
 use mathlib.Core.Logic.{_≢_}
-use Prim.Native.Nat.{ℕ, zero, suc, _+_, _*_, _/_, _%_, _^_, _≤_, _<_}
-use native.Mathlib.Nat.{add-zero, zero-mul, one-mul, suc-mul, zero-mod, mod-mod, mod-lt, div-one, div-eq-of-lt, div-eq-of-lt-le}
+use Prim.Native.Nat.{ℕ, zero, suc, _+_, _-_, _*_, _/_, _%_, _^_, _≤_, _<_}
+use native.Mathlib.Nat.{add-zero, zero-mul, one-mul, mul-assoc, mul-mod-left, suc-mul, zero-mod, mod-mod, mod-lt, div-one, div-eq-of-lt, div-eq-of-lt-le}
 use native.Mathlib.Numerals.{one-add}
 use native.Mathlib.Omega.{arith}
 use borrow.Author.Tests.{eq-eqb, ne-eqb, eqb-true, eqb-false}
 use lib.Arith.{bin-ind, lt-one}
-use lib.Pow.{pow-pos, shr-shr, split}
+use lib.Pow.{pow-pos, pow-add, shr-shr, split}
 use lib.Bits.{bitXor, bitAnd, and-shr, and-mod, xor-block}
 use lib.Bits as Bits
 use lib.Count.{ones, ones-step, trailingZeros, under}
@@ -249,6 +249,16 @@ shifted-xor N l a b = ap (λ (x : ℕ). x % 2 ^ N) (xor-shl a b l) ∙ xor-mod (
 pub shifted-lt : (N l a : ℕ) → shifted N l a < 2 ^ N
 unfolding shifted
 shifted-lt N l a = mod-lt (a * 2 ^ l) (pow-pos N)
+
+-- a shift by N or more leaves nothing
+pub shifted-past : (N l a : ℕ) → N ≤ l → shifted N l a ≡ 0
+unfolding shifted
+shifted-past N l a h =
+    let e : l - N + N ≡ l = omega arith in
+    ap (λ (k : ℕ). a * 2 ^ k % 2 ^ N) (sym e)
+    ∙ ap (λ (x : ℕ). a * x % 2 ^ N) (pow-add 2 (l - N) N)
+    ∙ ap (λ (x : ℕ). x % 2 ^ N) (sym (mul-assoc a (2 ^ (l - N)) (2 ^ N)))
+    ∙ mul-mod-left (a * 2 ^ (l - N)) (2 ^ N)
 
 -- ---- parity with a fixed word
 

@@ -1,0 +1,2 @@
+mod Fit
+mod Clash

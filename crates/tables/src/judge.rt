@@ -1,0 +1,68 @@
+// Judging any table value: unfit, a clash that shows it unsuitable, or sound.
+use crate::table::Table;
+use crate::table::is_fit;
+use span::bits::mask;
+use span::bits::shift;
+use span::eliminate::Least;
+use span::eliminate::least_relation;
+ghost use mathlib.Core.Path.{_≡_};
+ghost use mathlib.Core.List.{_++_, map};
+ghost use Prim.Native.Nat.{_+_, _≤_, _<_};
+ghost use lib.ListN.{length, take};
+ghost use Rattle.span.specs.Word.{shifted};
+ghost use Rattle.tables.specs.Table.{codeRows};
+ghost use Rattle.tables.specs.Judging.{Judged, Searched};
+
+pub enum Judgement {
+    // Refusal 12.
+    Unfit,
+    // The shift l and the error blocks e0 and e1 that show the table unsuitable.
+    Clash(u64, u64, u64),
+    Sound,
+}
+
+// The n shifted rows, then the n rows, the parity's last: each row is fetched and shifted once.
+fn clash_words(rows: [u64; 15], n: usize, span: usize, l: usize) -> [u64; 32]
+    requires { ⌜ (2 ≤ n) × (n ≤ 16) × (span ≤ 64) ⌝ }
+    ensures { λ r. ⌜ take (n + n) r ≡ map (shifted span l) (codeRows n rows) ++ codeRows n rows ⌝ }
+{
+    let mut words = [0u64; 32];
+    let mut i = 0;
+    while i < n - 1 {
+        let row = rows[i];
+        words[i] = shift(row, l, span);
+        words[n + i] = row;
+        i += 1;
+    }
+    words[n - 1] = shift(1, l, span);
+    words[n + (n - 1)] = 1;
+    words
+}
+
+// The first shift at which two error blocks that must differ look alike.
+fn search(rows: [u64; 15], n: usize, span: usize) -> Judgement
+    requires { ⌜ (2 ≤ n) × (n ≤ 16) × (span ≤ 64) ⌝ }
+    ensures { λ r. ⌜ Searched span (codeRows n rows) r ⌝ }
+{
+    let mut l = 1;
+    while l < span {
+        let words = clash_words(rows, n, span, l);
+        let found = least_relation(&words, n + n, n);
+        if let Least::Found(c) = found {
+            return Judgement::Clash(l as u64, c >> (n as u64), c & mask(n));
+        }
+        l += 1;
+    }
+    Judgement::Sound
+}
+
+pub fn judge(t: Table) -> Judgement
+    ensures { λ r. ⌜ Judged t r ⌝ }
+{
+    if is_fit(t) {
+        let rows = t.rows;
+        search(rows, t.symbols, t.span)
+    } else {
+        Judgement::Unfit
+    }
+}

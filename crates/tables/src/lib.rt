@@ -1,0 +1,3 @@
+// Tables of the code: judging, making, reading.
+pub mod judge;
+pub mod table;

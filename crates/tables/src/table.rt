@@ -1,0 +1,66 @@
+// The table by value, and when it is fit. Row j stands at rows[j − 1]; row n, the parity's, is 1 always and is not stored.
+use span::bits::mask;
+ghost use mathlib.Core.Path.{_≡_};
+ghost use Prim.Native.Nat.{_≤_};
+ghost use lib.ListN.{take};
+ghost use Rattle.tables.specs.Table.{sizesFit, rowsFit, fit};
+
+pub struct Table {
+    pub symbols: usize,
+    pub span: usize,
+    pub depth: usize,
+    pub rows: [u64; 15],
+}
+
+// Whether n, N and m are in range.
+pub fn sizes_fit(symbols: usize, span: usize, depth: usize) -> bool
+    ensures { λ r. ⌜ r ≡ sizesFit symbols span depth ⌝ }
+{
+    if symbols < 2 {
+        return false;
+    }
+    if 16 < symbols {
+        return false;
+    }
+    if span < 2 {
+        return false;
+    }
+    if 64 < span {
+        return false;
+    }
+    if depth < 1 {
+        return false;
+    }
+    if 64 < depth {
+        return false;
+    }
+    true
+}
+
+fn rows_fit(rows: &[u64; 15], count: usize, span: usize) -> bool
+    requires { ⌜ (count ≤ 15) × (span ≤ 64) ⌝ }
+    ensures { λ r. ⌜ r ≡ rowsFit span (take count (now (rows .entry))) ⌝ }
+{
+    let most = mask(span);
+    let mut i = 0;
+    while i < count {
+        if most < rows[i] {
+            return false;
+        }
+        i += 1;
+    }
+    true
+}
+
+// Whether the table is fit: the condition of refusal 12 does not hold.
+pub fn is_fit(t: Table) -> bool
+    ensures { λ r. ⌜ r ≡ fit t ⌝ }
+{
+    let symbols = t.symbols;
+    let span = t.span;
+    if sizes_fit(symbols, span, t.depth) {
+        rows_fit(&t.rows, symbols - 1, span)
+    } else {
+        false
+    }
+}
