@@ -26,6 +26,12 @@ use Rattle.span.proofs.Dimension as Dimension
 
 -- ---- exclusive or
 
+pub xor-false-l : (s : Bool) → xor false s ≡ s
+xor-false-l = Word.xor-false-l
+
+pub xor-false-r : (s : Bool) → xor s false ≡ s
+xor-false-r = Word.xor-false-r
+
 pub xor-assoc : (a b c : ℕ) → a ⊕ b ⊕ c ≡ a ⊕ (b ⊕ c)
 xor-assoc = Word.xor-assoc
 
@@ -70,6 +76,9 @@ odd-xor = Word.odd-xor
 pub xor-half : (a b : ℕ) → (a ⊕ b) / 2 ≡ a / 2 ⊕ b / 2
 xor-half = Word.xor-half
 
+pub bit-odd : (p x : ℕ) → bit p x ≡ odd (x / 2 ^ p)
+bit-odd = Word.bit-odd
+
 pub bit-zero : (x : ℕ) → bit 0 x ≡ odd x
 bit-zero = Word.bit-zero
 
@@ -81,6 +90,12 @@ bit-xor = Word.bit-xor
 
 pub bit-none : (p x : ℕ) → x < 2 ^ p → bit p x ≡ false
 bit-none = Word.bit-none
+
+pub bit-low : (p n x : ℕ) → p < n → bit p (x % 2 ^ n) ≡ bit p x
+bit-low = Word.bit-low
+
+pub mod-top : (m x : ℕ) → x % 2 ^ suc m ≡ x % 2 ^ m ⊕ sel (bit m x) (2 ^ m)
+mod-top = Word.mod-top
 
 pub bit-pow : (p : ℕ) → bit p (2 ^ p) ≡ true
 bit-pow = Word.bit-pow
@@ -118,6 +133,12 @@ shifted-xor = Word.shifted-xor
 pub shifted-lt : (N l a : ℕ) → shifted N l a < 2 ^ N
 shifted-lt = Word.shifted-lt
 
+pub shifted-mod : (m l a : ℕ) → shifted (m + l) l a ≡ a % 2 ^ m * 2 ^ l
+shifted-mod = Word.shifted-mod
+
+pub shifted-inside : (N l j a : ℕ) → a < 2 ^ j → j + l ≤ N → shifted N l a ≡ a * 2 ^ l
+shifted-inside = Word.shifted-inside
+
 pub shifted-past : (N l a : ℕ) → N ≤ l → shifted N l a ≡ 0
 shifted-past = Word.shifted-past
 
@@ -137,6 +158,9 @@ parity-xor = Word.parity-xor
 
 pub parity-pow : (k p x : ℕ) → p < k → commonParity k x (2 ^ p) ≡ bit p x
 parity-pow = Word.parity-pow
+
+pub parity-top : (k x : ℕ) → commonParity k x (2 ^ k) ≡ false
+parity-top = Word.parity-top
 
 -- ---- combination
 

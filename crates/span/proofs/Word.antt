@@ -5,11 +5,11 @@ use mathlib.Core.Bool.{Bool, true, false, xor, _&&_}
 use mathlib.Core.Logic.{_≢_}
 use Prim.Native.Nat.{ℕ, zero, suc, _+_, _-_, _*_, _/_, _%_, _^_, _≤_, _<_}
 use native.Mathlib.Nat.{add-zero, zero-mul, one-mul, mul-assoc, mul-mod-left, suc-mul, zero-mod, mod-mod, mod-lt, div-one, div-eq-of-lt, div-eq-of-lt-le}
-use native.Mathlib.Numerals.{one-add}
+use native.Mathlib.Numerals.{add-one, one-add}
 use native.Mathlib.Omega.{arith}
 use borrow.Author.Tests.{eq-eqb, ne-eqb, eqb-true, eqb-false}
 use lib.Arith.{bin-ind, lt-one}
-use lib.Pow.{pow-pos, pow-add, shr-shr, split}
+use lib.Pow.{pow-pos, pow-add, shr-shr, shl-shr, shl-exact, split, field, mod-pow-add, mod-mod-pow}
 use lib.Bits.{bitXor, bitAnd, and-shr, and-mod, xor-block}
 use lib.Bits as Bits
 use lib.Count.{ones, ones-step, trailingZeros, under}
@@ -182,6 +182,10 @@ sel-lt k false a h = pow-pos k
 
 -- ---- bits
 
+pub bit-odd : (p x : ℕ) → bit p x ≡ odd (x / 2 ^ p)
+unfolding bit
+bit-odd p x = refl
+
 pub bit-zero : (x : ℕ) → bit 0 x ≡ odd x
 unfolding bit
 bit-zero x = ap odd (div-one x)
@@ -197,6 +201,28 @@ bit-xor p a b = ap odd (Bits.xor-shr a b p) ∙ odd-xor (a / 2 ^ p) (b / 2 ^ p)
 pub bit-none : (p x : ℕ) → x < 2 ^ p → bit p x ≡ false
 unfolding bit odd
 bit-none p x h = ap odd (div-eq-of-lt h)
+
+-- the low bits of a word are its own
+bit-part : (j p x : ℕ) → bit p (x % 2 ^ (suc j + p)) ≡ bit p x
+unfolding bit
+bit-part j p x =
+    ap odd (field x (suc j) p)
+    ∙ odd-of (odd (x / 2 ^ p)) (x / 2 ^ p % 2 ^ suc j) (rw (← add-one j) (mod-mod-pow (x / 2 ^ p) j 1) ∙ odd-mod (x / 2 ^ p))
+
+pub bit-low : (p n x : ℕ) → p < n → bit p (x % 2 ^ n) ≡ bit p x
+bit-low p n x h = subst (λ (k : ℕ). bit p (x % 2 ^ k) ≡ bit p x) (omega arith) (bit-part (n - suc p) p x)
+
+-- one more bit of a word
+pub mod-top : (m x : ℕ) → x % 2 ^ suc m ≡ x % 2 ^ m ⊕ sel (bit m x) (2 ^ m)
+unfolding bit
+mod-top m x =
+    ap (λ (k : ℕ). x % 2 ^ k) (sym (one-add m)) ∙ mod-pow-add x 1 m
+    ∙ ap (λ (d : ℕ). d * 2 ^ m + x % 2 ^ m) (odd-mod (x / 2 ^ m)) ∙ go (odd (x / 2 ^ m))
+  where
+    go : (s : Bool) → digit s * 2 ^ m + x % 2 ^ m ≡ x % 2 ^ m ⊕ sel s (2 ^ m)
+    go true =
+        ap (λ (y : ℕ). y + x % 2 ^ m) (one-mul (2 ^ m)) ∙ pow-add-xor m (x % 2 ^ m) (mod-lt x (pow-pos m)) ∙ xor-comm (2 ^ m) (x % 2 ^ m)
+    go false = ap (λ (y : ℕ). y + x % 2 ^ m) (zero-mul (2 ^ m)) ∙ omega arith ∙ sym (xor-zero-r (x % 2 ^ m))
 
 pub bit-pow : (p : ℕ) → bit p (2 ^ p) ≡ true
 unfolding bit odd
@@ -250,6 +276,19 @@ pub shifted-lt : (N l a : ℕ) → shifted N l a < 2 ^ N
 unfolding shifted
 shifted-lt N l a = mod-lt (a * 2 ^ l) (pow-pos N)
 
+-- the bits that stay, above zeros
+pub shifted-mod : (m l a : ℕ) → shifted (m + l) l a ≡ a % 2 ^ m * 2 ^ l
+unfolding shifted
+shifted-mod m l a =
+    mod-pow-add (a * 2 ^ l) m l
+    ∙ ap₂ (λ (x y : ℕ). x % 2 ^ m * 2 ^ l + y) (shl-shr a l) (mul-mod-left a (2 ^ l))
+    ∙ add-zero (a % 2 ^ m * 2 ^ l)
+
+-- a word that stays inside loses nothing
+pub shifted-inside : (N l j a : ℕ) → a < 2 ^ j → j + l ≤ N → shifted N l a ≡ a * 2 ^ l
+unfolding shifted
+shifted-inside N l j a h room = shl-exact j l N h room
+
 -- a shift by N or more leaves nothing
 pub shifted-past : (N l a : ℕ) → N ≤ l → shifted N l a ≡ 0
 unfolding shifted
@@ -293,6 +332,16 @@ parity-pow (suc k) (suc p) x h =
     (ap (commonParity k (x / 2)) (omega arith) ∙ parity-pow k p (x / 2) (omega arith))
     ∙ xor-false-l (bit p (x / 2))
     ∙ sym (bit-suc p x)
+
+-- a one past the places that count is not seen
+pub parity-top : (k x : ℕ) → commonParity k x (2 ^ k) ≡ false
+unfolding commonParity odd
+parity-top zero x = refl
+parity-top (suc k) x =
+    ap₂ xor
+    (ap (λ (s : Bool). odd x && s) (odd-of false (2 ^ suc k) (omega arith)) ∙ and-comm-bool (odd x) false)
+    (ap (commonParity k (x / 2)) (omega arith) ∙ parity-top k (x / 2))
+    ∙ xor-false-l false
 
 odd-and : (a b : ℕ) → odd (bitAnd a b) ≡ odd a && odd b
 odd-and a b =

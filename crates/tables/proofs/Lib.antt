@@ -1,2 +1,6 @@
+-- The crate's own proofs, the lowest first.
 mod Fit
 mod Clash
+mod Linear
+mod Triangle
+mod Filling

@@ -3,3 +3,4 @@ pub mod Code
 pub mod Table
 pub mod Judging
 pub mod Made
+pub mod Laws

@@ -5,13 +5,21 @@
 --   madeRow cs n j      row j of the table for n from the columns cs
 --   madeRows cs n i     rows 1 to i
 --   triangleRows cs n   rows 1 to n
+--   Triangle cs         cs is a triangle: column k has places 1 to k − 1
 --   madeTable n m       the table that we make
+--   pickMaking s a b    a where s holds, else b
+--   making n m          what making answers: the table, or refusal 11 and the zero table
+--   madeNumbers a       01's number of the answer: none, or 11
+use mathlib.Core.Bool.{Bool, true, false}
 use mathlib.Core.List.{List, [], _∷_, _++_}
-use Prim.Native.Nat.{ℕ, zero, suc, _+_, _-_, _*_, _^_}
-use lib.ListN.{getD, replicate}
+use Prim.Native.Nat.{ℕ, zero, suc, _+_, _-_, _*_, _^_, _<_}
+use lib.ListN.{length, getD, replicate}
 use Rattle.span.specs.Word.{bit, digit}
 use Rattle.tables.specs.declared.table.Table.{Table}
-use Rattle.tables.specs.Table.{table}
+use Rattle.tables.specs.declared.make.Making.{Making}
+use Rattle.tables.specs.declared.make.MakeAnswer.{MakeAnswer}
+use Rattle.tables.specs.declared.make.MakeAnswer.the-variants.{Made, OutOfRange}
+use Rattle.tables.specs.Table.{table, zeroTable, sizesFit}
 
 -- "Its columns 2 to 16 stand as a constant table; columns 2 to 5, from place 1 down, are 1; 1 1; 1 1 1; 1 0 1 1."
 unfoldable pub columns : List ℕ
@@ -34,6 +42,23 @@ madeRows cs n (suc i) = madeRows cs n i ++ (madeRow cs n (suc i) ∷ [])
 abbrev pub triangleRows : List ℕ → ℕ → List ℕ
 triangleRows cs n = madeRows cs n (n - 1) ++ (1 ∷ [])
 
+-- "A triangle of bits fixes the table: its column k, for k from 2 to n, has places 1 to k − 1": column i + 2 has index i
+abbrev pub Triangle : List ℕ → Type 0
+Triangle cs = (i : ℕ) → i < length cs → getD cs i 0 < 2 ^ suc i
+
 -- "For n in 2 to 16, N = 2n."
 unfoldable pub madeTable : ℕ → ℕ → Table
 madeTable n m = table n (2 * n) m (madeRows columns n (n - 1) ++ replicate (16 - n) 0)
+
+-- refusal 11: "n or m is out of range." The span 2n of an n in range is in range.
+abbrev pub pickMaking : Bool → Making → Making → Making
+pickMaking true a b = a
+pickMaking false a b = b
+
+unfoldable pub making : ℕ → ℕ → Making
+making n m =
+    pickMaking (sizesFit n 2 m) (record { answer = Made; table = madeTable n m }) (record { answer = OutOfRange; table = zeroTable })
+
+abbrev pub madeNumbers : MakeAnswer → List ℕ
+madeNumbers Made = []
+madeNumbers OutOfRange = 11 ∷ []

@@ -1,3 +1,4 @@
 // Tables of the code: judging, making, reading.
 pub mod judge;
+pub mod make;
 pub mod table;
