@@ -1,13 +1,14 @@
 -- What a fit table's sizes and rows are, as facts. Assumes nothing.
-use mathlib.Core.Path.{_≡_, refl, ap, _∙_}
-use mathlib.Core.Bool.{Bool, true, false, _&&_, true≢false, false≢true}
+use mathlib.Core.Path.{_≡_, refl, ap₂, _∙_, subst}
+use mathlib.Core.Bool.{Bool, true, false, _&&_, false≢true}
 use mathlib.Core.List.{List, [], _∷_, _++_}
-use Prim.Native.Nat.{ℕ, _+_, _-_, _^_, _≤_, _<_}
+use Prim.Native.Nat.{ℕ, zero, suc, _+_, _-_, _^_, _≤_, _<_}
 use native.Mathlib.Omega.{arith}
-use borrow.Author.Tests.{leb-true, ltb-true}
+use borrow.Author.Tests.{le-leb, lt-ltb, leb-true, ltb-true}
 use lib.Dec.{leb, ltb}
-use lib.ListN.{length, take, length-append}
+use lib.ListN.{length, take, length-append, List·getD-append}
 use lib.Seq.{length-take-le}
+use Rattle.span.specs.Combination.{Below}
 use Rattle.tables.specs.declared.table.Table.{Table}
 use Rattle.tables.specs.Table.{codeRows, sizesFit, rowsFit, fit}
 
@@ -42,6 +43,27 @@ sizes-of n N m e =
       m-from = leb-true 1 m (and-right (leb 2 n && leb n 16 && leb 2 N && leb N 64) (leb 1 m) e5);
       m-to = leb-true m 64 (and-right (leb 2 n && leb n 16 && leb 2 N && leb N 64 && leb 1 m) (leb m 64) e);
     }
+
+pub sizes-fit-of : (n N m : ℕ) → Sizes n N m → sizesFit n N m ≡ true
+unfolding sizesFit
+sizes-fit-of n N m z =
+    rw (le-leb 2 n (z .n-from), le-leb n 16 (z .n-to), le-leb 2 N (z .N-from), le-leb N 64 (z .N-to), le-leb 1 m (z .m-from), le-leb m 64 (z .m-to))
+
+-- rows that fit, as a bound on each
+pub rows-fit-of : (N : ℕ) (ws : List ℕ) → Below N ws → rowsFit N ws ≡ true
+unfolding rowsFit
+rows-fit-of N [] h = refl
+rows-fit-of N (w ∷ ws) h =
+    ap₂ _&&_ (lt-ltb w (2 ^ N) (h 0 (omega arith))) (rows-fit-of N ws (λ i l. h (suc i) (omega arith)))
+
+pub rows-below : (N : ℕ) (ws : List ℕ) → rowsFit N ws ≡ true → Below N ws
+unfolding rowsFit
+rows-below N [] e i l = absurd (omega arith)
+rows-below N (w ∷ ws) e zero l = ltb-true w (2 ^ N) (and-left (ltb w (2 ^ N)) (rowsFit N ws) e)
+rows-below N (w ∷ ws) e (suc i) l = rows-below N ws (and-right (ltb w (2 ^ N)) (rowsFit N ws) e) i (omega arith)
+
+pub below-left : (N : ℕ) (us vs : List ℕ) → Below N (us ++ vs) → Below N us
+below-left N us vs h i l = subst (λ (x : ℕ). x < 2 ^ N) (List·getD-append us vs 0 i l) (h i (rw (length-append us vs) (omega arith)))
 
 pub fit-sizes : (t : Table) → fit t ≡ true → Sizes (t .symbols) (t .span) (t .depth)
 unfolding fit

@@ -4,3 +4,4 @@ mod Clash
 mod Linear
 mod Triangle
 mod Filling
+mod Made

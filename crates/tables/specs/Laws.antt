@@ -1,14 +1,22 @@
--- What the crate proves of tables from a triangle of bits. `proofs/Filling` and `proofs/Triangle` have a proof of each.
+-- What the crate proves of tables. `proofs/Laws` has a proof of each.
 --
+--   MADE          a made table has the sizes asked for and N = 2n, is fit and suitable, and another depth changes only the depth
 --   NESTED-ROWS   each row of the larger table is twice that of the smaller one and its bit of the new column
 --   FILLING       a suitable table has exactly one column that makes the next one suitable
+--   FORCED        with our columns before it, a column makes its size suitable exactly if it is ours
+--   UNIQUE        a triangle all of whose sizes are suitable is ours
 use mathlib.Core.Path.{_≡_}
+use mathlib.Core.Bool.{true}
+use mathlib.Core.Logic.{_↔_}
 use mathlib.Core.List.{List, [], _∷_, _++_}
 use Prim.Native.Nat.{ℕ, suc, _+_, _-_, _*_, _^_, _≤_, _<_}
-use lib.ListN.{length, getD}
+use lib.ListN.{length, getD, take}
 use Rattle.span.specs.Word.{bit, digit}
 use Rattle.tables.specs.Code.{Suitable}
-use Rattle.tables.specs.Made.{madeRow, triangleRows, Triangle}
+use Rattle.tables.specs.declared.make.Making.{Making}
+use Rattle.tables.specs.declared.make.MakeAnswer.the-variants.{Made}
+use Rattle.tables.specs.Table.{rowsOf, sizesFit, fit}
+use Rattle.tables.specs.Made.{columns, madeRow, triangleRows, Triangle, madeTable, making}
 
 -- In both, the smaller table has n = suc (length cs) symbols, and the new column a is column n + 1.
 
@@ -25,3 +33,17 @@ FILLING = (cs : List ℕ) → Triangle cs → Suitable (2 * suc (length cs)) (tr
     → (a : ℕ) × (a < 2 ^ suc (length cs))
     × Suitable (2 * suc (suc (length cs))) (triangleRows (cs ++ (a ∷ [])) (suc (suc (length cs))))
     × ((c : ℕ) → c < 2 ^ suc (length cs) → Suitable (2 * suc (suc (length cs))) (triangleRows (cs ++ (c ∷ [])) (suc (suc (length cs)))) → c ≡ a)
+
+-- "The team works out the rest and proves that each column is forced by those before it."
+abbrev pub FORCED : Type 0
+FORCED = (n : ℕ) → 2 ≤ n → n ≤ 16 → (c : ℕ) → c < 2 ^ (n - 1)
+    → Suitable (2 * n) (triangleRows (take (n - 2) columns ++ (c ∷ [])) n) ↔ (c ≡ getD columns (n - 2) 0)
+
+abbrev pub UNIQUE : Type 0
+UNIQUE = (cs : List ℕ) → Triangle cs → length cs ≤ 15
+    → ((n : ℕ) → 2 ≤ n → n ≤ suc (length cs) → Suitable (2 * n) (triangleRows (take (n - 1) cs) n)) → cs ≡ take (length cs) columns
+
+abbrev pub MADE : Type 0
+MADE = (n m : ℕ) → sizesFit n 2 m ≡ true
+    → (making n m ≡ record { answer = Made; table = madeTable n m }) × (fit (madeTable n m) ≡ true)
+    × Suitable (2 * n) (rowsOf (madeTable n m)) × ((m′ : ℕ) → madeTable n m′ .rows ≡ madeTable n m .rows)

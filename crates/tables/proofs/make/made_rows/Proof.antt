@@ -5,9 +5,10 @@ use Prim.Native.Nat.{ℕ, zero, suc, _+_, _-_, _≤_, _<_}
 use native.Mathlib.Numerals.{add-one}
 use native.Mathlib.Omega.{arith}
 use borrow.Author.Needs.{needs}
-use lib.ListN.{length, set, replicate, length-append}
+use lib.ListN.{length, set, replicate}
 use lib.Seq.{set-at, append-snoc}
 use Rattle.tables.specs.Made.{columns, madeRow, madeRows}
+use Rattle.tables.proofs.Made.{made-length}
 use Rattle.tables.proofs.make.made_rows.Statement.{statement}
 use Rattle.tables.proofs.make.made_rows.Tie as tie
 
@@ -16,12 +17,6 @@ Inv-loop n rows₀ i₀ rows i = (i ≤ n - 1) × (rows ≡ madeRows columns n i
 
 abbrev μ-loop : tie.MeasureT-loop
 μ-loop n rows₀ i₀ rows i = n - 1 - i
-
-made-length : (cs : List ℕ) (n i : ℕ) → length (madeRows cs n i) ≡ i
-unfolding madeRows
-made-length cs n zero = refl
-made-length cs n (suc i) =
-    length-append (madeRows cs n i) (madeRow cs n (suc i) ∷ []) ∙ ap (λ (k : ℕ). k + 1) (made-length cs n i) ∙ add-one i
 
 -- one row more takes the place of a zero
 row-more : (n i : ℕ) → i < 15 → set (madeRows columns n i ++ replicate (15 - i) 0) i (madeRow columns n (i + 1)) ≡ madeRows columns n (i + 1) ++ replicate (15 - (i + 1)) 0
