@@ -5,3 +5,4 @@ mod Linear
 mod Triangle
 mod Filling
 mod Made
+pub mod Laws

@@ -10,11 +10,10 @@ use mathlib.Core.List.{List, [], _∷_, _++_}
 use Prim.Native.Nat.{ℕ, zero, suc, _+_, _-_, _*_, _^_, _≤_, _<_}
 use native.Mathlib.Nat.{le-refl}
 use native.Mathlib.Decide.{ℕ-discrete}
-use native.Mathlib.Numerals.{add-one}
 use native.Mathlib.Omega.{arith}
 use borrow.Author.Tests.{ltb-true, eqb-true}
 use lib.Dec.{ltb, eqb}
-use lib.ListN.{length, getD, take, replicate, length-append}
+use lib.ListN.{length, getD, take, replicate}
 use lib.Seq.{take-suc, take-at, length-take-le, getD-take, take-all}
 use Rattle.span.specs.Word.{_⊕_, odd, bit, sel, digit, commonParity, shifted}
 use Rattle.span.specs.Combination.{combination, Below}
@@ -23,7 +22,7 @@ use Rattle.tables.specs.Laws.{FORCED, UNIQUE, MADE}
 use Rattle.tables.specs.Table.{rowsOf, sizesFit, rowsFit, fit}
 use Rattle.tables.specs.Made.{columns, upper, madeRow, madeRows, triangleRows, Triangle, madeTable, making}
 use Rattle.tables.proofs.Fit.{and-left, and-right, Sizes, sizes-of, sizes-fit-of, rows-fit-of, below-left}
-use Rattle.tables.proofs.Triangle.{triangular}
+use Rattle.tables.proofs.Triangle.{made-length, triangular}
 use Rattle.tables.proofs.Filling.{one-suitable, filling, filled}
 
 -- ---- a test of every number below a bound
@@ -211,12 +210,6 @@ pub unique : UNIQUE
 unique cs t short suitable = sym (take-all (length cs) cs (le-refl (length cs))) ∙ unique-part cs t short suitable (length cs) (le-refl (length cs))
 
 -- ---- the made tables
-
-pub made-length : (cs : List ℕ) (n i : ℕ) → length (madeRows cs n i) ≡ i
-unfolding madeRows
-made-length cs n zero = refl
-made-length cs n (suc i) =
-    length-append (madeRows cs n i) (madeRow cs n (suc i) ∷ []) ∙ ap (λ (k : ℕ). k + 1) (made-length cs n i) ∙ add-one i
 
 -- a table for n asks for the first n − 1 columns only
 upper-first : (cs ds : List ℕ) (n j i : ℕ) → ((k : ℕ) → k < i → getD cs k 0 ≡ getD ds k 0) → upper cs n j i ≡ upper ds n j i

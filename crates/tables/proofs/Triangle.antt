@@ -58,7 +58,7 @@ unfolding madeRows listed
 made-listed cs n zero = refl
 made-listed cs n (suc i) = ap (λ (l : List ℕ). l ++ (madeRow cs n (suc i) ∷ [])) (made-listed cs n i)
 
-made-length : (cs : List ℕ) (n i : ℕ) → length (madeRows cs n i) ≡ i
+pub made-length : (cs : List ℕ) (n i : ℕ) → length (madeRows cs n i) ≡ i
 made-length cs n i = ap length (made-listed cs n i) ∙ length-listed (λ p. madeRow cs n (suc p)) i
 
 -- from here on n = suc m, so that the rows but the last are m

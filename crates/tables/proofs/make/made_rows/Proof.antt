@@ -8,7 +8,7 @@ use borrow.Author.Needs.{needs}
 use lib.ListN.{length, set, replicate}
 use lib.Seq.{set-at, append-snoc}
 use Rattle.tables.specs.Made.{columns, madeRow, madeRows}
-use Rattle.tables.proofs.Made.{made-length}
+use Rattle.tables.proofs.Triangle.{made-length}
 use Rattle.tables.proofs.make.made_rows.Statement.{statement}
 use Rattle.tables.proofs.make.made_rows.Tie as tie
 
