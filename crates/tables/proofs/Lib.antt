@@ -1,8 +1,15 @@
--- The crate's own proofs, the lowest first.
+-- `Laws` is what a layer above sees; the files before it are the crate's own, the lowest first.
 mod Fit
 mod Clash
+mod Format
+mod Progress
+mod Reading
+mod Written
+mod FormatExamples
+mod Every
 mod Linear
 mod Triangle
 mod Filling
 mod Made
+mod Examples
 pub mod Laws

@@ -23,22 +23,8 @@ use Rattle.tables.specs.Table.{rowsOf, sizesFit, rowsFit, fit}
 use Rattle.tables.specs.Made.{columns, upper, madeRow, madeRows, triangleRows, Triangle, madeTable, making}
 use Rattle.tables.proofs.Fit.{and-left, and-right, Sizes, sizes-of, sizes-fit-of, rows-fit-of, below-left}
 use Rattle.tables.proofs.Triangle.{made-length, triangular}
+use Rattle.tables.proofs.Every.{every, every-at}
 use Rattle.tables.proofs.Filling.{one-suitable, filling, filled}
-
--- ---- a test of every number below a bound
-
-every : (ℕ → Bool) → ℕ → Bool
-every f zero = true
-every f (suc k) = f k && every f k
-
-every-at : (f : ℕ → Bool) (k : ℕ) → every f k ≡ true → (i : ℕ) → i < k → f i ≡ true
-unfolding every
-every-at f zero e i h = absurd (omega arith)
-every-at f (suc k) e i h = go (λ l. every-at f k (and-right (f k) (every f k) e) i l) (ℕ-discrete i k)
-  where
-    go : (i < k → f i ≡ true) → Dec (i ≡ k) → f i ≡ true
-    go rest (yes s) = ap f s ∙ and-left (f k) (every f k) e
-    go rest (no s) = rest (omega arith)
 
 -- ---- the certificate
 

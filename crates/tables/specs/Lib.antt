@@ -1,6 +1,11 @@
--- `tables`: what a table of the code is, when it is suitable, and the tables that we make.
+-- `tables`: what a table of the code is, when it is suitable, the bytes that say one, and the tables that we make.
 pub mod Code
 pub mod Table
 pub mod Judging
+pub mod Format
+pub mod Reading
+pub mod Written
 pub mod Made
 pub mod Laws
+pub mod FormatExamples
+pub mod Examples

@@ -1,6 +1,7 @@
 // The made tables: Berlekamp and Preparata's, from a triangle of bits.
 use crate::table::Table;
 use crate::table::sizes_fit;
+use crate::table::zero_table;
 use span::bits::select;
 use span::bits::shift;
 ghost use mathlib.Core.Path.{_≡_};
@@ -89,12 +90,7 @@ pub fn make(symbols: usize, depth: usize) -> Making
             table,
         }
     } else {
-        let table = Table {
-            symbols: 0,
-            span: 0,
-            depth: 0,
-            rows: [0; 15],
-        };
+        let table = zero_table();
         Making {
             answer: MakeAnswer::OutOfRange,
             table,

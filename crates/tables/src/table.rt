@@ -3,13 +3,25 @@ use span::bits::mask;
 ghost use mathlib.Core.Path.{_≡_};
 ghost use Prim.Native.Nat.{_≤_};
 ghost use lib.ListN.{take};
-ghost use Rattle.tables.specs.Table.{sizesFit, rowsFit, fit};
+ghost use Rattle.tables.specs.Table.{zeroTable, sizesFit, rowsFit, fit};
 
 pub struct Table {
     pub symbols: usize,
     pub span: usize,
     pub depth: usize,
     pub rows: [u64; 15],
+}
+
+// The table that stands beside every refusal; refusal 12 applies to it.
+pub fn zero_table() -> Table
+    ensures { λ r. ⌜ r ≡ zeroTable ⌝ }
+{
+    Table {
+        symbols: 0,
+        span: 0,
+        depth: 0,
+        rows: [0; 15],
+    }
 }
 
 // Whether n, N and m are in range.

@@ -6,6 +6,7 @@ use Prim.Native.Nat.{ℕ, _-_, _*_}
 use native.Mathlib.Omega.{arith}
 use borrow.Author.Needs.{needs}
 use lib.ListN.{replicate}
+use Rattle.tables.specs.declared.table.Table.{Table}
 use Rattle.tables.specs.declared.make.Making.{Making}
 use Rattle.tables.specs.declared.make.MakeAnswer.the-variants.{Made, OutOfRange}
 use Rattle.tables.specs.Table.{table, zeroTable, sizesFit}
@@ -32,19 +33,23 @@ made-is : (n m : ℕ) (rows : List ℕ) → sizesFit n 2 m ≡ true → rows ≡
 unfolding making madeTable
 made-is n m rows e f = rw (e, f)
 
-refused-is : (n m : ℕ) → sizesFit n 2 m ≡ false → _≡_ {A = Making} (record { answer = OutOfRange; table = zeroTable }) (making n m)
+refused-is : (n m : ℕ) (t : Table) → sizesFit n 2 m ≡ false → t ≡ zeroTable → _≡_ {A = Making} (record { answer = OutOfRange; table = t }) (making n m)
 unfolding making
-refused-is n m e = rw e
+refused-is n m t e f = rw (e, f)
 
 returns : tie.Need-returns
 returns c =
     let a = c .before .before .before .args in
     made-is (a .symbols) (a .depth) (c .made-rows .result) (sym (c .before .before .sizes-fit .ensures) ∙ c .before .if1 .taken) (c .made-rows .ensures)
 
+zero-table-requires : tie.Need-zero-table-requires
+zero-table-requires c κs = search needs
+
 returns-2 : tie.Need-returns-2
 returns-2 c =
-    let a = c .before .before .args in
-    refused-is (a .symbols) (a .depth) (sym (c .before .sizes-fit .ensures) ∙ c .if1 .left)
+    let e = c .before .before in
+    let a = e .before .args in
+    refused-is (a .symbols) (a .depth) (c .zero-table .result) (sym (e .sizes-fit .ensures) ∙ c .before .if1 .left) (c .zero-table .ensures)
 
 pub make-spec : {M : Type 1} → statement M
-make-spec = tie.close (tie.spec sizes-fit-requires made-rows-requires mul-t8 returns returns-2)
+make-spec = tie.close (tie.spec sizes-fit-requires made-rows-requires mul-t8 zero-table-requires returns returns-2)

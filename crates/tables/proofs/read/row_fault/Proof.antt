@@ -1,0 +1,88 @@
+-- `tables::read::row_fault`: the tests of a row record in their order. Assumes nothing.
+use borrow.Author.Needs.{needs}
+use mathlib.Core.Path.{_≡_, sym, _∙_}
+use mathlib.Core.Bool.{true, false}
+use Prim.Native.Nat.{_^_, min}
+use native.Mathlib.Omega.{arith}
+use borrow.Author.Tests.{eq-eqb, ne-eqb, le-leb, lt-leb}
+use lib.ListN.{getD, drop}
+use lib.Pow.{pow-pos}
+use Rattle.tables.specs.Format.{rowWord, taken}
+use Rattle.tables.proofs.Format.{fault-row}
+use Rattle.tables.proofs.read.row_fault.Statement.{statement}
+use Rattle.tables.proofs.read.row_fault.Tie as tie
+
+returns : tie.Need-returns
+returns c =
+    let a = c .before .before .before .before .args in
+    let p = c .before .before .before .before .pre in
+    sym (fault-row (a .g) (drop (a .at) (a .bytes .now)) (p .0) (p .1) ∙ simp (eq-eqb (a .g .table .symbols) 0 (omega arith)))
+
+byte-requires : tie.Need-byte-requires
+byte-requires c κs = search needs
+
+number-requires : tie.Need-number-requires
+number-requires c κs = search needs
+
+taken-requires : tie.Need-taken-requires
+taken-requires c κs = search needs
+
+returns-2 : tie.Need-returns-2
+returns-2 c =
+    let n = c .before .before in
+    let a = n .before .before .before .before .before .before .args in
+    let p = n .before .before .before .before .before .before .pre in
+    let s = drop (a .at) (a .bytes .now) in
+    let e : taken (a .g) (getD s 1 0) ≡ true =
+    rw (← n .before .byte .ensures, ← n .number .ensures) (sym (c .before .taken .ensures) ∙ c .if2 .taken) in
+    sym (fault-row (a .g) s (p .0) (p .1) ∙ simp (ne-eqb (a .g .table .symbols) 0 (omega arith), e))
+
+mask-requires : tie.Need-mask-requires
+mask-requires c κs = search needs
+
+row-word-requires : tie.Need-row-word-requires
+row-word-requires c κs = search needs
+
+returns-3 : tie.Need-returns-3
+returns-3 c =
+    let w = c .before in
+    let t = w .before .before in
+    let n = t .before .before in
+    let a = n .before .before .before .before .before .before .args in
+    let p = n .before .before .before .before .before .before .pre in
+    let s = drop (a .at) (a .bytes .now) in
+    let e : taken (a .g) (getD s 1 0) ≡ false =
+    rw (← n .before .byte .ensures, ← n .number .ensures) (sym (t .before .taken .ensures) ∙ t .if2 .left) in
+    let m : min (a .g .table .span) 64 ≡ a .g .table .span = omega arith in
+    let most = rw m at (w .before .mask .ensures) in
+    let some = pow-pos (a .g .table .span) in
+    sym (fault-row (a .g) s (p .0) (p .1) ∙ simp (ne-eqb (a .g .table .symbols) 0 (omega arith), e, le-leb (2 ^ (a .g .table .span)) (rowWord s) (omega arith)))
+
+returns-4 : tie.Need-returns-4
+returns-4 c =
+    let w = c .before in
+    let t = w .before .before in
+    let n = t .before .before in
+    let a = n .before .before .before .before .before .before .args in
+    let p = n .before .before .before .before .before .before .pre in
+    let s = drop (a .at) (a .bytes .now) in
+    let e : taken (a .g) (getD s 1 0) ≡ false =
+    rw (← n .before .byte .ensures, ← n .number .ensures) (sym (t .before .taken .ensures) ∙ t .if2 .left) in
+    let m : min (a .g .table .span) 64 ≡ a .g .table .span = omega arith in
+    let most = rw m at (w .before .mask .ensures) in
+    let some = pow-pos (a .g .table .span) in
+    sym (fault-row (a .g) s (p .0) (p .1) ∙ simp (ne-eqb (a .g .table .symbols) 0 (omega arith), e, lt-leb (2 ^ (a .g .table .span)) (rowWord s) (omega arith)))
+
+pub row-fault-spec : {M : Type 1} → statement M
+row-fault-spec =
+    tie.close
+    (tie.spec
+    returns
+    byte-requires
+    number-requires
+    taken-requires
+    returns-2
+    mask-requires
+    row-word-requires
+    returns-3
+    returns-4)

@@ -1,0 +1,80 @@
+-- `tables::read::sizes_fault`: the tests of a sizes record in their order. Assumes nothing.
+use borrow.Author.Needs.{needs}
+use mathlib.Core.Path.{_≡_, sym, _∙_}
+use mathlib.Core.Bool.{true, false}
+use native.Mathlib.Omega.{arith}
+use borrow.Author.Tests.{eq-eqb, ne-eqb, not-true, not-false}
+use lib.ListN.{getD, drop}
+use Rattle.tables.specs.Table.{sizesFit}
+use Rattle.tables.specs.Format.{taken}
+use Rattle.tables.proofs.Format.{fault-sizes}
+use Rattle.tables.proofs.read.sizes_fault.Statement.{statement}
+use Rattle.tables.proofs.read.sizes_fault.Tie as tie
+
+returns : tie.Need-returns
+returns c =
+    let a = c .before .before .before .before .args in
+    let p = c .before .before .before .before .pre in
+    sym (fault-sizes (a .g) (drop (a .at) (a .bytes .now)) (p .0) (p .1) ∙ simp (ne-eqb (a .g .table .symbols) 0 (omega arith)))
+
+byte-requires : tie.Need-byte-requires
+byte-requires c κs = search needs
+
+number-requires : tie.Need-number-requires
+number-requires c κs = search needs
+
+byte-requires-2 : tie.Need-byte-requires-2
+byte-requires-2 c κs = search needs
+
+number-requires-2 : tie.Need-number-requires-2
+number-requires-2 c κs = search needs
+
+byte-requires-3 : tie.Need-byte-requires-3
+byte-requires-3 c κs = search needs
+
+number-requires-3 : tie.Need-number-requires-3
+number-requires-3 c κs = search needs
+
+sizes-fit-requires : tie.Need-sizes-fit-requires
+sizes-fit-requires c κs = search needs
+
+returns-2 : tie.Need-returns-2
+returns-2 c =
+    let n3 = c .before .before in
+    let n2 = n3 .before .before in
+    let n1 = n2 .before .before in
+    let a = n1 .before .before .before .before .before .before .args in
+    let p = n1 .before .before .before .before .before .before .pre in
+    let s = drop (a .at) (a .bytes .now) in
+    let e : sizesFit (getD s 1 0) (getD s 2 0) (getD s 3 0) ≡ false =
+    rw (← n1 .before .byte .ensures, ← n2 .before .byte2 .ensures, ← n3 .before .byte3 .ensures, ← n1 .number .ensures, ← n2 .number2 .ensures, ← n3 .number3 .ensures)
+    (sym (c .before .sizes-fit .ensures) ∙ not-true _ (c .if2 .taken)) in
+    sym (fault-sizes (a .g) s (p .0) (p .1) ∙ simp (eq-eqb (a .g .table .symbols) 0 (omega arith), e))
+
+returns-3 : tie.Need-returns-3
+returns-3 c =
+    let n3 = c .before .before in
+    let n2 = n3 .before .before in
+    let n1 = n2 .before .before in
+    let a = n1 .before .before .before .before .before .before .args in
+    let p = n1 .before .before .before .before .before .before .pre in
+    let s = drop (a .at) (a .bytes .now) in
+    let e : sizesFit (getD s 1 0) (getD s 2 0) (getD s 3 0) ≡ true =
+    rw (← n1 .before .byte .ensures, ← n2 .before .byte2 .ensures, ← n3 .before .byte3 .ensures, ← n1 .number .ensures, ← n2 .number2 .ensures, ← n3 .number3 .ensures)
+    (sym (c .before .sizes-fit .ensures) ∙ not-false _ (c .if2 .left)) in
+    sym (fault-sizes (a .g) s (p .0) (p .1) ∙ simp (eq-eqb (a .g .table .symbols) 0 (omega arith), e))
+
+pub sizes-fault-spec : {M : Type 1} → statement M
+sizes-fault-spec =
+    tie.close
+    (tie.spec
+    returns
+    byte-requires
+    number-requires
+    byte-requires-2
+    number-requires-2
+    byte-requires-3
+    number-requires-3
+    sizes-fit-requires
+    returns-2
+    returns-3)
