@@ -38,12 +38,12 @@ sound-accepted bytes r Unfit q a w n = absurd (false≢true (sym w ∙ parse-fit
 sound-accepted bytes r (Clash l e0 e1) q a w n = absurd (n l e0 e1 refl)
 sound-accepted bytes r Sound q a w n = rw a (q, w .1)
 
-says-accepted : (bytes : List ℕ) (a : ReadAnswer) (t : Table) → Says bytes a t → a ≡ Accepted → (parse bytes ≡ parsed t) × Suitable (t .span) (rowsOf t)
+says-accepted : (bytes : List ℕ) (a : ReadAnswer) (t : Table) → Says bytes (numbers a) t → a ≡ Accepted → (parse bytes ≡ parsed t) × Suitable (t .span) (rowsOf t)
 says-accepted bytes Accepted t s e = s
 says-accepted bytes (Refused k p) t s e = let z : _≡_ {A = ℕ} 0 1 = cc in absurd (omega arith)
 says-accepted bytes (Unsuitable l e0 e1) t s e = let z : _≡_ {A = ℕ} 0 1 = cc in absurd (omega arith)
 
-says-suitable : (bytes : List ℕ) (t : Table) (a : ReadAnswer) (u : Table) → Says bytes a u → parse bytes ≡ parsed t → Suitable (t .span) (rowsOf t)
+says-suitable : (bytes : List ℕ) (t : Table) (a : ReadAnswer) (u : Table) → Says bytes (numbers a) u → parse bytes ≡ parsed t → Suitable (t .span) (rowsOf t)
     → reading a u ≡ reading Accepted t
 says-suitable bytes t Accepted u s e f = let q : parsed u ≡ parsed t = sym (s .0) ∙ e in cc
 says-suitable bytes t (Refused k p) u s e f = never-refused (sym (s .0) ∙ e)
@@ -58,9 +58,8 @@ accepted-suitable bytes r s a = let s' = says-accepted bytes (r .answer) (r .tab
 pub suitable-accepted : SUITABLE-ACCEPTED
 suitable-accepted bytes t r s e f = says-suitable bytes t (r .answer) (r .table) s e f
 
-says-refused : (bytes : List ℕ) (k p : ℕ) (a : ReadAnswer) (u : Table) → Says bytes a u → parse bytes ≡ refused k p
+says-refused : (bytes : List ℕ) (k p : ℕ) (a : ReadAnswer) (u : Table) → Says bytes (numbers a) u → parse bytes ≡ refused k p
     → (numbers a ≡ k ∷ p ∷ []) × (u ≡ zeroTable)
-unfolding numbers
 says-refused bytes k p Accepted u s e = never-refused (sym e ∙ s .0)
 says-refused bytes k p (Refused i q) u s e = let h : refused i q ≡ refused k p = sym (s .0) ∙ e in (cc, s .1)
 says-refused bytes k p (Unsuitable l e0 e1) u s e = never-refused (sym e ∙ s .1)
@@ -68,9 +67,8 @@ says-refused bytes k p (Unsuitable l e0 e1) u s e = never-refused (sym e ∙ s .
 pub refused-numbers : REFUSED-NUMBERS
 refused-numbers bytes k p r s e = says-refused bytes k p (r .answer) (r .table) s e
 
-says-clash : (bytes : List ℕ) (t : Table) (a : ReadAnswer) (u : Table) → Says bytes a u → parse bytes ≡ parsed t → (Suitable (t .span) (rowsOf t) → ⊥)
+says-clash : (bytes : List ℕ) (t : Table) (a : ReadAnswer) (u : Table) → Says bytes (numbers a) u → parse bytes ≡ parsed t → (Suitable (t .span) (rowsOf t) → ⊥)
     → (l : ℕ) × (e0 : ℕ) × (e1 : ℕ) × (numbers a ≡ 10 ∷ l ∷ e0 ∷ e1 ∷ []) × Clashes (t .span) (rowsOf t) l e0 e1 × (u ≡ zeroTable)
-unfolding numbers
 says-clash bytes t Accepted u s e f =
     let q : parsed u ≡ parsed t = sym (s .0) ∙ e in
     let same : u ≡ t = cc in

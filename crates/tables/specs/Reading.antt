@@ -2,7 +2,8 @@
 --
 --   numbers a           the number of 01 and the values that a refusal returns; an accepted table has none
 --   outcome o           what a parse says, as a reading: on every refusal the table is the zero table
---   Says bytes a t      the answer a with the table t beside it is right of the bytes
+--   reading a t         the answer a with the table t beside it
+--   Says bytes ns t     the numbers ns of an answer, with the table t beside it, are right of the bytes
 --   Read bytes r        the reading r is right of the bytes
 --   ACCEPTED-SUITABLE   an accepted table is the one that the bytes say, fit and suitable
 --   SUITABLE-ACCEPTED   bytes that say a suitable table are accepted
@@ -21,7 +22,7 @@ use Rattle.tables.specs.Table.{zeroTable, rowsOf, fit}
 use Rattle.tables.specs.Format.{Parse, refused, parsed, parse}
 
 -- "A refusal returns its number, with place or pair as said."
-unfoldable pub numbers : ReadAnswer → List ℕ
+abbrev pub numbers : ReadAnswer → List ℕ
 numbers Accepted = []
 numbers (Refused k p) = k ∷ p ∷ []
 numbers (Unsuitable l e0 e1) = 10 ∷ l ∷ e0 ∷ e1 ∷ []
@@ -33,16 +34,20 @@ unfoldable pub outcome : Parse → Reading
 outcome (refused k p) = reading (Refused k p) zeroTable
 outcome (parsed t) = reading Accepted t
 
+-- the numbers of an answer with the table beside it are right of the bytes: none of an accepted table; number and place of refusals 1 to 9; and
 -- 10. "The table is unsuitable; l, some e0 and e1 that show it are returned instead of a place." The triple is any one that shows it; all else
--- is decided.
-abbrev pub Says : List ℕ → ReadAnswer → Table → Type 0
-Says bytes Accepted t = (parse bytes ≡ parsed t) × Suitable (t .span) (rowsOf t)
-Says bytes (Refused k p) t = (parse bytes ≡ refused k p) × (t ≡ zeroTable)
-Says bytes (Unsuitable l e0 e1) t =
-    (u : Table) × (parse bytes ≡ parsed u) × Clashes (u .span) (rowsOf u) l e0 e1 × (t ≡ zeroTable)
+-- is decided. No answer has other numbers.
+abbrev pub Says : List ℕ → List ℕ → Table → Type 0
+Says bytes [] t = (parse bytes ≡ parsed t) × Suitable (t .span) (rowsOf t)
+Says bytes (k ∷ []) t = ⊥
+Says bytes (k ∷ p ∷ []) t = (parse bytes ≡ refused k p) × (t ≡ zeroTable)
+Says bytes (k ∷ l ∷ e0 ∷ []) t = ⊥
+Says bytes (k ∷ l ∷ e0 ∷ e1 ∷ []) t =
+    (u : Table) × (parse bytes ≡ parsed u) × Clashes (u .span) (rowsOf u) l e0 e1 × (t ≡ zeroTable) × (k ≡ 10)
+Says bytes (k ∷ l ∷ e0 ∷ e1 ∷ x ∷ xs) t = ⊥
 
 abbrev pub Read : List ℕ → Reading → Type 0
-Read bytes r = Says bytes (r .answer) (r .table)
+Read bytes r = Says bytes (numbers (r .answer)) (r .table)
 
 -- "An accepted table is one that reading returned, with the sizes and rows of the records read"
 abbrev pub ACCEPTED-SUITABLE : Type 0

@@ -31,7 +31,7 @@ returns c =
     let bytes = r .before .before .args .bytes .now in
     let q : parse bytes ≡ parsed (r .parse .result .table) = outcome-accepted (parse bytes) (r .parse .result) (r .parse .ensures) (told .enum-told .given .1) in
     let w = rw (j .judgement .given .1) at (j .before .before .judge .ensures) in
-    (r .parse .result .table, q, w .1, c .zero-table .ensures)
+    (r .parse .result .table, q, w .1, c .zero-table .ensures, refl)
 
 returns-2 : tie.Need-returns-2
 returns-2 c =
