@@ -31,7 +31,7 @@ pub fn mask(bits: usize) -> u64
     u64::MAX >> ((64 - bits) as u64)
 }
 
-// The word shifted by `by` places in `bits` bits, which are at most 64.
+// The word shifted by `by` places in `bits` bits; more bits than 64 are 64.
 pub fn shift(word: u64, by: usize, bits: usize) -> u64
     ensures { λ r. ⌜ r ≡ shifted (min bits 64) by word ⌝ }
 {

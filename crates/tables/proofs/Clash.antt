@@ -2,7 +2,7 @@
 -- clash, e0 above and e1 below. Assumes nothing.
 use mathlib.Core.Path.{_≡_, refl, sym, ap, ap₂, _∙_, subst}
 use mathlib.Core.List.{List, [], _∷_, _++_, map}
-use Prim.Native.Nat.{ℕ, _+_, _*_, _/_, _%_, _^_, _≤_, _<_}
+use Prim.Native.Nat.{ℕ, _+_, _-_, _*_, _/_, _%_, _^_, _≤_, _<_}
 use native.Mathlib.Nat.{mod-lt, zero-mul, one-mul, mul-le-mul-right}
 use native.Mathlib.Omega.{arith}
 use lib.Arith.{digits-lt}
@@ -14,8 +14,13 @@ use Rattle.span.specs.declared.eliminate.Least.the-variants.{Found, Missing}
 use Rattle.span.specs.Word.{_⊕_, shifted}
 use Rattle.span.specs.Combination.{combination, Relation, counted}
 use Rattle.span.specs.Relation.{leastRelation, IsLeast}
-use Rattle.span.proofs.Laws.{xor-eq, xor-self, shifted-zero, shifted-xor, combination-append, combination-map, combination-low, least-relation}
+use Rattle.span.proofs.Laws.{xor-eq, xor-self, shifted-zero, shifted-xor, combination-append, combination-map, combination-low, combination-pow, combination-xor, least-relation}
 use Rattle.tables.specs.Code.{image, shiftedImage, Clashes}
+use Rattle.tables.specs.Laws.{IMAGE}
+
+pub images : IMAGE
+unfolding image
+images rows = (λ j. combination-pow rows (j - 1), combination-xor rows)
 
 module _ (N : ℕ) (rows : List ℕ) (l : ℕ) where
   abbrev pub clashWords : List ℕ

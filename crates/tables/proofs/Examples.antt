@@ -12,7 +12,7 @@ use Rattle.span.specs.Combination.{combination}
 use Rattle.tables.specs.Code.{image, shiftedImage, Clashes, Suitable}
 use Rattle.tables.specs.Table.{table, rowsOf, sizesFit}
 use Rattle.tables.specs.Format.{size, word, allGiven, taken, firstOf, fault, place, sized, rowed, after, parseFrom, parse}
-use Rattle.tables.specs.Made.{columns, upper, madeRow, madeRows}
+use Rattle.tables.specs.Made.{columns, upper, madeRow, madeRows, madeTable, making}
 use Rattle.tables.specs.Examples.{EXAMPLES, row}
 use Rattle.tables.proofs.Every.{every, every-at}
 
@@ -42,17 +42,17 @@ apart-suitable N rows t l e0 e1 k =
     (ap (image rows) first ∙ k .alike ∙ ap (λ (a : ℕ). shiftedImage N rows a e1) (sym shift))
 
 pub examples-hold : EXAMPLES
-unfolding parse parseFrom fault firstOf size word allGiven taken place sized rowed after sizesFit columns upper madeRow madeRows image shiftedImage combination shifted bit odd xor _⊕_ apart every
+unfolding parse parseFrom fault firstOf size word allGiven taken place sized rowed after sizesFit columns upper madeRow madeRows madeTable making image shiftedImage combination shifted bit odd xor _⊕_ apart every
 examples-hold = (
   (refl, apart-suitable 4 (10 ∷ 1 ∷ []) refl),
   (
-    refl,
+    (refl, refl),
     (
-      refl,
+      (refl, refl),
       (
-        refl,
+        (refl, refl),
         (
-          refl,
+          (refl, refl),
           (
             (
               table 2 4 1 (2 ∷ replicate 14 0),
@@ -65,6 +65,8 @@ examples-hold = (
                 second-block = omega arith;
                 alike = refl;
               },
+              refl,
+              refl,
             ),
             (
               (refl, apart-suitable 6 (56 ∷ 34 ∷ 1 ∷ []) refl),
@@ -86,6 +88,8 @@ examples-hold = (
                           second-block = omega arith;
                           alike = refl;
                         },
+                        refl,
+                        refl,
                       ),
                       tt,
                     ),

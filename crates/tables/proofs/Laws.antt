@@ -1,12 +1,20 @@
 -- All that a layer above may use of `tables`: theorems stated in `specs/`, each proved in the file that the right side names. Assumes nothing.
-use Rattle.tables.specs.Reading.{ACCEPTED-SUITABLE, SUITABLE-ACCEPTED, REFUSED-NUMBERS, UNSUITABLE-NUMBERS}
+use Rattle.tables.specs.Reading.{ACCEPTED-SUITABLE, SUITABLE-ACCEPTED, REFUSED-NUMBERS, REFUSED-UNSUITABLE, UNSUITABLE-NUMBERS}
 use Rattle.tables.specs.Written.{PARSES-EXACTLY}
-use Rattle.tables.specs.Laws.{NESTED-ROWS, FILLING, FORCED, UNIQUE, MADE}
+use Rattle.tables.specs.Laws.{IMAGE, NESTED, NESTED-ROWS, FILLING, FORCED, UNIQUE, MADE, MADE-DEPTH, NOT-MADE}
+use Rattle.tables.specs.Examples.{EXAMPLES}
+use Rattle.tables.proofs.Clash as Clash
 use Rattle.tables.proofs.Reading as Reading
 use Rattle.tables.proofs.Written as Written
 use Rattle.tables.proofs.Triangle as Triangle
 use Rattle.tables.proofs.Filling as Filling
 use Rattle.tables.proofs.Made as Made
+use Rattle.tables.proofs.Examples as Examples
+
+-- ---- images
+
+pub images : IMAGE
+images = Clash.images
 
 -- ---- reading
 
@@ -19,6 +27,9 @@ suitable-accepted = Reading.suitable-accepted
 pub refused-numbers : REFUSED-NUMBERS
 refused-numbers = Reading.refused-numbers
 
+pub refused-unsuitable : REFUSED-UNSUITABLE
+refused-unsuitable = Reading.refused-unsuitable
+
 pub unsuitable-numbers : UNSUITABLE-NUMBERS
 unsuitable-numbers = Reading.unsuitable-numbers
 
@@ -29,6 +40,15 @@ parses-exactly = Written.parses-exactly
 
 pub made : MADE
 made = Made.made
+
+pub made-depth : MADE-DEPTH
+made-depth = Made.made-depth
+
+pub not-made : NOT-MADE
+not-made = Made.not-made
+
+pub nested : NESTED
+nested = Made.nested
 
 pub nested-rows : NESTED-ROWS
 nested-rows = Triangle.nested-rows
@@ -41,3 +61,8 @@ forced = Made.forced
 
 pub unique : UNIQUE
 unique = Made.unique
+
+-- ---- examples T1 to T9
+
+pub examples-hold : EXAMPLES
+examples-hold = Examples.examples-hold

@@ -17,10 +17,12 @@ use lib.ListN.{length, getD, take, replicate}
 use lib.Seq.{take-suc, take-at, length-take-le, getD-take, take-all}
 use Rattle.span.specs.Word.{_⊕_, odd, bit, sel, digit, commonParity, shifted}
 use Rattle.span.specs.Combination.{combination, Below}
+use Rattle.tables.specs.declared.table.Table.{Table}
+use Rattle.tables.specs.declared.make.MakeAnswer.the-variants.{Made, OutOfRange}
 use Rattle.tables.specs.Code.{image, Suitable}
-use Rattle.tables.specs.Laws.{FORCED, UNIQUE, MADE}
-use Rattle.tables.specs.Table.{rowsOf, sizesFit, rowsFit, fit}
-use Rattle.tables.specs.Made.{columns, upper, madeRow, madeRows, triangleRows, Triangle, madeTable, making}
+use Rattle.tables.specs.Laws.{FORCED, UNIQUE, NESTED, MADE, MADE-DEPTH, NOT-MADE}
+use Rattle.tables.specs.Table.{table, zeroTable, rowsOf, sizesFit, rowsFit, fit}
+use Rattle.tables.specs.Made.{columns, upper, madeRow, madeRows, triangleRows, Triangle, madeTable, pickMaking, making}
 use Rattle.tables.proofs.Fit.{and-left, and-right, Sizes, sizes-of, sizes-fit-of, rows-fit-of, below-left}
 use Rattle.tables.proofs.Triangle.{made-length, triangular}
 use Rattle.tables.proofs.Every.{every, every-at}
@@ -28,7 +30,7 @@ use Rattle.tables.proofs.Filling.{one-suitable, filling, filled}
 
 -- ---- the certificate
 
--- p and q for l = 1, 2, .. of the table for n = 1, 2, ..: image p ⊕ (image q shifted by l) is 2^(l − 1). `tests/columns` derives it.
+-- p and q for l = 1, 2, .. of the table for n = 1, 2, ..: image p ⊕ (image q shifted by l) is 2^(l − 1). `tests/columns.rs` derives it.
 certificate : List (List ℕ)
 certificate =
     (1 ∷ 0 ∷ [])
@@ -210,17 +212,19 @@ rows-first cs ds n zero same = refl
 rows-first cs ds n (suc i) same =
     ap₂ (λ (rs : List ℕ) (x : ℕ). rs ++ ((2 ^ (n - suc i) + x) ∷ [])) (rows-first cs ds n i same) (upper-first cs ds n (suc i) (n - 1) same)
 
-made-suitable : (n m : ℕ) → 2 ≤ n → n ≤ 16 → Suitable (2 * n) (rowsOf (madeTable n m))
+-- the table for n asks for the first n − 1 of our columns
+made-rows : (n m : ℕ) → rowsOf (madeTable n m) ≡ triangleRows (take (n - 1) columns) n
 unfolding madeTable
+made-rows n m =
+    ap (λ (rs : List ℕ). rs ++ (1 ∷ []))
+    (take-at (madeRows columns n (n - 1)) (replicate (16 - n) 0) (n - 1) (made-length columns n (n - 1))
+    ∙ sym (rows-first (take (n - 1) columns) columns n (n - 1) (λ k h. getD-take (n - 1) columns k 0 h)))
+
+made-suitable : (n m : ℕ) → 2 ≤ n → n ≤ 16 → Suitable (2 * n) (rowsOf (madeTable n m))
 made-suitable n m from to =
     let size : suc (n - 1) ≡ n = omega arith in
-    let ours : Suitable (2 * n) (triangleRows (take (n - 1) columns) n) =
-    subst (λ (k : ℕ). Suitable (2 * k) (triangleRows (take (n - 1) columns) k)) size (columns-suitable (n - 1) (omega arith))
-    in
-    subst (λ (rs : List ℕ). Suitable (2 * n) (rs ++ (1 ∷ [])))
-    (rows-first (take (n - 1) columns) columns n (n - 1) (λ k h. getD-take (n - 1) columns k 0 h)
-    ∙ sym (take-at (madeRows columns n (n - 1)) (replicate (16 - n) 0) (n - 1) (made-length columns n (n - 1))))
-    ours
+    subst (Suitable (2 * n)) (sym (made-rows n m))
+    (subst (λ (k : ℕ). Suitable (2 * k) (triangleRows (take (n - 1) columns) k)) size (columns-suitable (n - 1) (omega arith)))
 
 made-fit : (n m : ℕ) → Sizes n 2 m → fit (madeTable n m) ≡ true
 unfolding fit madeTable
@@ -240,8 +244,43 @@ made-fit n m z =
     (ap (rowsFit (2 * n)) rows ∙ rows-fit-of (2 * n) (madeRows columns n (n - 1))
     (below-left (2 * n) (madeRows columns n (n - 1)) (1 ∷ []) low))
 
+made-all : (n m : ℕ) → Sizes n 2 m
+    → (madeTable n m .symbols ≡ n) × (madeTable n m .span ≡ 2 * n) × (madeTable n m .depth ≡ m) × (fit (madeTable n m) ≡ true)
+    × Suitable (madeTable n m .span) (rowsOf (madeTable n m)) × (rowsOf (madeTable n m) ≡ triangleRows (take (n - 1) columns) n)
+unfolding madeTable
+made-all n m z = (refl, refl, refl, made-fit n m z, made-suitable n m (z .n-from) (z .n-to), made-rows n m)
+
+-- what making answers where it made a table
+made-table : (n m : ℕ) → making n m .answer ≡ Made → (sizesFit n 2 m ≡ true) × (making n m .table ≡ madeTable n m)
+unfolding making
+made-table n m = go (sizesFit n 2 m) refl
+  where
+    go : (s : Bool) → sizesFit n 2 m ≡ s
+        → pickMaking s (record { answer = Made; table = madeTable n m }) (record { answer = OutOfRange; table = zeroTable }) .answer ≡ Made
+        → (sizesFit n 2 m ≡ true) × (pickMaking s (record { answer = Made; table = madeTable n m }) (record { answer = OutOfRange; table = zeroTable }) .table ≡ madeTable n m)
+    go true e a = (e, refl)
+    go false e a = let z : _≡_ {A = ℕ} 0 1 = cc in absurd (omega arith)
+
 pub made : MADE
-unfolding making madeTable
-made n m e =
-    let z = sizes-of n 2 m e in
-    (rw e, made-fit n m z, made-suitable n m (z .n-from) (z .n-to), λ m′. refl)
+made n m a =
+    let h = made-table n m a in
+    let z = sizes-of n 2 m (h .0) in
+    subst (λ (t : Table). (t .symbols ≡ n) × (t .span ≡ 2 * n) × (t .depth ≡ m) × (fit t ≡ true) × Suitable (t .span) (rowsOf t)
+    × (rowsOf t ≡ triangleRows (take (n - 1) columns) n)) (sym (h .1)) (made-all n m z)
+
+pub made-depth : MADE-DEPTH
+unfolding madeTable
+made-depth n m m′ a a′ =
+    made-table n m′ a′ .1
+    ∙ sym (ap (λ (t : Table). table (t .symbols) (t .span) m′ (t .rows)) (made-table n m a .1))
+
+pub not-made : NOT-MADE
+unfolding making
+not-made n m e = rw e (refl, refl)
+
+pub nested : NESTED
+nested n from to =
+    let e : suc (n - 2) ≡ n - 1 = omega arith in (
+      subst (λ (k : ℕ). take k columns ≡ take (n - 2) columns ++ (getD columns (n - 2) 0 ∷ [])) e (next-column (n - 2) (omega arith)),
+      our-triangle (n - 1) (omega arith),
+    )

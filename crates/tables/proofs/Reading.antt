@@ -10,11 +10,11 @@ use Rattle.tables.specs.declared.judge.Judgement.the-variants.{Unfit, Cl
 use Rattle.tables.specs.declared.read.ReadAnswer.{ReadAnswer}
 use Rattle.tables.specs.declared.read.ReadAnswer.the-variants.{Accepted, Refused, Unsuitable}
 use Rattle.tables.specs.declared.read.Reading.{Reading}
-use Rattle.tables.specs.Code.{Clashes, Suitable}
+use Rattle.tables.specs.Code.{Clashes, Suitable, Unsuitable as CodeUnsuitable}
 use Rattle.tables.specs.Table.{rowsOf, zeroTable}
 use Rattle.tables.specs.Judging.{Judged}
 use Rattle.tables.specs.Format.{Parse, refused, parsed, parse}
-use Rattle.tables.specs.Reading.{numbers, reading, outcome, Says, Read, ACCEPTED-SUITABLE, SUITABLE-ACCEPTED, REFUSED-NUMBERS, UNSUITABLE-NUMBERS}
+use Rattle.tables.specs.Reading.{numbers, reading, outcome, Says, Read, ACCEPTED-SUITABLE, SUITABLE-ACCEPTED, REFUSED-NUMBERS, REFUSED-UNSUITABLE, UNSUITABLE-NUMBERS}
 use Rattle.tables.proofs.Progress.{parse-fit, never-refused}
 
 pub outcome-accepted : (o : Parse) (r : Reading) → r ≡ outcome o → r .answer ≡ Accepted → o ≡ parsed (r .table)
@@ -34,7 +34,7 @@ outcome-refused bytes (parsed t) r q e a = absurd (a (ap (λ (x : Reading). x .a
 -- a table that parses and has no clash is accepted
 pub sound-accepted : (bytes : List ℕ) (r : Reading) (j : Judgement) → parse bytes ≡ parsed (r .table) → r .answer ≡ Accepted → Judged (r .table) j
     → ((l e0 e1 : ℕ) → j ≡ Clash l e0 e1 → ⊥) → Read bytes r
-sound-accepted bytes r Unfit q a w n = absurd (false≢true (sym w ∙ parse-fit bytes (r .table) q))
+sound-accepted bytes r Unfit q a w n = absurd (false≢true (sym (w .0) ∙ parse-fit bytes (r .table) q))
 sound-accepted bytes r (Clash l e0 e1) q a w n = absurd (n l e0 e1 refl)
 sound-accepted bytes r Sound q a w n = rw a (q, w .1)
 
@@ -66,6 +66,21 @@ says-refused bytes k p (Unsuitable l e0 e1) u s e = never-refused (sym e ∙ s .
 
 pub refused-numbers : REFUSED-NUMBERS
 refused-numbers bytes k p r s e = says-refused bytes k p (r .answer) (r .table) s e
+
+says-unsuitable : (bytes : List ℕ) (l e0 e1 : ℕ) (a : ReadAnswer) (u : Table) → Says bytes (numbers a) u → a ≡ Unsuitable l e0 e1
+    → (t : Table) × (parse bytes ≡ parsed t) × Clashes (t .span) (rowsOf t) l e0 e1 × CodeUnsuitable (t .span) (rowsOf t)
+says-unsuitable bytes l e0 e1 Accepted u s e = let z : _≡_ {A = ℕ} 0 1 = cc in absurd (omega arith)
+says-unsuitable bytes l e0 e1 (Refused k p) u s e = let z : _≡_ {A = ℕ} 0 1 = cc in absurd (omega arith)
+says-unsuitable bytes l e0 e1 (Unsuitable i d0 d1) u s e =
+    let t = s .0 in
+    let il : i ≡ l = cc in
+    let i0 : d0 ≡ e0 = cc in
+    let i1 : d1 ≡ e1 = cc in
+    let clash : Clashes (t .span) (rowsOf t) l e0 e1 = rw (il, i0, i1) at (s .2) in
+    (t, s .1, clash, (l, e0, e1, clash))
+
+pub refused-unsuitable : REFUSED-UNSUITABLE
+refused-unsuitable bytes l e0 e1 r s e = says-unsuitable bytes l e0 e1 (r .answer) (r .table) s e
 
 says-clash : (bytes : List ℕ) (t : Table) (a : ReadAnswer) (u : Table) → Says bytes (numbers a) u → parse bytes ≡ parsed t → (Suitable (t .span) (rowsOf t) → ⊥)
     → (l : ℕ) × (e0 : ℕ) × (e1 : ℕ) × (numbers a ≡ 10 ∷ l ∷ e0 ∷ e1 ∷ []) × Clashes (t .span) (rowsOf t) l e0 e1 × (u ≡ zeroTable)

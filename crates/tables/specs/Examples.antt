@@ -6,13 +6,13 @@
 --   EXAMPLES    all of them hold
 use mathlib.Core.Path.{_≡_}
 use mathlib.Core.List.{List, [], _∷_, _++_}
-use Prim.Native.Nat.{ℕ, _-_}
+use Prim.Native.Nat.{ℕ, _-_, _*_}
 use lib.ListN.{replicate}
 use Rattle.tables.specs.declared.table.Table.{Table}
-use Rattle.tables.specs.Code.{Clashes, Suitable}
-use Rattle.tables.specs.Table.{table, rowsOf}
-use Rattle.tables.specs.Format.{refused, parsed, parse}
-use Rattle.tables.specs.Made.{columns, madeRows}
+use Rattle.tables.specs.declared.make.MakeAnswer.the-variants.{Made}
+use Rattle.tables.specs.Table.{table, zeroTable}
+use Rattle.tables.specs.Reading.{Says}
+use Rattle.tables.specs.Made.{making}
 
 pub data Example : Type 0 where
   accepts : List ℕ → Table → Example
@@ -20,12 +20,12 @@ pub data Example : Type 0 where
   clashes : List ℕ → ℕ → ℕ → ℕ → Example
   makes : ℕ → List ℕ → Example
 
--- the bytes are accepted as the table; refused with a number and a place; refused for 10, which the triple shows; the rows made for n
+-- the bytes are accepted as the table; refused with a number and a place; refused for 10, which the triple shows; n and m = 1 make these rows
 abbrev pub Holds : Example → Type 0
-Holds (accepts bytes t) = (parse bytes ≡ parsed t) × Suitable (t .span) (rowsOf t)
-Holds (refuses bytes k p) = parse bytes ≡ refused k p
-Holds (clashes bytes l e0 e1) = (t : Table) × (parse bytes ≡ parsed t) × Clashes (t .span) (rowsOf t) l e0 e1
-Holds (makes n rows) = madeRows columns n (n - 1) ≡ rows
+Holds (accepts bytes t) = Says bytes [] t
+Holds (refuses bytes k p) = Says bytes (k ∷ p ∷ []) zeroTable
+Holds (clashes bytes l e0 e1) = Says bytes (10 ∷ l ∷ e0 ∷ e1 ∷ []) zeroTable
+Holds (makes n rows) = making n 1 ≡ record { answer = Made; table = table n (2 * n) 1 (rows ++ replicate (16 - n) 0) }
 
 abbrev pub AllHold : List Example → Type 0
 AllHold [] = Unit {0}

@@ -55,6 +55,8 @@ formatCases =
     ∷ says (sizesZ ++ (0 ∷ [])) (refused 8 4)
     ∷ says (sizesZ ++ (0 ∷ 0 ∷ [])) (refused 8 4)
     ∷ says (sizesZ ++ rowZ ++ (0 ∷ 0 ∷ [])) (refused 9 15)
+    -- bytes after the end of an unsuitable table, n = 2, N = 4, row 2
+    ∷ says (sizesZ ++ (2 ∷ 1 ∷ 2 ∷ replicate 7 0) ++ (0 ∷ 255 ∷ [])) (refused 9 15)
     -- rows in any order
     ∷ says
     ((1 ∷ 3 ∷ 6 ∷ 1 ∷ []) ++ (2 ∷ 2 ∷ 34 ∷ 0 ∷ 0 ∷ 0 ∷ 0 ∷ 0 ∷ 0 ∷ 0 ∷ []) ++ (2 ∷ 1 ∷ 56 ∷ 0 ∷ 0 ∷ 0 ∷ 0 ∷ 0 ∷ 0 ∷ 0 ∷ []) ++ (0 ∷ []))

@@ -1,22 +1,25 @@
 -- What the crate proves of tables. `proofs/Laws` has a proof of each.
 --
---   MADE          a made table has the sizes asked for and N = 2n, is fit and suitable, and another depth changes only the depth
+--   IMAGE         the image of one symbol is its row, and images are linear
+--   NESTED        the triangle for n is the one for n − 1 with column n added
+--   MADE          a made table has the sizes asked for and N = 2n, is fit and suitable, and has the rows of our triangle
+--   MADE-DEPTH    making with another depth changes only the depth
+--   NOT-MADE      refusal 11
 --   NESTED-ROWS   each row of the larger table is twice that of the smaller one and its bit of the new column
 --   FILLING       a suitable table has exactly one column that makes the next one suitable
 --   FORCED        with our columns before it, a column makes its size suitable exactly if it is ours
 --   UNIQUE        a triangle all of whose sizes are suitable is ours
 use mathlib.Core.Path.{_≡_}
-use mathlib.Core.Bool.{true}
+use mathlib.Core.Bool.{true, false}
 use mathlib.Core.Logic.{_↔_}
 use mathlib.Core.List.{List, [], _∷_, _++_}
 use Prim.Native.Nat.{ℕ, suc, _+_, _-_, _*_, _^_, _≤_, _<_}
 use lib.ListN.{length, getD, take}
-use Rattle.span.specs.Word.{bit, digit}
-use Rattle.tables.specs.Code.{Suitable}
-use Rattle.tables.specs.declared.make.Making.{Making}
+use Rattle.span.specs.Word.{_⊕_, bit, digit}
+use Rattle.tables.specs.Code.{weight, image, Suitable}
 use Rattle.tables.specs.declared.make.MakeAnswer.the-variants.{Made}
-use Rattle.tables.specs.Table.{rowsOf, sizesFit, fit}
-use Rattle.tables.specs.Made.{columns, madeRow, triangleRows, Triangle, madeTable, making}
+use Rattle.tables.specs.Table.{table, zeroTable, rowsOf, sizesFit, fit}
+use Rattle.tables.specs.Made.{columns, madeRow, triangleRows, Triangle, making, madeNumbers}
 
 -- In both, the smaller table has n = suc (length cs) symbols, and the new column a is column n + 1.
 
@@ -43,7 +46,24 @@ abbrev pub UNIQUE : Type 0
 UNIQUE = (cs : List ℕ) → Triangle cs → length cs ≤ 15
     → ((n : ℕ) → 2 ≤ n → n ≤ suc (length cs) → Suitable (2 * n) (triangleRows (take (n - 1) cs) n)) → cs ≡ take (length cs) columns
 
+-- "The triangle for n is the one for n − 1 with column n added." Its columns are the first n − 1 of ours.
+abbrev pub NESTED : Type 0
+NESTED = (n : ℕ) → 2 ≤ n → n ≤ 16
+    → (take (n - 1) columns ≡ take (n - 2) columns ++ (getD columns (n - 2) 0 ∷ [])) × Triangle (take (n - 1) columns)
+
 abbrev pub MADE : Type 0
-MADE = (n m : ℕ) → sizesFit n 2 m ≡ true
-    → (making n m ≡ record { answer = Made; table = madeTable n m }) × (fit (madeTable n m) ≡ true)
-    × Suitable (2 * n) (rowsOf (madeTable n m)) × ((m′ : ℕ) → madeTable n m′ .rows ≡ madeTable n m .rows)
+MADE = (n m : ℕ) → making n m .answer ≡ Made → (making n m .table .symbols ≡ n) × (making n m .table .span ≡ 2 * n) × (making n m .table .depth ≡ m)
+    × (fit (making n m .table) ≡ true) × Suitable (making n m .table .span) (rowsOf (making n m .table))
+    × (rowsOf (making n m .table) ≡ triangleRows (take (n - 1) columns) n)
+
+abbrev pub MADE-DEPTH : Type 0
+MADE-DEPTH = (n m m′ : ℕ) → making n m .answer ≡ Made → making n m′ .answer ≡ Made
+    → making n m′ .table ≡ table (making n m .table .symbols) (making n m .table .span) m′ (making n m .table .rows)
+
+-- "11. n or m is out of range."
+abbrev pub NOT-MADE : Type 0
+NOT-MADE = (n m : ℕ) → sizesFit n 2 m ≡ false → (madeNumbers (making n m .answer) ≡ 11 ∷ []) × (making n m .table ≡ zeroTable)
+
+abbrev pub IMAGE : Type 0
+IMAGE = (rows : List ℕ)
+    → ((j : ℕ) → image rows (weight j) ≡ getD rows (j - 1) 0) × ((e d : ℕ) → image rows (e ⊕ d) ≡ image rows e ⊕ image rows d)

@@ -8,7 +8,8 @@
 --   ACCEPTED-SUITABLE   an accepted table is the one that the bytes say, fit and suitable
 --   SUITABLE-ACCEPTED   bytes that say a suitable table are accepted
 --   REFUSED-NUMBERS     the number and place of a parse that is refused are those of the reading
---   UNSUITABLE-NUMBERS  10, with a triple that shows it, is the answer to bytes that say an unsuitable table
+--   REFUSED-UNSUITABLE  a table refused for 10 is unsuitable, and the triple shows it
+--   UNSUITABLE-NUMBERS  10, with a triple that shows it, is the answer to bytes that say a table that is not suitable
 use mathlib.Core.Path.{_≡_}
 use mathlib.Core.Bool.{true}
 use mathlib.Core.List.{List, [], _∷_}
@@ -17,7 +18,7 @@ use Rattle.tables.specs.declared.table.Table.{Table}
 use Rattle.tables.specs.declared.read.ReadAnswer.{ReadAnswer}
 use Rattle.tables.specs.declared.read.ReadAnswer.the-variants.{Accepted, Refused, Unsuitable}
 use Rattle.tables.specs.declared.read.Reading.{Reading}
-use Rattle.tables.specs.Code.{Clashes, Suitable}
+use Rattle.tables.specs.Code.{Clashes, Suitable, Unsuitable as CodeUnsuitable}
 use Rattle.tables.specs.Table.{zeroTable, rowsOf, fit}
 use Rattle.tables.specs.Format.{Parse, refused, parsed, parse}
 
@@ -63,6 +64,11 @@ abbrev pub REFUSED-NUMBERS : Type 0
 REFUSED-NUMBERS =
     (bytes : List ℕ) (k p : ℕ) (r : Reading) → Read bytes r → parse bytes ≡ refused k p
     → (numbers (r .answer) ≡ k ∷ p ∷ []) × (r .table ≡ zeroTable)
+
+abbrev pub REFUSED-UNSUITABLE : Type 0
+REFUSED-UNSUITABLE =
+    (bytes : List ℕ) (l e0 e1 : ℕ) (r : Reading) → Read bytes r → r .answer ≡ Unsuitable l e0 e1
+    → (t : Table) × (parse bytes ≡ parsed t) × Clashes (t .span) (rowsOf t) l e0 e1 × CodeUnsuitable (t .span) (rowsOf t)
 
 abbrev pub UNSUITABLE-NUMBERS : Type 0
 UNSUITABLE-NUMBERS =

@@ -39,7 +39,7 @@ fn clash_words(rows: [u64; 15], n: usize, span: usize, l: usize) -> [u64; 32]
     words
 }
 
-// The first shift at which two error blocks that must differ look alike.
+// The first shift at which an image is a shifted one.
 fn search(rows: [u64; 15], n: usize, span: usize) -> Judgement
     requires { ⌜ (2 ≤ n) × (n ≤ 16) × (span ≤ 64) ⌝ }
     ensures { λ r. ⌜ Searched span (codeRows n rows) r ⌝ }

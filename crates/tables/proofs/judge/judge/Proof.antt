@@ -1,5 +1,5 @@
 -- `tables::judge::judge`: a fit table is searched for a clash. Assumes nothing.
-use mathlib.Core.Path.{_≡_, sym, _∙_}
+use mathlib.Core.Path.{_≡_, refl, sym, _∙_}
 use mathlib.Core.Bool.{true}
 use native.Mathlib.Omega.{arith}
 use borrow.Author.Needs.{needs}
@@ -17,7 +17,7 @@ is-fit-requires c κs = search needs
 
 searched : (t : Table) (j : Judgement) → fit t ≡ true → Searched (t .span) (rowsOf t) j → Judged t j
 searched t Unfit f h = absurd h
-searched t (Clash l e0 e1) f h = (f, h)
+searched t (Clash l e0 e1) f h = (f, h, refl)
 searched t Sound f h = (f, h)
 
 search-requires : tie.Need-search-requires
@@ -32,7 +32,7 @@ returns c =
     (sym (c .before .before .before .is-fit .ensures) ∙ c .before .before .if1 .taken) (c .search .ensures)
 
 returns-2 : tie.Need-returns-2
-returns-2 c = sym (c .before .is-fit .ensures) ∙ c .if1 .left
+returns-2 c = (sym (c .before .is-fit .ensures) ∙ c .if1 .left, refl)
 
 pub judge-spec : {M : Type 1} → statement M
 judge-spec = tie.close (tie.spec is-fit-requires search-requires returns returns-2)
