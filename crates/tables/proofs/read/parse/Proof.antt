@@ -2,7 +2,8 @@
 use borrow.Author.Needs.{needs}
 use mathlib.Core.Path.{_≡_, sym, ap, _∙_}
 use mathlib.Core.Logic.{_≢_}
-use Prim.Native.Nat.{_-_, _≤_}
+use mathlib.Core.List.{List}
+use Prim.Native.Nat.{ℕ, _+_, _-_, _≤_}
 use native.Mathlib.Omega.{arith}
 use lib.ListN.{length, drop, length-drop}
 use Rattle.tables.specs.Format.{kind, size, place, fault, after}
@@ -68,49 +69,49 @@ after-requires c κs =
 size-requires : tie.Need-size-requires Inv-loop μ-loop
 size-requires c κs = search needs
 
+-- where a record ends: it was sound, it is whole, and so long
+module _ (c : tie.After-size Inv-loop μ-loop) where
+  abbrev here : tie.At-loop Inv-loop μ-loop
+  here = c .before .before .before .before .before .before .before
+
+  abbrev rest : List ℕ
+  rest = drop (here .loop .at) (here .before .before .before .args .bytes .now)
+
+  sound : fault (here .loop .g) rest ≡ 0
+  sound = sym (c .before .before .before .before .before .fault .ensures) ∙ c .before .before .before .before .if1 .left
+
+  long : c .size .result ≡ size (kind rest)
+  long = c .size .ensures ∙ ap size (c .before .before .before .byte .ensures)
+
+  inside : here .loop .at + c .size .result ≤ length (here .before .before .before .args .bytes .now)
+  inside =
+      let whole = sound-whole (here .loop .g) rest (fault-sound (here .loop .g) rest sound) in
+      let len = length-drop (here .loop .at) (here .before .before .before .args .bytes .now) in
+      let n = long in
+      let some = size-some (kind rest) in
+      omega arith
+
 add-at : tie.Need-add-at Inv-loop μ-loop
-add-at c =
-    let k = c .before .before .before in
-    let f = k .before .before in
-    let l = f .before .before in
-    let bytes = l .before .before .before .args .bytes .now in
-    let s = drop (l .loop .at) bytes in
-    let z : fault (l .loop .g) s ≡ 0 = sym (f .fault .ensures) ∙ k .before .if1 .left in
-    let whole = sound-whole (l .loop .g) s (fault-sound (l .loop .g) s z) in
-    let len = length-drop (l .loop .at) bytes in
-    let n : c .size .result ≡ size (kind s) = c .size .ensures ∙ ap size (k .byte .ensures) in
-    omega arith
+add-at c = let i = inside c in omega arith
 
 loop-less : tie.Need-loop-less Inv-loop μ-loop
 loop-less c =
-    let k = c .before .before .before in
-    let f = k .before .before in
-    let l = f .before .before in
-    let bytes = l .before .before .before .args .bytes .now in
-    let s = drop (l .loop .at) bytes in
-    let z : fault (l .loop .g) s ≡ 0 = sym (f .fault .ensures) ∙ k .before .if1 .left in
-    let whole = sound-whole (l .loop .g) s (fault-sound (l .loop .g) s z) in
-    let len = length-drop (l .loop .at) bytes in
-    let n : c .size .result ≡ size (kind s) = c .size .ensures ∙ ap size (k .byte .ensures) in
-    let some = size-some (kind s) in
+    let i = inside c in
+    let n = long c in
+    let some = size-some (kind (rest c)) in
     omega arith
 
 loop-again : tie.Need-loop-again Inv-loop μ-loop
 loop-again c =
-    let k = c .before .before .before in
-    let f = k .before .before in
-    let l = f .before .before in
-    let bytes = l .before .before .before .args .bytes .now in
-    let s = drop (l .loop .at) bytes in
-    let z : fault (l .loop .g) s ≡ 0 = sym (f .fault .ensures) ∙ k .before .if1 .left in
-    let whole = sound-whole (l .loop .g) s (fault-sound (l .loop .g) s z) in
-    let len = length-drop (l .loop .at) bytes in
-    let n : c .size .result ≡ size (kind s) = c .size .ensures ∙ ap size (k .byte .ensures) in
-    let d : kind s ≢ 0 = λ e. c .before .before .if2 .left (k .byte .ensures ∙ e) in
+    let l = here c in
+    let g = l .loop .g in
+    let s = rest c in
+    let i = inside c in
+    let d : kind s ≢ 0 = λ e. c .before .before .if2 .left (c .before .before .before .byte .ensures ∙ e) in
     let a = c .before .after .ensures in (
       omega arith,
-      rw a (good-after (l .loop .g) s (l .loop .inv .1) (fault-sound (l .loop .g) s z) d),
-      rw (a, n) (reaches-next bytes (l .loop .at) (l .loop .g) (l .loop .inv .2) (omega arith) z d),
+      rw a (good-after g s (l .loop .inv .1) (fault-sound g s (sound c)) d),
+      rw (a, long c) (reaches-next (l .before .before .before .args .bytes .now) (l .loop .at) g (l .loop .inv .2) (omega arith) (sound c) d),
     )
 
 refusal-requires-2 : tie.Need-refusal-requires-2 Inv-loop μ-loop
