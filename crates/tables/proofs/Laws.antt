@@ -1,4 +1,4 @@
--- All that a layer above may use of `tables`: theorems stated in `specs/`, each proved in the file that the right side names. Assumes nothing.
+-- The theorems that a layer above may use of `tables`, stated in `specs/`, each proved in the file that the right side names. Assumes nothing.
 use Rattle.tables.specs.Reading.{ACCEPTED-SUITABLE, SUITABLE-ACCEPTED, REFUSED-NUMBERS, REFUSED-UNSUITABLE, UNSUITABLE-NUMBERS}
 use Rattle.tables.specs.Written.{PARSES-EXACTLY}
 use Rattle.tables.specs.Laws.{IMAGE, NESTED, NESTED-ROWS, FILLING, FORCED, UNIQUE, MADE, MADE-DEPTH, NOT-MADE}

@@ -1,4 +1,4 @@
--- `Laws` is what a layer above sees; the files before it are the crate's own, the lowest first.
+-- `Bounds` and `Laws` are what a layer above sees; the other files are the crate's own, the lowest first.
 mod Fit
 mod Clash
 mod Format
@@ -12,4 +12,5 @@ mod Triangle
 mod Filling
 mod Made
 mod Examples
+pub mod Bounds
 pub mod Laws

@@ -1,0 +1,68 @@
+-- The streams in turn: a word that only its own turn's step changes is the same m steps later, but for that step. Assumes nothing.
+use mathlib.Core.Path.{_≡_, refl, sym, ap, _∙_}
+use mathlib.Core.Bool.{Bool, true, false, cond}
+use mathlib.Core.Logic.{_≢_, _⊎_, inl, inr}
+use Prim.Native.Nat.{ℕ, zero, suc, _+_, _-_, _≤_, _<_}
+use native.Mathlib.Nat.{add-zero}
+use native.Mathlib.Omega.{arith}
+use borrow.Author.Tests.{eqb-true, eqb-false}
+use lib.Dec.{eqb}
+use Rattle.link.specs.Stream.{nextTurn}
+
+turn-next : (m x : ℕ) → ((suc x ≡ m) × (nextTurn m x ≡ 0)) ⊎ ((suc x ≢ m) × (nextTurn m x ≡ suc x))
+turn-next m x = go (eqb (suc x) m) refl
+  where
+    go : (b : Bool) → eqb (suc x) m ≡ b → ((suc x ≡ m) × (cond b 0 (suc x) ≡ 0)) ⊎ ((suc x ≢ m) × (cond b 0 (suc x) ≡ suc x))
+    go true q = inl (eqb-true (suc x) m q, refl)
+    go false q = inr (eqb-false (suc x) m q, refl)
+
+pub record Turns (m : ℕ) (turn : ℕ → ℕ) (count : ℕ) : Type 0 where
+  pub some : 1 ≤ m
+  pub inside : (p : ℕ) → p < count → turn p < m
+  pub next : (p : ℕ) → p < count → turn (suc p) ≡ nextTurn m (turn p)
+
+module _ (m : ℕ) (turn : ℕ → ℕ) (count : ℕ) (T : Turns m turn count) where
+  turn-step : (p i x : ℕ) → turn p < m → suc i ≤ m → (turn (p + i) ≡ turn p + i) ⊎ (turn (p + i) + m ≡ turn p + i) → x ≡ nextTurn m (turn (p + i))
+      → ((suc (turn (p + i)) ≡ m) × (nextTurn m (turn (p + i)) ≡ 0)) ⊎ ((suc (turn (p + i)) ≢ m) × (nextTurn m (turn (p + i)) ≡ suc (turn (p + i))))
+      → (x ≡ turn p + suc i) ⊎ (x + m ≡ turn p + suc i)
+  turn-step p i x h l (inl a) e (inl b) = inr (let z = b .0 in let y = b .1 in omega arith)
+  turn-step p i x h l (inl a) e (inr b) = inl (let y = b .1 in omega arith)
+  turn-step p i x h l (inr a) e (inl b) = absurd (let z = b .0 in omega arith)
+  turn-step p i x h l (inr a) e (inr b) = inr (let y = b .1 in omega arith)
+
+  turn-after : (p i : ℕ) → i ≤ m → p + i ≤ count → p < count → (turn (p + i) ≡ turn p + i) ⊎ (turn (p + i) + m ≡ turn p + i)
+  turn-after p zero l h q = inl (ap turn (add-zero p) ∙ sym (add-zero (turn p)))
+  turn-after p (suc i) l h q =
+      turn-step p i (turn (p + suc i)) (T .inside p q) l (turn-after p i (omega arith) (omega arith) q)
+      (ap turn (let e : p + suc i ≡ suc (p + i) = omega arith in e) ∙ T .next (p + i) (omega arith)) (turn-next m (turn (p + i)))
+
+  turn-again : (p : ℕ) → p + m < count → turn (p + m) ≡ turn p
+  turn-again p h =
+      go (T .inside (p + m) h) (turn-after p m (omega arith) (omega arith) (omega arith))
+    where
+      go : turn (p + m) < m → (turn (p + m) ≡ turn p + m) ⊎ (turn (p + m) + m ≡ turn p + m) → turn (p + m) ≡ turn p
+      go l (inl e) = absurd (omega arith)
+      go l (inr e) = omega arith
+
+  turn-other : (p i : ℕ) → 1 ≤ i → i < m → p + i ≤ count → p < count → turn p ≢ turn (p + i)
+  turn-other p i f l h q same = go (turn-after p i (omega arith) h q)
+    where
+      go : (turn (p + i) ≡ turn p + i) ⊎ (turn (p + i) + m ≡ turn p + i) → ⊥
+      go (inl e) = omega arith
+      go (inr e) = omega arith
+
+  module _ (W : ℕ → ℕ → ℕ) (kept : (p k : ℕ) → p < count → k < m → k ≢ turn p → W (suc p) k ≡ W p k) where
+    word-kept : (p d : ℕ) → suc d ≤ m → p + suc d ≤ count → W (suc p + d) (turn p) ≡ W (suc p) (turn p)
+    word-kept p zero l h = ap (λ (q : ℕ). W q (turn p)) (add-zero (suc p))
+    word-kept p (suc d) l h =
+        let place : suc p + d ≡ p + suc d = omega arith in
+        ap (λ (q : ℕ). W q (turn p)) (let e : suc p + suc d ≡ suc (suc p + d) = omega arith in e)
+        ∙ kept (suc p + d) (turn p) (omega arith) (T .inside p (omega arith))
+        (λ (e : turn p ≡ turn (suc p + d)). turn-other p (suc d) (omega arith) (omega arith) (omega arith) (omega arith) (e ∙ ap turn place))
+        ∙ word-kept p d (omega arith) (omega arith)
+
+    pub word-again : (p : ℕ) → p + m < count → W (p + m) (turn (p + m)) ≡ W (suc p) (turn p)
+    word-again p h =
+        let some = T .some in
+        ap (W (p + m)) (turn-again p h) ∙ ap (λ (q : ℕ). W q (turn p)) (let e : p + m ≡ suc p + (m - 1) = omega arith in e)
+        ∙ word-kept p (m - 1) (omega arith) (omega arith)

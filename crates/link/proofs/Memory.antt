@@ -1,0 +1,308 @@
+-- What a step that is taken does to each word, as records over n, N, m and the information's rows: nothing else of a table counts. Assumes
+-- nothing.
+--
+--   CoderStep, coder-step       of the coder
+--   DecoderStep, decoder-step   of the decoder
+use mathlib.Core.Path.{_≡_, refl, sym, ap, ap₂, _∙_}
+use mathlib.Core.Bool.{Bool, true, false, cond, not, xor, _||_}
+use mathlib.Core.Logic.{_≢_}
+use mathlib.Core.List.{List, [], _∷_, _++_}
+use Prim.Native.Nat.{ℕ, suc, _+_, _-_, _*_, _/_, _%_, _^_, _≤_, _<_}
+use native.Mathlib.Nat.{add-zero, mul-le-mul-right, suc-mul}
+use native.Mathlib.Decide.{decLt}
+use native.Mathlib.Omega.{arith}
+use borrow.Author.Tests.{not-false, eqb-true, leb-false, le-ltb}
+use lib.Dec.{leb, ltb, eqb}
+use lib.ListN.{length, getD, set, take, drop, length-append, length-set, length-drop, List·getD-append}
+use lib.Seq.{getD-set-same, getD-set-other, length-take-le, getD-append-add, getD-take, getD-drop, getD-at}
+use Rattle.span.specs.Word.{_⊕_, odd, bit, digit}
+use Rattle.tables.specs.declared.table.Table.{Table}
+use Rattle.tables.specs.Table.{fit}
+use Rattle.tables.specs.Format.{firstOf}
+use Rattle.tables.proofs.Bounds.{fit-facts}
+use Rattle.link.specs.declared.decoder.Delivered.{Delivered}
+use Rattle.link.specs.declared.decoder.DecodeAnswer.{DecodeAnswer}
+use Rattle.link.specs.declared.decoder.DecodeAnswer.the-variants.{Delivery, NothingYet}
+use Rattle.link.specs.Stream.{joining, found, errorOf, keptOf, markOf, nextTurn}
+use Rattle.link.specs.Coder.{infoRows, coderWords, turnOf, pendingAt, coderMalformed, coderFault, coderJoining, codedBlock, coderNext}
+use Rattle.link.specs.Decoder.{decoderWords, fillOf, delayOf, pendingOf, syndromeOf, delayedOut, decoderMalformed, decoderFault, decoderJoining, decoderRegister, decoderFound, partNext, fillNext, decoderNext, delivered, delivery}
+
+-- ---- no refusal applies
+
+first-none : (k : ℕ) (b : Bool) (bs : List Bool) → 1 ≤ k → firstOf k (b ∷ bs) ≡ 0 → (b ≡ false) × (firstOf (suc k) bs ≡ 0)
+unfolding firstOf
+first-none k true bs h e = absurd (omega arith)
+first-none k false bs h e = (refl, e)
+
+or-none : (s t : Bool) → s || t ≡ false → (s ≡ false) × (t ≡ false)
+or-none true t e = let z : _≡_ {A = ℕ} 0 1 = cc in absurd (omega arith)
+or-none false t e = (refl, e)
+
+four-none : (a b c d : Bool) → firstOf 12 (a ∷ b ∷ c ∷ d ∷ []) ≡ 0 → (a ≡ false) × (b ≡ false) × (c ≡ false) × (d ≡ false)
+four-none a b c d e =
+    let p = first-none 12 a (b ∷ c ∷ d ∷ []) (omega arith) e in
+    let q = first-none 13 b (c ∷ d ∷ []) (omega arith) (p .1) in
+    let r = first-none 14 c (d ∷ []) (omega arith) (q .1) in
+    let s = first-none 15 d [] (omega arith) (r .1) in
+    (p .0, q .0, r .0, s .0)
+
+-- ---- the coder
+
+pub record CoderStep (n N m : ℕ) (infos : List ℕ) (s : List ℕ) (b c : ℕ) (after : List ℕ) : Type 0 where
+  pub turn-lt : turnOf s < m
+  pub pending-lt : pendingAt s (turnOf s) < 2 ^ (N - 1)
+  pub info-lt : b < 2 ^ (n - 1)
+  pub coded : c ≡ b + digit (odd (joining infos (pendingAt s (turnOf s)) b)) * 2 ^ (n - 1)
+  pub turn-on : turnOf after ≡ nextTurn m (turnOf s)
+  pub own : pendingAt after (turnOf s) ≡ joining infos (pendingAt s (turnOf s)) b / 2
+  pub others : (k : ℕ) → k < m → k ≢ turnOf s → pendingAt after k ≡ pendingAt s k
+
+pub coder-step : (t : Table) (s : List ℕ) (b : ℕ) → coderFault t s b ≡ 0
+    → CoderStep (t .symbols) (t .span) (t .depth) (infoRows t) s b (codedBlock t s b) (coderNext t s b)
+unfolding coderFault codedBlock coderNext coderJoining
+coder-step t s b e =
+    let f = four-none (not (fit t)) (not (eqb (length s) (coderWords t))) (coderMalformed t s) (leb (2 ^ (t .symbols - 1)) b) e in
+    let g = or-none (leb (t .depth) (turnOf s)) (leb (2 ^ (t .span - 1)) (pendingAt s (turnOf s))) (f .2) in
+    let size : length s ≡ 1 + t .depth = eqb-true (length s) (coderWords t) (not-false (eqb (length s) (coderWords t)) (f .1)) in
+    let turn = leb-false (t .depth) (turnOf s) (g .0) in
+    let w = joining (infoRows t) (pendingAt s (turnOf s)) b / 2 in
+    let to = nextTurn (t .depth) (turnOf s) in
+    record {
+      turn-lt = turn;
+      pending-lt = leb-false (2 ^ (t .span - 1)) (pendingAt s (turnOf s)) (g .1);
+      info-lt = leb-false (2 ^ (t .symbols - 1)) b (f .3);
+      coded = refl;
+      turn-on = getD-set-same (set s (1 + turnOf s) w) 0 to 0 (rw (length-set s (1 + turnOf s) w) (omega arith));
+      own =
+          getD-set-other (set s (1 + turnOf s) w) 0 (1 + turnOf s) to 0 (λ (z : 1 + turnOf s ≡ 0). omega arith)
+          ∙ getD-set-same s (1 + turnOf s) w 0 (omega arith);
+      others = λ k l ne.
+          getD-set-other (set s (1 + turnOf s) w) 0 (1 + k) to 0 (λ (z : 1 + k ≡ 0). omega arith)
+          ∙ getD-set-other s (1 + turnOf s) (1 + k) w 0 (λ (z : 1 + k ≡ 1 + turnOf s). ne (omega arith));
+    }
+
+-- ---- the decoder
+
+abbrev pub streamIn : ℕ → ℕ → ℕ
+streamIn N k = 2 + k * (N + 1)
+
+-- the register of a step on that memory
+abbrev pub registerIn : ℕ → ℕ → List ℕ → List ℕ → ℕ → ℕ
+registerIn n N infos s r =
+    getD s (streamIn N (turnOf s) + 1) 0
+    + digit (xor (odd (joining infos (getD s (streamIn N (turnOf s)) 0) (r % 2 ^ (n - 1)))) (bit (n - 1) r)) * 2 ^ (N - 1)
+
+pub record DecoderStep (n N m : ℕ) (infos : List ℕ) (s : List ℕ) (r : ℕ) (answer : DecodeAnswer) (after : List ℕ) : Type 0 where
+  pub turn-lt : turnOf s < m
+  pub pending-lt : getD s (streamIn N (turnOf s)) 0 < 2 ^ (N - 1)
+  pub syndrome-lt : getD s (streamIn N (turnOf s) + 1) 0 < 2 ^ (N - 1)
+  pub block-lt : r < 2 ^ n
+  pub turn-on : turnOf after ≡ nextTurn m (turnOf s)
+  pub fill-on : fillOf after ≡ cond (ltb (fillOf s) (m * (N - 1))) (fillOf s + 1) (fillOf s)
+  pub pending-on : getD after (streamIn N (turnOf s)) 0 ≡ joining infos (getD s (streamIn N (turnOf s)) 0) (r % 2 ^ (n - 1)) / 2
+  pub syndrome-on : getD after (streamIn N (turnOf s) + 1) 0
+      ≡ keptOf (found (infos ++ (1 ∷ [])) (registerIn n N infos s r)) (registerIn n N infos s r)
+  pub delayed-on : (i : ℕ) → suc i < N - 1 → getD after (streamIn N (turnOf s) + 2 + i) 0 ≡ getD s (streamIn N (turnOf s) + 2 + suc i) 0
+  pub youngest : (i : ℕ) → suc i ≡ N - 1 → getD after (streamIn N (turnOf s) + 2 + i) 0 ≡ r % 2 ^ (n - 1)
+  pub others : (k j : ℕ) → k < m → j < N + 1 → k ≢ turnOf s → getD after (streamIn N k + j) 0 ≡ getD s (streamIn N k + j) 0
+  pub answers : m * (N - 1) ≤ fillOf s → answer
+      ≡ Delivery (record {
+        info = getD s (streamIn N (turnOf s) + 2 + 0) 0 ⊕ errorOf (found (infos ++ (1 ∷ [])) (registerIn n N infos s r)) % 2 ^ (n - 1);
+        mark = markOf (found (infos ++ (1 ∷ [])) (registerIn n N infos s r)) (registerIn n N infos s r);
+      })
+
+-- a part of a list put in place of another of its length
+module _ (s part : List ℕ) (at long : ℕ) (size : length part ≡ long) (room : at + long ≤ length s) where
+  abbrev replaced : List ℕ
+  replaced = take at s ++ (part ++ drop (at + long) s)
+
+  front : length (take at s) ≡ at
+  front = length-take-le at s (omega arith)
+
+  replaced-length : length replaced ≡ length s
+  replaced-length =
+      let a = length-append (take at s) (part ++ drop (at + long) s) in
+      let b = length-append part (drop (at + long) s) in
+      let c = length-drop (at + long) s in
+      let d = front in
+      omega arith
+
+  replaced-in : (j : ℕ) → j < long → getD replaced (at + j) 0 ≡ getD part j 0
+  replaced-in j h =
+      ap (λ (k : ℕ). getD replaced (k + j) 0) (sym front)
+      ∙ getD-append-add (take at s) (part ++ drop (at + long) s) j 0 ∙ List·getD-append part (drop (at + long) s) 0 j (omega arith)
+
+  replaced-below : (i : ℕ) → i < at → getD replaced i 0 ≡ getD s i 0
+  replaced-below i h =
+      List·getD-append (take at s) (part ++ drop (at + long) s) 0 i (rw front h) ∙ getD-take at s i 0 h
+
+  replaced-above : (q : ℕ) → getD replaced (at + (long + q)) 0 ≡ getD s (at + long + q) 0
+  replaced-above q =
+      ap₂ (λ (k j : ℕ). getD replaced (k + (j + q)) 0) (sym front) (sym size)
+      ∙ getD-append-add (take at s) (part ++ drop (at + long) s) (length part + q) 0
+      ∙ getD-append-add part (drop (at + long) s) q 0
+      ∙ getD-drop (at + long) s q 0
+
+  replaced-beyond : (i : ℕ) → at + long ≤ i → getD replaced i 0 ≡ getD s i 0
+  replaced-beyond i h =
+      ap (λ (k : ℕ). getD replaced k 0) (let e : i ≡ at + (long + (i - (at + long))) = omega arith in e)
+      ∙ replaced-above (i - (at + long))
+      ∙ ap (λ (k : ℕ). getD s k 0) (let e : at + long + (i - (at + long)) ≡ i = omega arith in e)
+
+-- the memory after a step: the stream's part anew, and turn and fill
+module _ (N m : ℕ) (s : List ℕ) (pending syndrome young fill to : ℕ) (from : 2 ≤ N) (size : length s ≡ 2 + m * (N + 1)) (turn : turnOf s < m) where
+  abbrev at : ℕ
+  at = streamIn N (turnOf s)
+
+  abbrev moved : List ℕ
+  moved = drop (at + 3) (take (at + (N + 1)) s)
+
+  abbrev part : List ℕ
+  part = pending ∷ syndrome ∷ (moved ++ (young ∷ []))
+
+  abbrev body : List ℕ
+  body = take at s ++ (part ++ drop (at + (N + 1)) s)
+
+  abbrev after : List ℕ
+  after = set (set body 1 fill) 0 to
+
+  part-room : at + (N + 1) ≤ length s
+  part-room = omega (arith, mul-le-mul-right (N + 1) turn, suc-mul (turnOf s) (N + 1))
+
+  moved-length : length moved ≡ N - 2
+  moved-length =
+      let a = length-drop (at + 3) (take (at + (N + 1)) s) in
+      let b = length-take-le (at + (N + 1)) s part-room in
+      omega arith
+
+  part-length : length part ≡ N + 1
+  part-length =
+      let a = length-append moved (young ∷ []) in
+      let b = moved-length in
+      omega arith
+
+  body-length : length body ≡ length s
+  body-length = replaced-length s part at (N + 1) part-length part-room
+
+  after-word : (i : ℕ) → 2 ≤ i → getD after i 0 ≡ getD body i 0
+  after-word i h =
+      getD-set-other (set body 1 fill) 0 i to 0 (λ (z : i ≡ 0). omega arith)
+      ∙ getD-set-other body 1 i fill 0 (λ (z : i ≡ 1). omega arith)
+
+  after-turn : getD after 0 0 ≡ to
+  after-turn =
+      let b = body-length in
+      getD-set-same (set body 1 fill) 0 to 0 (rw (length-set body 1 fill) (omega arith))
+
+  after-fill : getD after 1 0 ≡ fill
+  after-fill =
+      let b = body-length in
+      getD-set-other (set body 1 fill) 0 1 to 0 (λ (z : 1 ≡ 0). omega arith)
+      ∙ getD-set-same body 1 fill 0 (omega arith)
+
+  after-own : (j : ℕ) → j < N + 1 → getD after (at + j) 0 ≡ getD part j 0
+  after-own j h = after-word (at + j) (omega arith) ∙ replaced-in s part at (N + 1) part-length part-room j h
+
+  after-moved : (i : ℕ) → suc i < N - 1 → getD after (at + 2 + i) 0 ≡ getD s (at + 2 + suc i) 0
+  after-moved i h =
+      let b = moved-length in
+      ap (λ (k : ℕ). getD after k 0) (let e : at + 2 + i ≡ at + suc (suc i) = omega arith in e)
+      ∙ after-own (suc (suc i)) (omega arith)
+      ∙ List·getD-append moved (young ∷ []) 0 i (omega arith)
+      ∙ getD-drop (at + 3) (take (at + (N + 1)) s) i 0
+      ∙ getD-take (at + (N + 1)) s (at + 3 + i) 0 (omega arith)
+      ∙ ap (λ (k : ℕ). getD s k 0) (let e : at + 3 + i ≡ at + 2 + suc i = omega arith in e)
+
+  after-young : (i : ℕ) → suc i ≡ N - 1 → getD after (at + 2 + i) 0 ≡ young
+  after-young i h =
+      let b = moved-length in
+      ap (λ (k : ℕ). getD after k 0) (let e : at + 2 + i ≡ at + suc (suc i) = omega arith in e)
+      ∙ after-own (suc (suc i)) (omega arith)
+      ∙ getD-at moved young [] 0 i (omega arith)
+
+  after-others : (k j : ℕ) → k < m → j < N + 1 → k ≢ turnOf s → getD after (streamIn N k + j) 0 ≡ getD s (streamIn N k + j) 0
+  after-others k j h l ne = after-word (streamIn N k + j) (omega arith) ∙ go (decLt k (turnOf s))
+    where
+      go : Dec (k < turnOf s) → getD body (streamIn N k + j) 0 ≡ getD s (streamIn N k + j) 0
+      go (yes b) =
+          replaced-below s part at (N + 1) part-length part-room (streamIn N k + j)
+          (omega (arith, mul-le-mul-right (N + 1) b, suc-mul k (N + 1)))
+      go (no b) =
+          let above : turnOf s < k = omega arith in
+          replaced-beyond s part at (N + 1) part-length part-room (streamIn N k + j)
+          (omega (arith, mul-le-mul-right (N + 1) above, suc-mul (turnOf s) (N + 1)))
+
+-- what the tests of a step that is taken say
+record Taken (t : Table) (s : List ℕ) (r : ℕ) : Type 0 where
+  span-from : 2 ≤ t .span
+  size : length s ≡ 2 + t .depth * (t .span + 1)
+  turn : turnOf s < t .depth
+  pending : pendingOf t s (turnOf s) < 2 ^ (t .span - 1)
+  syndrome : syndromeOf t s (turnOf s) < 2 ^ (t .span - 1)
+  block : r < 2 ^ t .symbols
+
+decoder-taken : (t : Table) (s : List ℕ) (r : ℕ) → decoderFault t s r ≡ 0 → Taken t s r
+unfolding decoderFault
+decoder-taken t s r e =
+    let N = t .span in
+    let k = turnOf s in
+    let f = four-none (not (fit t)) (not (eqb (length s) (decoderWords t))) (decoderMalformed t s) (leb (2 ^ t .symbols) r) e in
+    let z = fit-facts t (not-false (fit t) (f .0)) in
+    let g4 = or-none (leb (t .depth) k || ltb (delayOf t) (fillOf s) || leb (2 ^ (N - 1)) (pendingOf t s k) || leb (2 ^ (N - 1)) (syndromeOf t s k))
+    (delayedOut t s k (N - 1)) (f .2) in
+    let g3 = or-none (leb (t .depth) k || ltb (delayOf t) (fillOf s) || leb (2 ^ (N - 1)) (pendingOf t s k)) (leb (2 ^ (N - 1)) (syndromeOf t s k)) (g4 .0) in
+    let g2 = or-none (leb (t .depth) k || ltb (delayOf t) (fillOf s)) (leb (2 ^ (N - 1)) (pendingOf t s k)) (g3 .0) in
+    let g1 = or-none (leb (t .depth) k) (ltb (delayOf t) (fillOf s)) (g2 .0) in
+    record {
+      span-from = z .N-from;
+      size = eqb-true (length s) (decoderWords t) (not-false (eqb (length s) (decoderWords t)) (f .1));
+      turn = leb-false (t .depth) k (g1 .0);
+      pending = leb-false (2 ^ (N - 1)) (pendingOf t s k) (g2 .1);
+      syndrome = leb-false (2 ^ (N - 1)) (syndromeOf t s k) (g3 .1);
+      block = leb-false (2 ^ t .symbols) r (f .3);
+    }
+
+complete : (b : Bool) (d : Delivered) → b ≡ false → _≡_ {A = DecodeAnswer} (elim b [ true ↦ NothingYet | false ↦ Delivery d ]) (Delivery d)
+complete true d e = let z : _≡_ {A = ℕ} 0 1 = cc in absurd (omega arith)
+complete false d e = refl
+
+pub decoder-step : (t : Table) (s : List ℕ) (r : ℕ) → decoderFault t s r ≡ 0
+    → DecoderStep (t .symbols) (t .span) (t .depth) (infoRows t) s r (delivery t s r) (decoderNext t s r)
+unfolding decoderNext partNext delivery delivered decoderFound decoderRegister decoderJoining
+decoder-step t s r e = record {
+  turn-lt = k .turn;
+  pending-lt = k .pending;
+  syndrome-lt = k .syndrome;
+  block-lt = k .block;
+  turn-on = after-turn N (t .depth) s pending syndrome young fill to (k .span-from) (k .size) (k .turn);
+  fill-on = after-fill N (t .depth) s pending syndrome young fill to (k .span-from) (k .size) (k .turn);
+  pending-on =
+      ap (λ (i : ℕ). getD (decoderNext t s r) i 0) (sym (add-zero (streamIn N (turnOf s))))
+      ∙ after-own N (t .depth) s pending syndrome young fill to (k .span-from) (k .size) (k .turn) 0 (omega arith);
+  syndrome-on = after-own N (t .depth) s pending syndrome young fill to (k .span-from) (k .size) (k .turn) 1 (let h = k .span-from in omega arith);
+  delayed-on = after-moved N (t .depth) s pending syndrome young fill to (k .span-from) (k .size) (k .turn);
+  youngest = after-young N (t .depth) s pending syndrome young fill to (k .span-from) (k .size) (k .turn);
+  others = after-others N (t .depth) s pending syndrome young fill to (k .span-from) (k .size) (k .turn);
+  answers = λ h. complete (ltb (fillOf s) (delayOf t)) (delivered t s r) (le-ltb (fillOf s) (delayOf t) h);
+}
+  where
+    k : Taken t s r
+    k = decoder-taken t s r e
+
+    N : ℕ
+    N = t .span
+
+    pending : ℕ
+    pending = decoderJoining t s r / 2
+
+    syndrome : ℕ
+    syndrome = keptOf (decoderFound t s r) (decoderRegister t s r)
+
+    young : ℕ
+    young = r % 2 ^ (t .symbols - 1)
+
+    fill : ℕ
+    fill = fillNext t (fillOf s)
+
+    to : ℕ
+    to = nextTurn (t .depth) (turnOf s)

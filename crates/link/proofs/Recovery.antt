@@ -1,0 +1,118 @@
+-- Demand 3: the runs of coder and decoder as sequences, and 01's premises as those of `Fade`. Assumes nothing.
+use mathlib.Core.Path.{_≡_, sym, ap, _∙_, subst}
+use mathlib.Core.Logic.{_≢_, _⊎_, inl, inr}
+use mathlib.Core.List.{List}
+use Prim.Native.Nat.{ℕ, suc, _+_, _-_, _*_, _<_}
+use native.Mathlib.Omega.{arith}
+use lib.ListN.{length, getD, take}
+use Rattle.tables.specs.declared.table.Table.{Table}
+use Rattle.tables.specs.Table.{zeroTable}
+use Rattle.link.specs.declared.decoder.DecodeAnswer.the-variants.{NothingYet}
+use Rattle.link.specs.Coder.{infoRows, codedBlock, coderNext}
+use Rattle.link.specs.Decoder.{delayOf, delivery, decoderNext}
+use Rattle.link.specs.Runs.{Call, Sent, Taken, sentBy, takenBy, sentAt, takenAt}
+use Rattle.link.specs.Recovery.{SameTable, Wrong, Fades, RECOVERY}
+use Rattle.link.proofs.Origin.{origin-coding}
+use Rattle.link.proofs.Runs.{coderBefore, decoderBefore, sent-entry, taken-entry}
+use Rattle.link.proofs.Memory.{CoderStep, coder-step, DecoderStep, decoder-step}
+use Rattle.link.proofs.Bursts.{bursts-apart}
+use Rattle.link.proofs.Fade.{Linked, recovers}
+
+-- what holds by n, N, m and the information's rows of a table holds by those of the same table
+same-table : (P : ℕ → ℕ → ℕ → List ℕ → Type 0) (u t : Table) → SameTable u t → P (u .symbols) (u .span) (u .depth) (infoRows u)
+    → P (t .symbols) (t .span) (t .depth) (infoRows t)
+same-table P u t same h =
+    let a = subst (λ (x : List ℕ). P (u .symbols) (u .span) (u .depth) x) (ap (λ (k : ℕ). take (k - 1) (u .rows)) (same .symbols) ∙ same .rows) h in
+    let b = subst (λ (x : ℕ). P x (u .span) (u .depth) (infoRows t)) (same .symbols) a in
+    let c = subst (λ (x : ℕ). P (t .symbols) x (u .depth) (infoRows t)) (same .span) b in
+    subst (λ (x : ℕ). P (t .symbols) (t .span) x (infoRows t)) (same .depth) c
+
+module _ (t : Table) (coder decoder : List ℕ) (cs ds : List Call) (f : Fades t coder decoder cs ds) where
+  abbrev sent : ℕ → Sent
+  sent p = getD (sentBy coder cs) p (record { table = zeroTable; info = 0; block = 0 })
+
+  abbrev taken : ℕ → Taken
+  taken p = getD (takenBy decoder ds) p (record { table = zeroTable; block = 0; answer = NothingYet })
+
+  abbrev count : ℕ
+  count = length (takenBy decoder ds)
+
+  -- places count from 1, sequences from 0
+  from-one : (p : ℕ) → suc p - 1 ≡ p
+  from-one p = omega arith
+
+  decoded : (p : ℕ) → p < count
+      → DecoderStep (t .symbols) (t .span) (t .depth) (infoRows t) (decoderBefore decoder ds p) (taken p .block) (taken p .answer) (decoderBefore decoder ds (suc p))
+  decoded p h =
+      let e = taken-entry decoder ds p h in
+      let u = e .call .table in
+      let is = e .is (record { table = zeroTable; block = 0; answer = NothingYet }) in
+      let same : SameTable u t =
+      subst (λ (v : Table). SameTable v t) (ap (λ (k : ℕ). taken k .table) (from-one p) ∙ ap (λ (x : Taken). x .table) is)
+      (f .decoder-tables (suc p) (omega arith) (omega arith)) in
+      let step = same-table
+      (λ (n N m : ℕ) (infos : List ℕ). DecoderStep n N m infos (decoderBefore decoder ds p) (e .call .block)
+      (delivery u (decoderBefore decoder ds p) (e .call .block)) (decoderNext u (decoderBefore decoder ds p) (e .call .block)))
+      u t same (decoder-step u (decoderBefore decoder ds p) (e .call .block) (e .taken)) in
+      subst (λ (x : Taken). DecoderStep (t .symbols) (t .span) (t .depth) (infoRows t) (decoderBefore decoder ds p) (x .block) (x .answer) (decoderBefore decoder ds (suc p)))
+      (sym is)
+      (subst (λ (after : List ℕ). DecoderStep (t .symbols) (t .span) (t .depth) (infoRows t) (decoderBefore decoder ds p) (e .call .block)
+      (delivery u (decoderBefore decoder ds p) (e .call .block)) after) (sym (e .on)) step)
+
+  coded : (p : ℕ) → p < count
+      → CoderStep (t .symbols) (t .span) (t .depth) (infoRows t) (coderBefore coder cs p) (sent p .info) (sent p .block) (coderBefore coder cs (suc p))
+  coded p h =
+      let many = f .enough in
+      let e = sent-entry coder cs p (omega arith) in
+      let u = e .call .table in
+      let is = e .is (record { table = zeroTable; info = 0; block = 0 }) in
+      let same : SameTable u t =
+      subst (λ (v : Table). SameTable v t) (ap (λ (k : ℕ). sent k .table) (from-one p) ∙ ap (λ (x : Sent). x .table) is)
+      (f .coder-tables (suc p) (omega arith) (omega arith)) in
+      let step = same-table
+      (λ (n N m : ℕ) (infos : List ℕ). CoderStep n N m infos (coderBefore coder cs p) (e .call .block)
+      (codedBlock u (coderBefore coder cs p) (e .call .block)) (coderNext u (coderBefore coder cs p) (e .call .block)))
+      u t same (coder-step u (coderBefore coder cs p) (e .call .block) (e .taken)) in
+      subst (λ (x : Sent). CoderStep (t .symbols) (t .span) (t .depth) (infoRows t) (coderBefore coder cs p) (x .info) (x .block) (coderBefore coder cs (suc p)))
+      (sym is)
+      (subst (λ (after : List ℕ). CoderStep (t .symbols) (t .span) (t .depth) (infoRows t) (coderBefore coder cs p) (e .call .block)
+      (codedBlock u (coderBefore coder cs p) (e .call .block)) after) (sym (e .on)) step)
+
+  right-at : (p : ℕ) → takenAt (takenBy decoder ds) (suc p) .block ≡ sentAt (sentBy coder cs) (suc p) .block → taken p .block ≡ sent p .block
+  right-at p e = ap (λ (k : ℕ). taken k .block) (sym (from-one p)) ∙ e ∙ ap (λ (k : ℕ). sent k .block) (from-one p)
+
+  wrong-at : (p : ℕ) → taken p .block ≢ sent p .block → Wrong (sentBy coder cs) (takenBy decoder ds) (suc p)
+  wrong-at p ne e = ne (right-at p e)
+
+  wrong-apart : (p q : ℕ) → p < q → q < count → taken p .block ≢ sent p .block → taken q .block ≢ sent q .block
+      → (q < p + t .depth) ⊎ (p + t .depth * (t .span - 1) < q)
+  wrong-apart p q l h u v =
+      go (bursts-apart (Wrong (sentBy coder cs) (takenBy decoder ds)) (t .depth) (delayOf t) count (f .bursts) (suc p) (suc q) (omega arith) (omega arith)
+      (omega arith) (wrong-at p u) (wrong-at q v))
+    where
+      go : (suc q < suc p + t .depth) ⊎ (suc p + t .depth * (t .span - 1) < suc q) → (q < p + t .depth) ⊎ (p + t .depth * (t .span - 1) < q)
+      go (inl z) = inl (omega arith)
+      go (inr z) = inr (omega arith)
+
+  linked : Linked (t .symbols) (t .span) (t .depth) (infoRows t) (decoderBefore decoder ds) (coderBefore coder cs) (λ (p : ℕ). taken p .block)
+      (λ (p : ℕ). sent p .info) (λ (p : ℕ). sent p .block) (λ (p : ℕ). taken p .answer) count
+  linked =
+      let c = origin-coding t (f .origin) in
+      record {
+        n-from = c .sizes .n-from;
+        N-from = c .sizes .N-from;
+        m-from = c .sizes .m-from;
+        size = c .infos;
+        code = c .corrects;
+        decodes = decoded;
+        codes = coded;
+        guard = λ p h early. right-at p (f .guard (suc p) (omega arith) (omega arith) (omega arith));
+        apart = wrong-apart;
+      }
+
+pub recovery : RECOVERY
+recovery t coder decoder cs ds f p late h =
+    recovers (t .symbols) (t .span) (t .depth) (infoRows t) (decoderBefore decoder ds) (coderBefore coder cs)
+    (λ (q : ℕ). taken t coder decoder cs ds f q .block) (λ (q : ℕ). sent t coder decoder cs ds f q .info)
+    (λ (q : ℕ). sent t coder decoder cs ds f q .block) (λ (q : ℕ). taken t coder decoder cs ds f q .answer)
+    (length (takenBy decoder ds)) (linked t coder decoder cs ds f) (p - 1) (p - delayOf t - 1) (omega arith) (omega arith) (omega arith)

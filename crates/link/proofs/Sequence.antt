@@ -1,0 +1,205 @@
+-- One stream as sequences, its blocks counted from 0: D is the exclusive or of both pending words, s the syndrome word, e the error. The guard
+-- makes both words 0, and then each error is alone among the blocks of the stream that are still delayed, is found as it leaves, and nothing is
+-- found before. Assumes nothing.
+use mathlib.Core.Path.{_≡_, sym, ap, _∙_, subst}
+use mathlib.Core.Bool.{Bool, true, false}
+use mathlib.Core.Logic.{_≢_, _⊎_, inl, inr}
+use mathlib.Core.List.{List}
+use Prim.Native.Nat.{ℕ, zero, suc, _+_, _-_, _*_, _/_, _%_, _^_, _≤_, _<_}
+use native.Mathlib.Nat.{add-zero, zero-mul, one-mul, div-one, mod-one, zero-mod, zero-div, eq-zero-or-pos}
+use native.Mathlib.Omega.{arith}
+use lib.Pow.{pow-pos}
+use Rattle.span.specs.declared.eliminate.Least.{Least}
+use Rattle.span.specs.declared.eliminate.Least.the-variants.{Found, Missing}
+use Rattle.span.specs.Word.{_⊕_, odd, digit}
+use Rattle.span.specs.Combination.{combination}
+use Rattle.span.proofs.Laws.{xor-zero-l, xor-zero-r, odd-of, combination-zero}
+use Rattle.link.specs.declared.decoder.Mark.the-variants.{Doubtful}
+use Rattle.link.specs.Stream.{found, errorOf, keptOf, markOf}
+use Rattle.link.proofs.Suitable.{Corrects}
+use Rattle.link.proofs.Step.{leaving, staying}
+
+abbrev pub joint : List ℕ → (ℕ → ℕ) → (ℕ → ℕ) → ℕ → ℕ
+joint rows D e k = D k ⊕ combination rows (e k)
+
+abbrev pub registered : ℕ → List ℕ → (ℕ → ℕ) → (ℕ → ℕ) → (ℕ → ℕ) → ℕ → ℕ
+registered w rows D e s k = s k + digit (odd (joint rows D e k)) * 2 ^ w
+
+-- the first `count` blocks of a stream
+pub record Stream (n w : ℕ) (rows : List ℕ) (D s e : ℕ → ℕ) (count : ℕ) : Type 0 where
+  pub code : Corrects n w rows
+  pub some : 1 ≤ w
+  pub error-lt : (k : ℕ) → k < count → e k < 2 ^ n
+  pub joint-next : (k : ℕ) → suc k < count → D (suc k) ≡ joint rows D e k / 2
+  pub syndrome-next : (k : ℕ) → suc k < count → s (suc k) ≡ keptOf (found rows (registered w rows D e s k)) (registered w rows D e s k)
+  pub joint-lt : D 0 < 2 ^ w
+  pub syndrome-lt : s 0 < 2 ^ w
+  pub guard : (k : ℕ) → k < 2 * w → k < count → e k ≡ 0
+  -- of two blocks of the stream, at most w apart, one is right
+  pub apart : (i d : ℕ) → 1 ≤ d → d ≤ w → i + d < count → (e i ≡ 0) ⊎ (e (i + d) ≡ 0)
+
+kept-lt : (f : Least) (x j : ℕ) → x < 2 ^ suc j → keptOf f x < 2 ^ j
+kept-lt (Found e) x j h = pow-pos j
+kept-lt Missing x j h = omega arith
+
+digit-add-lt : (b : Bool) (x w : ℕ) → x < 2 ^ w → x + digit b * 2 ^ w < 2 ^ suc w
+digit-add-lt true x w h = let e = one-mul (2 ^ w) in omega arith
+digit-add-lt false x w h = let e = zero-mul (2 ^ w) in omega arith
+
+module _ (n w : ℕ) (rows : List ℕ) (D s e : ℕ → ℕ) (count : ℕ) (S : Stream n w rows D s e count) where
+  -- a right block adds nothing
+  joint-right : (k : ℕ) → e k ≡ 0 → joint rows D e k ≡ D k
+  joint-right k h = ap (λ (x : ℕ). D k ⊕ combination rows x) h ∙ ap (λ (x : ℕ). D k ⊕ x) (combination-zero rows) ∙ xor-zero-r (D k)
+
+  -- ---- the guard
+
+  guard-joint : (i j : ℕ) → i + j ≡ w → i < count → D i < 2 ^ j
+  guard-joint zero j h l = subst (λ (k : ℕ). D 0 < 2 ^ k) (omega arith) (S .joint-lt)
+  guard-joint (suc i) j h l =
+      let before = guard-joint i (suc j) (omega arith) (omega arith) in
+      let next = S .joint-next i l in
+      let same = joint-right i (S .guard i (omega arith) (omega arith)) in
+      let e1 : D (suc i) ≡ D i / 2 = next ∙ ap (λ (x : ℕ). x / 2) same in
+      omega arith
+
+  guard-clean : (i : ℕ) → i ≤ w → w + i < count → D (w + i) ≡ 0
+  guard-clean zero h l =
+      let z = guard-joint w 0 (omega arith) (omega arith) in
+      ap D (add-zero w) ∙ omega arith
+  guard-clean (suc i) h l =
+      let before = guard-clean i (omega arith) (omega arith) in
+      let place : w + suc i ≡ suc (w + i) = omega arith in
+      let same = joint-right (w + i) (S .guard (w + i) (omega arith) (omega arith)) in
+      ap D place ∙ S .joint-next (w + i) (omega arith) ∙ ap (λ (x : ℕ). x / 2) (same ∙ before)
+
+  syndrome-below : (k : ℕ) → k < count → s k < 2 ^ w
+  syndrome-below zero h = S .syndrome-lt
+  syndrome-below (suc k) h =
+      rw (S .syndrome-next k h)
+      (kept-lt (found rows (registered w rows D e s k)) (registered w rows D e s k) w
+      (digit-add-lt (odd (joint rows D e k)) (s k) w (syndrome-below k (omega arith))))
+
+  guard-syndrome : (i j : ℕ) → i + j ≡ w → w + i < count → s (w + i) < 2 ^ j
+  guard-syndrome zero j h l = subst (λ (k : ℕ). s (w + 0) < 2 ^ k) (omega arith) (syndrome-below (w + 0) l)
+  guard-syndrome (suc i) j h l =
+      let before = guard-syndrome i (suc j) (omega arith) (omega arith) in
+      let place : w + suc i ≡ suc (w + i) = omega arith in
+      let zero-joint : joint rows D e (w + i) ≡ 0 =
+      joint-right (w + i) (S .guard (w + i) (omega arith) (omega arith)) ∙ guard-clean i (omega arith) (omega arith) in
+      let even : odd (joint rows D e (w + i)) ≡ false = odd-of false (joint rows D e (w + i)) (ap (λ (x : ℕ). x % 2) zero-joint) in
+      let same : registered w rows D e s (w + i) ≡ s (w + i) =
+      ap (λ (b : Bool). s (w + i) + digit b * 2 ^ w) even ∙ ap (λ (x : ℕ). s (w + i) + x) (zero-mul (2 ^ w)) ∙ add-zero (s (w + i)) in
+      subst (λ (x : ℕ). x < 2 ^ j) (sym (ap s place ∙ S .syndrome-next (w + i) (omega arith)))
+      (kept-lt (found rows (registered w rows D e s (w + i))) (registered w rows D e s (w + i)) j (rw same before))
+
+  -- ---- after it
+
+  -- Before block k is judged, with its error joined: all errors of the last w blocks and this one are 0 but that of block j.
+  record Mid (k : ℕ) : Type 0 where
+    j : ℕ
+    a : ℕ
+    l : ℕ
+    whole : a + l ≡ w
+    place : j + a ≡ k
+    rest : joint rows D e k ≡ combination rows (e j) / 2 ^ a
+    lower : s k ≡ combination rows (e j) % 2 ^ a * 2 ^ l
+    others : (i d : ℕ) → i + d ≡ k → d ≤ w → i ≢ j → e i ≡ 0
+
+  -- a clean stream: whatever comes is its only error
+  mid-clean : (k : ℕ) → D k ≡ 0 → s k ≡ 0 → ((i d : ℕ) → i + d ≡ k → d ≤ w → i ≢ k → e i ≡ 0) → Mid k
+  mid-clean k d z others = record {
+    j = k;
+    a = 0;
+    l = w;
+    whole = omega arith;
+    place = omega arith;
+    rest = ap (λ (x : ℕ). x ⊕ combination rows (e k)) d ∙ xor-zero-l (combination rows (e k)) ∙ sym (div-one (combination rows (e k)));
+    lower = z ∙ sym (ap (λ (x : ℕ). x * 2 ^ w) (mod-one (combination rows (e k))) ∙ zero-mul (2 ^ w));
+    others = others;
+  }
+
+  mid-first : 2 * w < count → Mid (w + w)
+  mid-first h =
+      let z = guard-syndrome w 0 (omega arith) (omega arith) in
+      mid-clean (w + w) (guard-clean w (omega arith) (omega arith)) (omega arith)
+      (λ i d p l ne. S .guard i (omega arith) (omega arith))
+
+  -- what is known of the blocks that stay, one block later
+  others-later : (k j : ℕ) → ((i d : ℕ) → i + d ≡ k → d ≤ w → i ≢ j → e i ≡ 0) → (i d : ℕ) → i + d ≡ suc k → d ≤ w → i ≢ suc k → i ≢ j → e i ≡ 0
+  others-later k j others i d p q ne other = others i (d - 1) (omega arith) (omega arith) other
+
+  mid-left : (k j : ℕ) → suc k < count → j + w ≡ k → joint rows D e k ≡ combination rows (e j) / 2 ^ w
+      → s k ≡ combination rows (e j) % 2 ^ w * 2 ^ 0 → ((i d : ℕ) → i + d ≡ k → d ≤ w → i ≢ j → e i ≡ 0) → Mid (suc k)
+  mid-left k j h place rest lower others =
+      let out = leaving n w rows (S .code) (e j) (joint rows D e k) (s k) (S .error-lt j (omega arith)) rest lower in
+      mid-clean (suc k) (S .joint-next k h ∙ out .1) (S .syndrome-next k h ∙ out .0 .kept-is)
+      (λ i d p q ne. others-later k j others i d p q ne (λ (same : i ≡ j). omega arith))
+
+  mid-stayed : (k j a l : ℕ) → suc k < count → a + suc l ≡ w → j + a ≡ k → D (suc k) ≡ combination rows (e j) / 2 ^ suc a
+      → s (suc k) ≡ combination rows (e j) % 2 ^ suc a * 2 ^ l → ((i d : ℕ) → i + d ≡ k → d ≤ w → i ≢ j → e i ≡ 0)
+      → ((e (suc k) ≡ 0) ⊎ (0 < e (suc k))) → Mid (suc k)
+  mid-stayed k j a l h whole place rest lower others (inl right) = record {
+    j = j;
+    a = suc a;
+    l = l;
+    whole = omega arith;
+    place = omega arith;
+    rest = joint-right (suc k) right ∙ rest;
+    lower = lower;
+    others = λ i d p q ne. right-or-later i d p q ne (eq-zero-or-pos d);
+  }
+    where
+      right-or-later : (i d : ℕ) → i + d ≡ suc k → d ≤ w → i ≢ j → ((d ≡ 0) ⊎ (0 < d)) → e i ≡ 0
+      right-or-later i d p q ne (inl z) = ap e (let same : i ≡ suc k = omega arith in same) ∙ right
+      right-or-later i d p q ne (inr z) = others-later k j others i d p q (λ (same : i ≡ suc k). omega arith) ne
+  mid-stayed k j a l h whole place rest lower others (inr wrong) =
+      mid-clean (suc k)
+      (rest ∙ ap (λ (x : ℕ). combination rows x / 2 ^ suc a) none ∙ ap (λ (x : ℕ). x / 2 ^ suc a) (combination-zero rows) ∙ zero-div (2 ^ suc a))
+      (lower ∙ ap (λ (x : ℕ). combination rows x % 2 ^ suc a * 2 ^ l) none ∙ ap (λ (x : ℕ). x % 2 ^ suc a * 2 ^ l) (combination-zero rows)
+      ∙ ap (λ (x : ℕ). x * 2 ^ l) (zero-mod (2 ^ suc a)) ∙ zero-mul (2 ^ l))
+      (λ i d p q ne. alone i d (omega arith) q p (S .apart i d (omega arith) q (omega arith)))
+    where
+      alone : (i d : ℕ) → 1 ≤ d → d ≤ w → i + d ≡ suc k → (e i ≡ 0) ⊎ (e (i + d) ≡ 0) → e i ≡ 0
+      alone i d from to p (inl z) = z
+      alone i d from to p (inr z) = let y : e (suc k) ≡ 0 = ap e (sym p) ∙ z in absurd (omega arith)
+
+      none : e j ≡ 0
+      none = alone j (suc a) (omega arith) (omega arith) (omega arith) (S .apart j (suc a) (omega arith) (omega arith) (omega arith))
+
+  mid-step : (k j a l : ℕ) → suc k < count → a + l ≡ w → j + a ≡ k → joint rows D e k ≡ combination rows (e j) / 2 ^ a
+      → s k ≡ combination rows (e j) % 2 ^ a * 2 ^ l → ((i d : ℕ) → i + d ≡ k → d ≤ w → i ≢ j → e i ≡ 0) → Mid (suc k)
+  mid-step k j a zero h whole place rest lower others =
+      let all : a ≡ w = omega arith in
+      mid-left k j h (omega arith) (subst (λ (x : ℕ). joint rows D e k ≡ combination rows (e j) / 2 ^ x) all rest)
+      (subst (λ (x : ℕ). s k ≡ combination rows (e j) % 2 ^ x * 2 ^ 0) all lower) others
+  mid-step k j a (suc l) h whole place rest lower others =
+      let out = staying n w rows (S .code) (e j) (joint rows D e k) (s k) a l (S .error-lt j (omega arith)) whole rest lower in
+      mid-stayed k j a l h whole place (S .joint-next k h ∙ out .1) (S .syndrome-next k h ∙ out .0 .kept-is) others (eq-zero-or-pos (e (suc k)))
+
+  mid : (d : ℕ) → w + w + d < count → Mid (w + w + d)
+  mid zero h = subst Mid (omega arith) (mid-first (omega arith))
+  mid (suc d) h =
+      let m = mid d (omega arith) in
+      subst Mid (omega arith)
+      (mid-step (w + w + d) (m .j) (m .a) (m .l) (omega arith) (m .whole) (m .place) (m .rest) (m .lower) (m .others))
+
+  judged : (k i j a l : ℕ) → k < count → i + w ≡ k → a + l ≡ w → j + a ≡ k → joint rows D e k ≡ combination rows (e j) / 2 ^ a
+      → s k ≡ combination rows (e j) % 2 ^ a * 2 ^ l → ((i d : ℕ) → i + d ≡ k → d ≤ w → i ≢ j → e i ≡ 0)
+      → (errorOf (found rows (registered w rows D e s k)) ≡ e i) × (markOf (found rows (registered w rows D e s k)) (registered w rows D e s k) ≢ Doubtful)
+  judged k i j a zero h from whole place rest lower others =
+      let all : a ≡ w = omega arith in
+      let out = leaving n w rows (S .code) (e j) (joint rows D e k) (s k) (S .error-lt j (omega arith))
+      (subst (λ (x : ℕ). joint rows D e k ≡ combination rows (e j) / 2 ^ x) all rest)
+      (subst (λ (x : ℕ). s k ≡ combination rows (e j) % 2 ^ x * 2 ^ 0) all lower) in
+      (out .0 .error-is ∙ ap e (let same : j ≡ i = omega arith in same), out .0 .sure)
+  judged k i j a (suc l) h from whole place rest lower others =
+      let out = staying n w rows (S .code) (e j) (joint rows D e k) (s k) a l (S .error-lt j (omega arith)) whole rest lower in
+      (out .0 .error-is ∙ sym (others i w from (omega arith) (λ (same : i ≡ j). omega arith)), out .0 .sure)
+
+  -- when block k is judged, the error of block k − w is found, and the mark is not doubtful
+  pub stream-judged : (k i : ℕ) → k < count → 2 * w ≤ k → i + w ≡ k
+      → (errorOf (found rows (registered w rows D e s k)) ≡ e i) × (markOf (found rows (registered w rows D e s k)) (registered w rows D e s k) ≢ Doubtful)
+  stream-judged k i h from place =
+      let at : w + w + (k - 2 * w) ≡ k = omega arith in
+      let m = subst Mid at (mid (k - 2 * w) (omega arith)) in
+      judged k i (m .j) (m .a) (m .l) h place (m .whole) (m .place) (m .rest) (m .lower) (m .others)

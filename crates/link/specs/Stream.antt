@@ -1,0 +1,70 @@
+-- One stream of a code: the work of a step on the words of the turn's stream (01, "Coder and decoder memory"; 000, II.B and IV). The rows 1 to
+-- n − 1 of the information are a list, and so are the rows 1 to n of the code.
+--
+--   joining infos pending info    the word w of a step
+--   nextPending w                 the pending word that it leaves
+--   received n r, flag n r        information and parity of a received block
+--   rawTerm w n r                 the raw term of the syndrome
+--   register N syndrome raw       the register
+--   found rows x                  the least error block whose image is the register, or none
+--   errorOf f, keptOf f x         the error, and the syndrome word that stays
+--   markOf f x                    the mark
+--   nextTurn m turn               the turn after a step
+use mathlib.Core.Bool.{Bool, true, false, cond, xor}
+use mathlib.Core.List.{List}
+use Prim.Native.Nat.{ℕ, suc, _+_, _-_, _*_, _/_, _%_, _^_}
+use lib.Dec.{eqb}
+use Rattle.span.specs.declared.eliminate.Least.{Least}
+use Rattle.span.specs.declared.eliminate.Least.the-variants.{Found, Missing}
+use Rattle.span.specs.Word.{_⊕_, odd, bit, digit}
+use Rattle.span.specs.Combination.{combination}
+use Rattle.span.specs.Relation.{leastCoefficients}
+use Rattle.link.specs.declared.decoder.Mark.{Mark}
+use Rattle.link.specs.declared.decoder.Mark.the-variants.{Clean, Corrected, Doubtful, Held}
+
+-- "In every step, of coder or decoder, w is the exclusive or of the pending word of the turn's stream and the rows of the ones in the block's
+-- information (for the decoder, as received)."
+unfoldable pub joining : List ℕ → ℕ → ℕ → ℕ
+joining infos pending info = pending ⊕ combination infos info
+
+-- "Bit 0 of w is the parity, and w halved, its bit 0 dropped, is the new pending word."
+abbrev pub nextPending : ℕ → ℕ
+nextPending w = w / 2
+
+-- symbol n is the parity, of weight 2^(n−1); the information is what is below it
+abbrev pub received : ℕ → ℕ → ℕ
+received n r = r % 2 ^ (n - 1)
+
+abbrev pub flag : ℕ → ℕ → Bool
+flag n r = bit (n - 1) r
+
+-- 1. "The raw term is the parity of received information, exclusive or received parity."
+abbrev pub rawTerm : ℕ → ℕ → ℕ → Bool
+rawTerm w n r = xor (odd w) (flag n r)
+
+-- 2. "The register is the syndrome word with the raw term as bit N − 1."
+abbrev pub register : ℕ → ℕ → Bool → ℕ
+register N syndrome raw = syndrome + digit raw * 2 ^ (N - 1)
+
+-- 3. "If some e has the register as image, the least such e is the error, and the syndrome word becomes 0. Otherwise the error is 0 and the word
+-- is the register halved, its bit 0 dropped."
+abbrev pub found : List ℕ → ℕ → Least
+found rows x = leastCoefficients rows x
+
+abbrev pub errorOf : Least → ℕ
+errorOf (Found e) = e
+errorOf Missing = 0
+
+abbrev pub keptOf : Least → ℕ → ℕ
+keptOf (Found e) x = 0
+keptOf Missing x = x / 2
+
+-- "Marks: clean (register 0); corrected, carrying e (e not 0); doubtful (no e, bit 0 of the register is 1); held (no e, bit 0 is 0)." An error
+-- of 0 has the register 0.
+abbrev pub markOf : Least → ℕ → Mark
+markOf (Found e) x = elim (eqb e 0) [ true ↦ Clean | false ↦ Corrected e ]
+markOf Missing x = elim (odd x) [ true ↦ Doubtful | false ↦ Held ]
+
+-- "Turn counts 0 to m − 1 and returns to 0."
+abbrev pub nextTurn : ℕ → ℕ → ℕ
+nextTurn m turn = cond (eqb (suc turn) m) 0 (suc turn)

@@ -1,0 +1,3 @@
+// The link: coder and decoder on lent memory.
+pub mod coder;
+pub mod decoder;
