@@ -50,10 +50,10 @@ fn wide(x: u8) -> u64
     x as u64
 }
 
-fn number(x: u8) -> usize
-    ensures { λ r. ⌜ r ≡ x ⌝ }
+fn number(bytes: &[u8], at: usize, k: usize) -> usize
+    ensures { λ r. ⌜ r ≡ getD (drop at (now (bytes .entry))) k 0 ⌝ }
 {
-    x as usize
+    byte(bytes, at, k) as usize
 }
 
 // The length of a record of this kind.
@@ -121,9 +121,9 @@ fn sizes_fault(bytes: &[u8], at: usize, g: Progress) -> u64
         return 4;
     }
     if !sizes_fit(
-        number(byte(bytes, at, 1)),
-        number(byte(bytes, at, 2)),
-        number(byte(bytes, at, 3)),
+        number(bytes, at, 1),
+        number(bytes, at, 2),
+        number(bytes, at, 3),
     ) {
         return 5;
     }
@@ -139,7 +139,7 @@ fn row_fault(bytes: &[u8], at: usize, g: Progress) -> u64
     if t.symbols < 1 {
         return 4;
     }
-    if taken(g, number(byte(bytes, at, 1))) {
+    if taken(g, number(bytes, at, 1)) {
         return 6;
     }
     if mask(t.span) < row_word(bytes, at) {
@@ -195,9 +195,9 @@ fn sized(bytes: &[u8], at: usize, g: Progress) -> Progress
     ensures { λ r. ⌜ r ≡ sized g (drop at (now (bytes .entry))) ⌝ }
 {
     let mut t = g.table;
-    t.symbols = number(byte(bytes, at, 1));
-    t.span = number(byte(bytes, at, 2));
-    t.depth = number(byte(bytes, at, 3));
+    t.symbols = number(bytes, at, 1);
+    t.span = number(bytes, at, 2);
+    t.depth = number(bytes, at, 3);
     let given = g.given;
     Progress { table: t, given }
 }
@@ -206,7 +206,7 @@ fn rowed(bytes: &[u8], at: usize, g: Progress) -> Progress
     requires { ⌜ (1 ≤ getD (drop at (now bytes)) 1 0) × (getD (drop at (now bytes)) 1 0 ≤ 15) ⌝ }
     ensures { λ r. ⌜ r ≡ rowed g (drop at (now (bytes .entry))) ⌝ }
 {
-    let i = number(byte(bytes, at, 1)) - 1;
+    let i = number(bytes, at, 1) - 1;
     let mut t = g.table;
     t.rows[i] = row_word(bytes, at);
     let mut given = g.given;

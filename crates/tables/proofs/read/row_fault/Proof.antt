@@ -19,9 +19,6 @@ returns c =
     let p = c .before .before .before .before .pre in
     sym (fault-row (a .g) (drop (a .at) (a .bytes .now)) (p .0) (p .1) ∙ simp (eq-eqb (a .g .table .symbols) 0 (omega arith)))
 
-byte-requires : tie.Need-byte-requires
-byte-requires c κs = search needs
-
 number-requires : tie.Need-number-requires
 number-requires c κs = search needs
 
@@ -31,11 +28,11 @@ taken-requires c κs = search needs
 returns-2 : tie.Need-returns-2
 returns-2 c =
     let n = c .before .before in
-    let a = n .before .before .before .before .before .before .args in
-    let p = n .before .before .before .before .before .before .pre in
+    let a = n .before .before .before .before .before .args in
+    let p = n .before .before .before .before .before .pre in
     let s = drop (a .at) (a .bytes .now) in
     let e : taken (a .g) (getD s 1 0) ≡ true =
-    rw (← n .before .byte .ensures, ← n .number .ensures) (sym (c .before .taken .ensures) ∙ c .if2 .taken) in
+    rw (← n .number .ensures) (sym (c .before .taken .ensures) ∙ c .if2 .taken) in
     sym (fault-row (a .g) s (p .0) (p .1) ∙ simp (ne-eqb (a .g .table .symbols) 0 (omega arith), e))
 
 mask-requires : tie.Need-mask-requires
@@ -46,24 +43,24 @@ row-word-requires c κs = search needs
 
 -- once the row's number is settled, the fault is 7 or none
 settled : (c : tie.After-row-word) (t : Bool)
-    → let b = c .before .before .before .before .before .before .before .before .before .before in
+    → let b = c .before .before .before .before .before .before .before .before .before in
     leb (2 ^ (b .args .g .table .span)) (rowWord (drop (b .args .at) (b .args .bytes .now))) ≡ t
     → cond t 7 0 ≡ fault (b .args .g) (drop (b .args .at) (b .args .bytes .now))
 settled c t r =
     let k = c .before .before in
     let n = k .before .before in
-    let b = n .before .before .before .before .before .before in
+    let b = n .before .before .before .before .before in
     let s = drop (b .args .at) (b .args .bytes .now) in
     let e : taken (b .args .g) (getD s 1 0) ≡ false =
-    rw (← n .before .byte .ensures, ← n .number .ensures) (sym (k .before .taken .ensures) ∙ k .if2 .left) in
+    rw (← n .number .ensures) (sym (k .before .taken .ensures) ∙ k .if2 .left) in
     sym (fault-row (b .args .g) s (b .pre .0) (b .pre .1) ∙ simp (ne-eqb (b .args .g .table .symbols) 0 (omega arith), e, r))
 
 -- the mask is the greatest row that fits
 most : (c : tie.After-row-word)
-    → let b = c .before .before .before .before .before .before .before .before .before .before in
+    → let b = c .before .before .before .before .before .before .before .before .before in
     suc (c .before .mask .result) ≡ 2 ^ (b .args .g .table .span)
 most c =
-    let span = c .before .before .before .before .before .before .before .before .before .before .args .g .table .span in
+    let span = c .before .before .before .before .before .before .before .before .before .args .g .table .span in
     let m : min span 64 ≡ span = omega arith in
     let e = rw m at (c .before .mask .ensures) in
     let some = pow-pos span in
@@ -71,13 +68,13 @@ most c =
 
 returns-3 : tie.Need-returns-3
 returns-3 c =
-    let a = c .before .before .before .before .before .before .before .before .before .before .before .args in
+    let a = c .before .before .before .before .before .before .before .before .before .before .args in
     let m = most (c .before) in
     settled (c .before) true (le-leb (2 ^ (a .g .table .span)) (rowWord (drop (a .at) (a .bytes .now))) (omega arith))
 
 returns-4 : tie.Need-returns-4
 returns-4 c =
-    let a = c .before .before .before .before .before .before .before .before .before .before .before .args in
+    let a = c .before .before .before .before .before .before .before .before .before .before .args in
     let m = most (c .before) in
     settled (c .before) false (lt-leb (2 ^ (a .g .table .span)) (rowWord (drop (a .at) (a .bytes .now))) (omega arith))
 
@@ -86,7 +83,6 @@ row-fault-spec =
     tie.close
     (tie.spec
     returns
-    byte-requires
     number-requires
     taken-requires
     returns-2

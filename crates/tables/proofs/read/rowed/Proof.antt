@@ -4,9 +4,6 @@ use Rattle.tables.specs.Format.{rowed}
 use Rattle.tables.proofs.read.rowed.Statement.{statement}
 use Rattle.tables.proofs.read.rowed.Tie as tie
 
-byte-requires : tie.Need-byte-requires
-byte-requires c κs = search needs
-
 number-requires : tie.Need-number-requires
 number-requires c κs = search needs
 
@@ -29,13 +26,12 @@ returns : tie.Need-returns
 unfolding rowed
 returns c =
     let n = c .before .before .before in
-    rw (n .number .ensures, n .before .byte .ensures, c .before .row-word .ensures)
+    rw (n .number .ensures, c .before .row-word .ensures)
 
 pub rowed-spec : {M : Type 1} → statement M
 rowed-spec =
     tie.close
     (tie.spec
-    byte-requires
     number-requires
     sub-i
     row-word-requires

@@ -4,20 +4,11 @@ use Rattle.tables.specs.Format.{sized}
 use Rattle.tables.proofs.read.sized.Statement.{statement}
 use Rattle.tables.proofs.read.sized.Tie as tie
 
-byte-requires : tie.Need-byte-requires
-byte-requires c κs = search needs
-
 number-requires : tie.Need-number-requires
 number-requires c κs = search needs
 
-byte-requires-2 : tie.Need-byte-requires-2
-byte-requires-2 c κs = search needs
-
 number-requires-2 : tie.Need-number-requires-2
 number-requires-2 c κs = search needs
-
-byte-requires-3 : tie.Need-byte-requires-3
-byte-requires-3 c κs = search needs
 
 number-requires-3 : tie.Need-number-requires-3
 number-requires-3 c κs = search needs
@@ -26,18 +17,15 @@ returns : tie.Need-returns
 unfolding sized
 returns c =
     let n3 = c .before in
-    let n2 = n3 .before .before in
-    let n1 = n2 .before .before in
-    rw (n1 .number .ensures, n2 .number2 .ensures, n3 .number3 .ensures, n1 .before .byte .ensures, n2 .before .byte2 .ensures, n3 .before .byte3 .ensures)
+    let n2 = n3 .before in
+    let n1 = n2 .before in
+    rw (n1 .number .ensures, n2 .number2 .ensures, n3 .number3 .ensures)
 
 pub sized-spec : {M : Type 1} → statement M
 sized-spec =
     tie.close
     (tie.spec
-    byte-requires
     number-requires
-    byte-requires-2
     number-requires-2
-    byte-requires-3
     number-requires-3
     returns)

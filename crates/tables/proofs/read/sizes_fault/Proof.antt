@@ -17,20 +17,11 @@ returns c =
     let p = c .before .before .before .before .pre in
     sym (fault-sizes (a .g) (drop (a .at) (a .bytes .now)) (p .0) (p .1) ∙ simp (ne-eqb (a .g .table .symbols) 0 (omega arith)))
 
-byte-requires : tie.Need-byte-requires
-byte-requires c κs = search needs
-
 number-requires : tie.Need-number-requires
 number-requires c κs = search needs
 
-byte-requires-2 : tie.Need-byte-requires-2
-byte-requires-2 c κs = search needs
-
 number-requires-2 : tie.Need-number-requires-2
 number-requires-2 c κs = search needs
-
-byte-requires-3 : tie.Need-byte-requires-3
-byte-requires-3 c κs = search needs
 
 number-requires-3 : tie.Need-number-requires-3
 number-requires-3 c κs = search needs
@@ -40,17 +31,17 @@ sizes-fit-requires c κs = search needs
 
 -- once the sizes are judged, the fault is 5 or none
 settled : (c : tie.After-sizes-fit) (t : Bool) → c .sizes-fit .result ≡ t
-    → let b = c .before .before .before .before .before .before .before .before .before .before .before in
+    → let b = c .before .before .before .before .before .before .before .before in
     cond (not t) 5 0 ≡ fault (b .args .g) (drop (b .args .at) (b .args .bytes .now))
 settled c t r =
     let n3 = c .before in
-    let n2 = n3 .before .before in
-    let n1 = n2 .before .before in
-    let b = n1 .before .before .before .before .before .before in
+    let n2 = n3 .before in
+    let n1 = n2 .before in
+    let b = n1 .before .before .before .before .before in
     let a = b .args in
     let s = drop (a .at) (a .bytes .now) in
     let e : sizesFit (getD s 1 0) (getD s 2 0) (getD s 3 0) ≡ t =
-    rw (← n1 .before .byte .ensures, ← n2 .before .byte2 .ensures, ← n3 .before .byte3 .ensures, ← n1 .number .ensures, ← n2 .number2 .ensures, ← n3 .number3 .ensures)
+    rw (← n1 .number .ensures, ← n2 .number2 .ensures, ← n3 .number3 .ensures)
     (sym (c .sizes-fit .ensures) ∙ r) in
     sym (fault-sizes (a .g) s (b .pre .0) (b .pre .1) ∙ simp (eq-eqb (a .g .table .symbols) 0 (omega arith), e))
 
@@ -65,11 +56,8 @@ sizes-fault-spec =
     tie.close
     (tie.spec
     returns
-    byte-requires
     number-requires
-    byte-requires-2
     number-requires-2
-    byte-requires-3
     number-requires-3
     sizes-fit-requires
     returns-2
