@@ -1,8 +1,8 @@
 -- `tables::read::row_fault`: the tests of a row record in their order. Assumes nothing.
 use borrow.Author.Needs.{needs}
-use mathlib.Core.Path.{_≡_, sym, _∙_}
+use mathlib.Core.Path.{_≡_, sym, ap, _∙_}
 use mathlib.Core.Bool.{Bool, true, false, cond}
-use Prim.Native.Nat.{suc, _^_, min}
+use Prim.Native.Nat.{ℕ, suc, _^_, min}
 use native.Mathlib.Omega.{arith}
 use borrow.Author.Tests.{eq-eqb, ne-eqb, le-leb, lt-leb}
 use lib.Dec.{leb}
@@ -62,7 +62,8 @@ most : (c : tie.After-row-word)
 most c =
     let span = c .before .before .before .before .before .before .before .before .before .args .g .table .span in
     let m : min span 64 ≡ span = omega arith in
-    let e = rw m at (c .before .mask .ensures) in
+    let e = c .before .mask .ensures in
+    let same : 2 ^ min span 64 ≡ 2 ^ span = ap (λ (k : ℕ). 2 ^ k) m in
     let some = pow-pos span in
     omega arith
 
