@@ -1,6 +1,6 @@
 -- Runs of calls, for coder and decoder alike: a refused call leaves the memory and has no place, so the entries are those of the calls that are
 -- taken, each on the memory that the one before it left. Assumes nothing.
-use mathlib.Core.Path.{_≡_, refl, sym, ap, subst}
+use mathlib.Core.Path.{_≡_, refl}
 use mathlib.Core.Bool.{Bool, true, false}
 use mathlib.Core.List.{List, [], _∷_}
 use Prim.Native.Nat.{ℕ, zero, suc, _<_}
@@ -9,19 +9,11 @@ use borrow.Author.Tests.{eqb-true}
 use lib.Dec.{eqb}
 use lib.ListN.{length, getD}
 use Rattle.tables.specs.declared.table.Table.{Table}
-use Rattle.link.specs.Coder.{coderFault, codedBlock, coderNext}
-use Rattle.link.specs.Decoder.{decoderFault, delivery, decoderNext}
-use Rattle.link.specs.Runs.{Call, Sent, Taken, sentBy, takenBy}
+use Rattle.link.specs.Coder.{coderFault, coderNext}
+use Rattle.link.specs.Decoder.{decoderFault, decoderNext}
+use Rattle.link.specs.Runs.{Call, run, sentEntry, takenEntry, sentBy, takenBy}
 
 module _ {X : Type 0} (fault : Table → List ℕ → ℕ → ℕ) (next : Table → List ℕ → ℕ → List ℕ) (entry : Table → List ℕ → ℕ → X) where
-  run : List ℕ → List Call → List X
-  run s [] = []
-  run s (c ∷ cs) =
-      elim (eqb (fault (c .table) s (c .block)) 0) [
-        | true ↦ entry (c .table) s (c .block) ∷ run (next (c .table) s (c .block)) cs
-        | false ↦ run s cs
-      ]
-
   later : List ℕ → (ℕ → List ℕ) → ℕ → List ℕ
   later s f zero = s
   later s f (suc p) = f p
@@ -53,10 +45,10 @@ module _ {X : Type 0} (fault : Table → List ℕ → ℕ → ℕ) (next : Table
     pub on : memory (suc p) ≡ next (call .table) (memory p) (call .block)
 
   entry-later : (c : Call) (s : List ℕ) (cs : List Call) → fault (c .table) s (c .block) ≡ 0
-      → ((q : ℕ) → q < length (run (next (c .table) s (c .block)) cs)
-      → Entry (run (next (c .table) s (c .block)) cs) (before (next (c .table) s (c .block)) cs) q)
-      → (p : ℕ) → p < suc (length (run (next (c .table) s (c .block)) cs))
-      → Entry (entry (c .table) s (c .block) ∷ run (next (c .table) s (c .block)) cs) (later s (before (next (c .table) s (c .block)) cs)) p
+      → ((q : ℕ) → q < length (run fault next entry (next (c .table) s (c .block)) cs)
+      → Entry (run fault next entry (next (c .table) s (c .block)) cs) (before (next (c .table) s (c .block)) cs) q)
+      → (p : ℕ) → p < suc (length (run fault next entry (next (c .table) s (c .block)) cs))
+      → Entry (entry (c .table) s (c .block) ∷ run fault next entry (next (c .table) s (c .block)) cs) (later s (before (next (c .table) s (c .block)) cs)) p
   unfolding later
   entry-later c s cs free more zero h = record {
     call = c;
@@ -68,58 +60,22 @@ module _ {X : Type 0} (fault : Table → List ℕ → ℕ → ℕ) (next : Table
       let e = more p (omega arith) in
       record { call = e .call; taken = e .taken; is = e .is; on = e .on }
 
-  run-entry : (s : List ℕ) (cs : List Call) (p : ℕ) → p < length (run s cs) → Entry (run s cs) (before s cs) p
+  run-entry : (s : List ℕ) (cs : List Call) (p : ℕ) → p < length (run fault next entry s cs) → Entry (run fault next entry s cs) (before s cs) p
   unfolding run before
   run-entry s [] p h = absurd (omega arith)
   run-entry s (c ∷ cs) p h = go (eqb (fault (c .table) s (c .block)) 0) refl (run-entry (next (c .table) s (c .block)) cs) (run-entry s cs p) h
     where
       go : (b : Bool) → eqb (fault (c .table) s (c .block)) 0 ≡ b
-          → ((q : ℕ) → q < length (run (next (c .table) s (c .block)) cs)
-          → Entry (run (next (c .table) s (c .block)) cs) (before (next (c .table) s (c .block)) cs) q)
-          → (p < length (run s cs) → Entry (run s cs) (before s cs) p)
-          → p < length {A = X} (elim b [ true ↦ entry (c .table) s (c .block) ∷ run (next (c .table) s (c .block)) cs | false ↦ run s cs ])
-          → Entry (elim b [ true ↦ entry (c .table) s (c .block) ∷ run (next (c .table) s (c .block)) cs | false ↦ run s cs ])
+          → ((q : ℕ) → q < length (run fault next entry (next (c .table) s (c .block)) cs)
+          → Entry (run fault next entry (next (c .table) s (c .block)) cs) (before (next (c .table) s (c .block)) cs) q)
+          → (p < length (run fault next entry s cs) → Entry (run fault next entry s cs) (before s cs) p)
+          → p < length {A = X} (elim b [ true ↦ entry (c .table) s (c .block) ∷ run fault next entry (next (c .table) s (c .block)) cs | false ↦ run fault next entry s cs ])
+          → Entry (elim b [ true ↦ entry (c .table) s (c .block) ∷ run fault next entry (next (c .table) s (c .block)) cs | false ↦ run fault next entry s cs ])
           (λ (q : ℕ). elim b [ true ↦ later s (before (next (c .table) s (c .block)) cs) q | false ↦ before s cs q ]) p
       go true free more same l = entry-later c s cs (eqb-true (fault (c .table) s (c .block)) 0 free) more p l
       go false refused more same l = same l
 
 -- ---- coder and decoder
-
-abbrev pub sentEntry : Table → List ℕ → ℕ → Sent
-sentEntry t s b = record { table = t; info = b; block = codedBlock t s b }
-
-abbrev pub takenEntry : Table → List ℕ → ℕ → Taken
-takenEntry t s r = record { table = t; block = r; answer = delivery t s r }
-
-sent-run : (s : List ℕ) (cs : List Call) → sentBy s cs ≡ run coderFault coderNext sentEntry s cs
-unfolding sentBy run
-sent-run s [] = refl
-sent-run s (c ∷ cs) = go (eqb (coderFault (c .table) s (c .block)) 0) (sent-run (coderNext (c .table) s (c .block)) cs) (sent-run s cs)
-  where
-    go : (b : Bool) → sentBy (coderNext (c .table) s (c .block)) cs ≡ run coderFault coderNext sentEntry (coderNext (c .table) s (c .block)) cs
-        → sentBy s cs ≡ run coderFault coderNext sentEntry s cs
-        → _≡_ {A = List Sent} (elim b [ true ↦ sentEntry (c .table) s (c .block) ∷ sentBy (coderNext (c .table) s (c .block)) cs | false ↦ sentBy s cs ])
-        (elim b [
-          | true ↦ sentEntry (c .table) s (c .block) ∷ run coderFault coderNext sentEntry (coderNext (c .table) s (c .block)) cs
-          | false ↦ run coderFault coderNext sentEntry s cs
-        ])
-    go true more same = ap (λ (xs : List Sent). sentEntry (c .table) s (c .block) ∷ xs) more
-    go false more same = same
-
-taken-run : (s : List ℕ) (ds : List Call) → takenBy s ds ≡ run decoderFault decoderNext takenEntry s ds
-unfolding takenBy run
-taken-run s [] = refl
-taken-run s (c ∷ cs) = go (eqb (decoderFault (c .table) s (c .block)) 0) (taken-run (decoderNext (c .table) s (c .block)) cs) (taken-run s cs)
-  where
-    go : (b : Bool) → takenBy (decoderNext (c .table) s (c .block)) cs ≡ run decoderFault decoderNext takenEntry (decoderNext (c .table) s (c .block)) cs
-        → takenBy s cs ≡ run decoderFault decoderNext takenEntry s cs
-        → _≡_ {A = List Taken} (elim b [ true ↦ takenEntry (c .table) s (c .block) ∷ takenBy (decoderNext (c .table) s (c .block)) cs | false ↦ takenBy s cs ])
-        (elim b [
-          | true ↦ takenEntry (c .table) s (c .block) ∷ run decoderFault decoderNext takenEntry (decoderNext (c .table) s (c .block)) cs
-          | false ↦ run decoderFault decoderNext takenEntry s cs
-        ])
-    go true more same = ap (λ (xs : List Taken). takenEntry (c .table) s (c .block) ∷ xs) more
-    go false more same = same
 
 abbrev pub coderBefore : List ℕ → List Call → ℕ → List ℕ
 coderBefore = before coderFault coderNext sentEntry
@@ -128,12 +84,8 @@ abbrev pub decoderBefore : List ℕ → List Call → ℕ → List ℕ
 decoderBefore = before decoderFault decoderNext takenEntry
 
 pub sent-entry : (s : List ℕ) (cs : List Call) (p : ℕ) → p < length (sentBy s cs) → Entry coderFault coderNext sentEntry (sentBy s cs) (coderBefore s cs) p
-sent-entry s cs p h =
-    subst (λ (xs : List Sent). Entry coderFault coderNext sentEntry xs (coderBefore s cs) p) (sym (sent-run s cs))
-    (run-entry coderFault coderNext sentEntry s cs p (rw (sent-run s cs) at h))
+sent-entry = run-entry coderFault coderNext sentEntry
 
 pub taken-entry : (s : List ℕ) (ds : List Call) (p : ℕ) → p < length (takenBy s ds)
     → Entry decoderFault decoderNext takenEntry (takenBy s ds) (decoderBefore s ds) p
-taken-entry s ds p h =
-    subst (λ (xs : List Taken). Entry decoderFault decoderNext takenEntry xs (decoderBefore s ds) p) (sym (taken-run s ds))
-    (run-entry decoderFault decoderNext takenEntry s ds p (rw (taken-run s ds) at h))
+taken-entry = run-entry decoderFault decoderNext takenEntry

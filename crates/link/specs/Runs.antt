@@ -1,9 +1,10 @@
 -- Runs of steps: each step gets the memory as the last left it (01, "After a fade").
 --
---   Call                 what a step is handed: a table and a block
---   sentBy s cs          the coder steps that are not refused, in order, each with the block handed and the block coded
---   takenBy s ds         the decoder steps that are not refused, in order, each with the block handed and the answer
---   blockAt xs p         entry p of such a list, counted from 1
+--   Call                     what a step is handed: a table and a block
+--   Sent, Taken              what is kept of a coder step, and of a decoder step, that is not refused
+--   run fault next entry     the steps that are not refused, in order
+--   sentBy s cs, takenBy s ds   those of the coder and those of the decoder, from the memory s on
+--   sentAt xs p, takenAt xs p   entry p of such a list, counted from 1
 use mathlib.Core.Bool.{true, false}
 use mathlib.Core.List.{List, [], _∷_}
 use Prim.Native.Nat.{ℕ, _-_}
@@ -33,21 +34,26 @@ pub record Taken : Type 0 where
   pub answer : DecodeAnswer
 
 -- "A refused step may stand anywhere in either list, whatever it is refused for. It has no place in the count." It leaves the memory as it was.
-unfoldable pub sentBy : List ℕ → List Call → List Sent
-sentBy s [] = []
-sentBy s (c ∷ cs) =
-    elim (eqb (coderFault (c .table) s (c .block)) 0) [
-      | true ↦ record { table = c .table; info = c .block; block = codedBlock (c .table) s (c .block) } ∷ sentBy (coderNext (c .table) s (c .block)) cs
-      | false ↦ sentBy s cs
+unfoldable pub run : {X : Type 0} (fault : Table → List ℕ → ℕ → ℕ) (next : Table → List ℕ → ℕ → List ℕ) (entry : Table → List ℕ → ℕ → X) → List ℕ
+    → List Call → List X
+run fault next entry s [] = []
+run fault next entry s (c ∷ cs) =
+    elim (eqb (fault (c .table) s (c .block)) 0) [
+      | true ↦ entry (c .table) s (c .block) ∷ run fault next entry (next (c .table) s (c .block)) cs
+      | false ↦ run fault next entry s cs
     ]
 
-unfoldable pub takenBy : List ℕ → List Call → List Taken
-takenBy s [] = []
-takenBy s (d ∷ ds) =
-    elim (eqb (decoderFault (d .table) s (d .block)) 0) [
-      | true ↦ record { table = d .table; block = d .block; answer = delivery (d .table) s (d .block) } ∷ takenBy (decoderNext (d .table) s (d .block)) ds
-      | false ↦ takenBy s ds
-    ]
+abbrev pub sentEntry : Table → List ℕ → ℕ → Sent
+sentEntry t s b = record { table = t; info = b; block = codedBlock t s b }
+
+abbrev pub takenEntry : Table → List ℕ → ℕ → Taken
+takenEntry t s r = record { table = t; block = r; answer = delivery t s r }
+
+abbrev pub sentBy : List ℕ → List Call → List Sent
+sentBy = run coderFault coderNext sentEntry
+
+abbrev pub takenBy : List ℕ → List Call → List Taken
+takenBy = run decoderFault decoderNext takenEntry
 
 -- "Both lists count from 1"
 abbrev pub sentAt : List Sent → ℕ → Sent
