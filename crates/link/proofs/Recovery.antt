@@ -8,9 +8,9 @@ use lib.ListN.{length, getD, take}
 use Rattle.tables.specs.declared.table.Table.{Table}
 use Rattle.tables.specs.Table.{zeroTable}
 use Rattle.link.specs.declared.decoder.DecodeAnswer.the-variants.{NothingYet}
-use Rattle.link.specs.Coder.{infoRows, codedBlock, coderNext}
-use Rattle.link.specs.Decoder.{delayOf, delivery, decoderNext}
-use Rattle.link.specs.Runs.{Call, Sent, Taken, sentBy, takenBy, sentAt, takenAt}
+use Rattle.link.specs.Coder.{infoRows, coderNext}
+use Rattle.link.specs.Decoder.{delayOf, decoderNext}
+use Rattle.link.specs.Runs.{Call, Sent, Taken, sentEntry, takenEntry, sentBy, takenBy, sentAt, takenAt}
 use Rattle.link.specs.Recovery.{SameTable, Wrong, Fades, RECOVERY}
 use Rattle.link.proofs.Origin.{origin-coding}
 use Rattle.link.proofs.Runs.{coderBefore, decoderBefore, sent-entry, taken-entry}
@@ -18,14 +18,16 @@ use Rattle.link.proofs.Memory.{CoderStep, coder-step, DecoderStep, deco
 use Rattle.link.proofs.Bursts.{bursts-apart}
 use Rattle.link.proofs.Fade.{Linked, recovers}
 
--- what holds by n, N, m and the information's rows of a table holds by those of the same table
-same-table : (P : ℕ → ℕ → ℕ → List ℕ → Type 0) (u t : Table) → SameTable u t → P (u .symbols) (u .span) (u .depth) (infoRows u)
-    → P (t .symbols) (t .span) (t .depth) (infoRows t)
-same-table P u t same h =
-    let a = subst (λ (x : List ℕ). P (u .symbols) (u .span) (u .depth) x) (ap (λ (k : ℕ). take (k - 1) (u .rows)) (same .symbols) ∙ same .rows) h in
-    let b = subst (λ (x : ℕ). P x (u .span) (u .depth) (infoRows t)) (same .symbols) a in
-    let c = subst (λ (x : ℕ). P (t .symbols) x (u .depth) (infoRows t)) (same .span) b in
-    subst (λ (x : ℕ). P (t .symbols) (t .span) x (infoRows t)) (same .depth) c
+-- a step under a table is one under any that is the same, of equal entries and equal memories after it
+same-step : {X : Type 0} (P : ℕ → ℕ → ℕ → List ℕ → X → List ℕ → Type 0) (u t : Table) → SameTable u t → (x y : X) → y ≡ x → (a b : List ℕ) → b ≡ a
+    → P (u .symbols) (u .span) (u .depth) (infoRows u) x a → P (t .symbols) (t .span) (t .depth) (infoRows t) y b
+same-step P u t same x y is a b on h =
+    let rows = subst (λ (r : List ℕ). P (u .symbols) (u .span) (u .depth) r x a) (ap (λ (k : ℕ). take (k - 1) (u .rows)) (same .symbols) ∙ same .rows) h in
+    let n = subst (λ (k : ℕ). P k (u .span) (u .depth) (infoRows t) x a) (same .symbols) rows in
+    let N = subst (λ (k : ℕ). P (t .symbols) k (u .depth) (infoRows t) x a) (same .span) n in
+    let m = subst (λ (k : ℕ). P (t .symbols) (t .span) k (infoRows t) x a) (same .depth) N in
+    let entry = subst (λ v. P (t .symbols) (t .span) (t .depth) (infoRows t) v a) (sym is) m in
+    subst (P (t .symbols) (t .span) (t .depth) (infoRows t) y) (sym on) entry
 
 module _ (t : Table) (coder decoder : List ℕ) (cs ds : List Call) (f : Fades t coder decoder cs ds) where
   abbrev sent : ℕ → Sent
@@ -50,14 +52,9 @@ module _ (t : Table) (coder decoder : List ℕ) (cs ds : List Call) (f : Fades t
       let same : SameTable u t =
       subst (λ (v : Table). SameTable v t) (ap (λ (k : ℕ). taken k .table) (from-one p) ∙ ap (λ (x : Taken). x .table) is)
       (f .decoder-tables (suc p) (omega arith) (omega arith)) in
-      let step = same-table
-      (λ (n N m : ℕ) (infos : List ℕ). DecoderStep n N m infos (decoderBefore decoder ds p) (e .call .block)
-      (delivery u (decoderBefore decoder ds p) (e .call .block)) (decoderNext u (decoderBefore decoder ds p) (e .call .block)))
-      u t same (decoder-step u (decoderBefore decoder ds p) (e .call .block) (e .taken)) in
-      subst (λ (x : Taken). DecoderStep (t .symbols) (t .span) (t .depth) (infoRows t) (decoderBefore decoder ds p) (x .block) (x .answer) (decoderBefore decoder ds (suc p)))
-      (sym is)
-      (subst (λ (after : List ℕ). DecoderStep (t .symbols) (t .span) (t .depth) (infoRows t) (decoderBefore decoder ds p) (e .call .block)
-      (delivery u (decoderBefore decoder ds p) (e .call .block)) after) (sym (e .on)) step)
+      same-step (λ n N m infos (x : Taken) after. DecoderStep n N m infos (decoderBefore decoder ds p) (x .block) (x .answer) after) u t same
+      (takenEntry u (decoderBefore decoder ds p) (e .call .block)) (taken p) is (decoderNext u (decoderBefore decoder ds p) (e .call .block))
+      (decoderBefore decoder ds (suc p)) (e .on) (decoder-step u (decoderBefore decoder ds p) (e .call .block) (e .taken))
 
   coded : (p : ℕ) → p < count
       → CoderStep (t .symbols) (t .span) (t .depth) (infoRows t) (coderBefore coder cs p) (sent p .info) (sent p .block) (coderBefore coder cs (suc p))
@@ -69,14 +66,9 @@ module _ (t : Table) (coder decoder : List ℕ) (cs ds : List Call) (f : Fades t
       let same : SameTable u t =
       subst (λ (v : Table). SameTable v t) (ap (λ (k : ℕ). sent k .table) (from-one p) ∙ ap (λ (x : Sent). x .table) is)
       (f .coder-tables (suc p) (omega arith) (omega arith)) in
-      let step = same-table
-      (λ (n N m : ℕ) (infos : List ℕ). CoderStep n N m infos (coderBefore coder cs p) (e .call .block)
-      (codedBlock u (coderBefore coder cs p) (e .call .block)) (coderNext u (coderBefore coder cs p) (e .call .block)))
-      u t same (coder-step u (coderBefore coder cs p) (e .call .block) (e .taken)) in
-      subst (λ (x : Sent). CoderStep (t .symbols) (t .span) (t .depth) (infoRows t) (coderBefore coder cs p) (x .info) (x .block) (coderBefore coder cs (suc p)))
-      (sym is)
-      (subst (λ (after : List ℕ). CoderStep (t .symbols) (t .span) (t .depth) (infoRows t) (coderBefore coder cs p) (e .call .block)
-      (codedBlock u (coderBefore coder cs p) (e .call .block)) after) (sym (e .on)) step)
+      same-step (λ n N m infos (x : Sent) after. CoderStep n N m infos (coderBefore coder cs p) (x .info) (x .block) after) u t same
+      (sentEntry u (coderBefore coder cs p) (e .call .block)) (sent p) is (coderNext u (coderBefore coder cs p) (e .call .block))
+      (coderBefore coder cs (suc p)) (e .on) (coder-step u (coderBefore coder cs p) (e .call .block) (e .taken))
 
   right-at : (p : ℕ) → takenAt (takenBy decoder ds) (suc p) .block ≡ sentAt (sentBy coder cs) (suc p) .block → taken p .block ≡ sent p .block
   right-at p e = ap (λ (k : ℕ). taken k .block) (sym (from-one p)) ∙ e ∙ ap (λ (k : ℕ). sent k .block) (from-one p)

@@ -1,10 +1,13 @@
 -- 01, "Coder and decoder memory": the coder. Its memory is the turn and then one pending word a stream.
 --
---   coderWords t          how many words it has
+--   infoRows t            rows 1 to n − 1
+--   coderWords t          how many words the memory has
 --   turnOf s, pendingAt   the turn, and the pending word of stream k
+--   coderMalformed t s    the condition of refusal 14
 --   coderFault t s b      the first of refusals 12 to 15 that applies to a step, or 0
+--   coderJoining          w
 --   codedBlock, coderNext the coded block, and the memory after a step that is taken
---   coding t s b          the answer and the memory after any step
+--   codeAnswer, codeMemory   answer and memory of any step
 --   CoderFormed t s       the memory is well-formed
 use mathlib.Core.Path.{_≡_}
 use mathlib.Core.Bool.{Bool, true, false, cond, not, _||_}

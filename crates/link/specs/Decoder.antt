@@ -4,10 +4,12 @@
 --   decoderWords t          how many words it has
 --   fillOf s, delayOf t     the fill, and where it is complete
 --   streamAt t k            where the part of stream k begins; it has N + 1 words
---   pendingOf .. delayedOf  the words of a stream
+--   pendingOf, syndromeOf, delayedOf   the words of stream k
+--   decoderMalformed t s    the condition of refusal 14
 --   decoderFault t s r      the first of refusals 12 to 15 that applies to a step, or 0
---   decoderNext t s r       the memory after a step that is taken
---   delivery t s r          what such a step answers
+--   decoderJoining, decoderRegister, decoderFound   w, the register, and the error found
+--   partNext, fillNext, decoderNext   the stream's part, the fill and the memory after a step that is taken
+--   delivered, delivery     the record of such a step, and its answer
 --   decodeAnswer, decodeMemory   answer and memory of any step
 --   DecoderFormed t s       the memory is well-formed
 use mathlib.Core.Path.{_≡_}
@@ -25,7 +27,7 @@ use Rattle.link.specs.declared.decoder.Mark.{Mark}
 use Rattle.link.specs.declared.decoder.Delivered.{Delivered}
 use Rattle.link.specs.declared.decoder.DecodeAnswer.{DecodeAnswer}
 use Rattle.link.specs.declared.decoder.DecodeAnswer.the-variants.{Delivery, NothingYet, Refused}
-use Rattle.link.specs.Stream.{joining, nextPending, received, rawTerm, register, found, errorOf, keptOf, markOf, nextTurn}
+use Rattle.link.specs.Stream.{joining, nextPending, information, rawTerm, register, found, errorOf, keptOf, markOf, nextTurn}
 use Rattle.link.specs.Coder.{infoRows, turnOf}
 
 -- "Decoder: 2 + m × (N + 1) words"
@@ -70,7 +72,7 @@ decoderFault t s r =
 
 -- the four lines of a decoding step, at the turn's stream
 unfoldable pub decoderJoining : Table → List ℕ → ℕ → ℕ
-decoderJoining t s r = joining (infoRows t) (pendingOf t s (turnOf s)) (received (t .symbols) r)
+decoderJoining t s r = joining (infoRows t) (pendingOf t s (turnOf s)) (information (t .symbols) r)
 
 unfoldable pub decoderRegister : Table → List ℕ → ℕ → ℕ
 decoderRegister t s r =
@@ -85,7 +87,7 @@ decoderFound t s r = found (rowsOf t) (decoderRegister t s r)
 unfoldable pub partNext : Table → List ℕ → ℕ → List ℕ
 partNext t s r =
     nextPending (decoderJoining t s r) ∷ keptOf (decoderFound t s r) (decoderRegister t s r)
-    ∷ (drop (streamAt t (turnOf s) + 3) (take (streamAt t (turnOf s) + (t .span + 1)) s) ++ (received (t .symbols) r ∷ []))
+    ∷ (drop (streamAt t (turnOf s) + 3) (take (streamAt t (turnOf s) + (t .span + 1)) s) ++ (information (t .symbols) r ∷ []))
 
 abbrev pub fillNext : Table → ℕ → ℕ
 fillNext t fill = cond (ltb fill (delayOf t)) (fill + 1) fill
@@ -99,7 +101,7 @@ decoderNext t s r =
 -- and fill grows by one. Blocks from before the start are judged too." The information is corrected, so e without its parity symbol.
 unfoldable pub delivered : Table → List ℕ → ℕ → Delivered
 delivered t s r = record {
-  info = delayedOf t s (turnOf s) 0 ⊕ received (t .symbols) (errorOf (decoderFound t s r));
+  info = delayedOf t s (turnOf s) 0 ⊕ information (t .symbols) (errorOf (decoderFound t s r));
   mark = markOf (decoderFound t s r) (decoderRegister t s r);
 }
 

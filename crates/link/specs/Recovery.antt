@@ -3,11 +3,13 @@
 --   SameTable u t            u and t have the same n, N, m and rows 1 to n − 1
 --   Origin t                 t is an accepted or a made table
 --   Wrong sent taken p       taken block p is not sent block p
---   Burst wrong length b     b is a burst: a stretch of at most that many places that begins and ends with a wrong one
---   Chosen wrong length gap bs   bursts in order, with at least `gap` places between one and the next
---   Covered wrong count bs   every wrong place lies in a chosen one
+--   Burst wrong long count b a stretch of at most `long` places, none past `count`, that begins and ends with a wrong one
+--   Apart gap b bs           at least `gap` places lie between b and the first of bs
+--   Chosen wrong long gap count bs   bursts in order, so far apart
+--   Within p bs              place p lies in one of them
+--   Bursts wrong long gap count   bursts can be so chosen that every wrong place lies in one
 --   Fades                    all the premises
---   Right sent taken delay p   what the step at place p answers
+--   Right sent taken delay p what the step at place p answers
 --   RECOVERY                 the theorem
 use mathlib.Core.Path.{_≡_}
 use mathlib.Core.Logic.{_≢_, _⊎_}

@@ -3,7 +3,7 @@
 --
 --   joining infos pending info    the word w of a step
 --   nextPending w                 the pending word that it leaves
---   received n r, flag n r        information and parity of a received block
+--   information n r, parity n r   information and parity of a received block
 --   rawTerm w n r                 the raw term of the syndrome
 --   register N syndrome raw       the register
 --   found rows x                  the least error block whose image is the register, or none
@@ -32,15 +32,15 @@ abbrev pub nextPending : ℕ → ℕ
 nextPending w = w / 2
 
 -- symbol n is the parity, of weight 2^(n−1); the information is what is below it
-abbrev pub received : ℕ → ℕ → ℕ
-received n r = r % 2 ^ (n - 1)
+abbrev pub information : ℕ → ℕ → ℕ
+information n r = r % 2 ^ (n - 1)
 
-abbrev pub flag : ℕ → ℕ → Bool
-flag n r = bit (n - 1) r
+abbrev pub parity : ℕ → ℕ → Bool
+parity n r = bit (n - 1) r
 
 -- 1. "The raw term is the parity of received information, exclusive or received parity."
 abbrev pub rawTerm : ℕ → ℕ → ℕ → Bool
-rawTerm w n r = xor (odd w) (flag n r)
+rawTerm w n r = xor (odd w) (parity n r)
 
 -- 2. "The register is the syndrome word with the raw term as bit N − 1."
 abbrev pub register : ℕ → ℕ → Bool → ℕ
