@@ -19,6 +19,7 @@ use Rattle.span.specs.Word.{_⊕_, odd, bit, digit}
 use Rattle.tables.specs.declared.table.Table.{Table}
 use Rattle.tables.specs.Table.{fit}
 use Rattle.tables.specs.Format.{firstOf}
+use Rattle.tables.proofs.Laws.{first-none}
 use Rattle.tables.proofs.Bounds.{fit-facts}
 use Rattle.link.specs.declared.decoder.Delivered.{Delivered}
 use Rattle.link.specs.declared.decoder.DecodeAnswer.{DecodeAnswer}
@@ -28,11 +29,6 @@ use Rattle.link.specs.Coder.{infoRows, coderWords, turnOf, pendingAt, co
 use Rattle.link.specs.Decoder.{decoderWords, fillOf, delayOf, pendingOf, syndromeOf, delayedOut, decoderMalformed, decoderFault, decoderJoining, decoderRegister, decoderFound, partNext, fillNext, decoderNext, delivered, delivery}
 
 -- ---- no refusal applies
-
-first-none : (k : ℕ) (b : Bool) (bs : List Bool) → 1 ≤ k → firstOf k (b ∷ bs) ≡ 0 → (b ≡ false) × (firstOf (suc k) bs ≡ 0)
-unfolding firstOf
-first-none k true bs h e = absurd (omega arith)
-first-none k false bs h e = (refl, e)
 
 or-none : (s t : Bool) → s || t ≡ false → (s ≡ false) × (t ≡ false)
 or-none true t e = let z : _≡_ {A = ℕ} 0 1 = cc in absurd (omega arith)

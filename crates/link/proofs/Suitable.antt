@@ -4,7 +4,6 @@ use mathlib.Core.Path.{_≡_, refl, sym, ap, _∙_, subst}
 use mathlib.Core.Logic.{_⊎_, inl, inr}
 use mathlib.Core.List.{List}
 use Prim.Native.Nat.{ℕ, suc, _^_, _≤_, _<_, zero-le}
-use native.Mathlib.Nat.{eq-zero-or-pos}
 use native.Mathlib.Omega.{arith}
 use lib.ListN.{length}
 use lib.Pow.{pow-pos}
@@ -14,7 +13,8 @@ use Rattle.span.specs.Word.{_⊕_, shifted}
 use Rattle.span.specs.Combination.{combination, Below}
 use Rattle.span.specs.Relation.{leastCoefficients, IsLeast}
 use Rattle.span.proofs.Laws.{xor-eq, xor-self, xor-lt, shifted-zero, combination-zero, combination-xor, combination-lt, least-coefficients}
-use Rattle.tables.specs.Code.{image, shiftedImage, Suitable}
+use Rattle.tables.specs.Code.{Suitable}
+use Rattle.tables.proofs.Laws.{alike}
 
 -- The rows of a code of n symbols and span w + 1: those of the information, and the parity's, 1.
 pub record Corrects (n w : ℕ) (rows : List ℕ) : Type 0 where
@@ -28,26 +28,10 @@ module _ (w : ℕ) (rows : List ℕ) (some : 1 ≤ w) (suits : Suitable (suc w) 
   least-is : (x : ℕ) (f : Least) → leastCoefficients rows x ≡ f → IsLeast (λ (c : ℕ). combination rows c ≡ x) 0 (2 ^ length rows) f
   least-is x f e = subst (IsLeast (λ (c : ℕ). combination rows c ≡ x) 0 (2 ^ length rows)) e (least-coefficients rows x)
 
-  -- a block whose image is a shifted image is 0
-  unlike : (l c e : ℕ) → 1 ≤ l → l ≤ w → c < 2 ^ length rows → e < 2 ^ length rows → combination rows c ≡ shifted (suc w) l (combination rows e) → c ≡ 0
-  unfolding image shiftedImage
-  unlike l c e from to hc he alike = go (eq-zero-or-pos c)
-    where
-      go : ((c ≡ 0) ⊎ (0 < c)) → c ≡ 0
-      go (inl z) = z
-      go (inr p) = absurd (suits l c e (record {
-        shift-from = from;
-        shift-to = omega arith;
-        first-some = λ (z : c ≡ 0). omega arith;
-        first-block = hc;
-        second-block = he;
-        alike = alike;
-      }))
-
   -- the rows are independent: e1 = 0 is allowed in a clash
   rows-independent : (c : ℕ) → c < 2 ^ length rows → combination rows c ≡ 0 → c ≡ 0
   rows-independent c h e =
-      unlike 1 c 0 (omega arith) some h (pow-pos (length rows))
+      alike (suc w) rows suits 1 c 0 (omega arith) (omega arith) h (pow-pos (length rows))
       (e ∙ sym (ap (shifted (suc w) 1) (combination-zero rows) ∙ shifted-zero (suc w) 1))
 
   same-image : (c e : ℕ) → c < 2 ^ length rows → e < 2 ^ length rows → combination rows c ≡ combination rows e → c ≡ e
@@ -67,7 +51,7 @@ module _ (w : ℕ) (rows : List ℕ) (some : 1 ≤ w) (suits : Suitable (suc w) 
   suitable-shifted l e from to h (Found c) q =
       let x = shifted (suc w) l (combination rows e) in
       let r = least-is x (Found c) q in
-      let none = unlike l c e from to (r .1) h (r .2) in
+      let none = alike (suc w) rows suits l c e from (omega arith) (r .1) h (r .2) in
       inl (sym (r .2) ∙ ap (combination rows) none ∙ combination-zero rows, ap Found none)
   suitable-shifted l e from to h Missing q = inr refl
 

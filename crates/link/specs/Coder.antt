@@ -10,7 +10,7 @@
 --   codeAnswer, codeMemory   answer and memory of any step
 --   CoderFormed t s       the memory is well-formed
 use mathlib.Core.Path.{_≡_}
-use mathlib.Core.Bool.{Bool, true, false, cond, not, _||_}
+use mathlib.Core.Bool.{Bool, true, false, not, _||_}
 use mathlib.Core.List.{List, [], _∷_}
 use Prim.Native.Nat.{ℕ, _+_, _-_, _*_, _^_, _<_}
 use lib.Dec.{leb, eqb}
@@ -54,14 +54,15 @@ codedBlock t s b = b + digit (odd (coderJoining t s b)) * 2 ^ (t .symbols - 1)
 unfoldable pub coderNext : Table → List ℕ → ℕ → List ℕ
 coderNext t s b = set (set s (1 + turnOf s) (nextPending (coderJoining t s b))) 0 (nextTurn (t .depth) (turnOf s))
 
--- "It writes no lent word, so a sequence goes on as if the call had not come."
+-- "A refusal returns its number"
 unfoldable pub codeAnswer : Table → List ℕ → ℕ → CodeAnswer
 codeAnswer t s b = elim (eqb (coderFault t s b) 0) [ true ↦ Coded (codedBlock t s b) | false ↦ Refused (coderFault t s b) ]
 
+-- "It writes no lent word, so a sequence goes on as if the call had not come."
 unfoldable pub codeMemory : Table → List ℕ → ℕ → List ℕ
 codeMemory t s b = elim (eqb (coderFault t s b) 0) [ true ↦ coderNext t s b | false ↦ s ]
 
--- "A state is well-formed if 14 would refuse it for no stream."
+-- "A state is well-formed if 14 would refuse it for no stream." It has the length that 13 asks for.
 pub record CoderFormed (t : Table) (s : List ℕ) : Type 0 where
   pub size : length s ≡ coderWords t
   pub turn : turnOf s < t .depth

@@ -5,6 +5,7 @@
 --   fillOf s, delayOf t     the fill, and where it is complete
 --   streamAt t k            where the part of stream k begins; it has N + 1 words
 --   pendingOf, syndromeOf, delayedOf   the words of stream k
+--   delayedOut t s k i      whether one of the first i delayed blocks is 2^(n−1) or more
 --   decoderMalformed t s    the condition of refusal 14
 --   decoderFault t s r      the first of refusals 12 to 15 that applies to a step, or 0
 --   decoderJoining, decoderRegister, decoderFound   w, the register, and the error found
@@ -23,7 +24,6 @@ use Rattle.span.specs.Word.{_⊕_}
 use Rattle.tables.specs.declared.table.Table.{Table}
 use Rattle.tables.specs.Table.{rowsOf, fit}
 use Rattle.tables.specs.Format.{firstOf}
-use Rattle.link.specs.declared.decoder.Mark.{Mark}
 use Rattle.link.specs.declared.decoder.Delivered.{Delivered}
 use Rattle.link.specs.declared.decoder.DecodeAnswer.{DecodeAnswer}
 use Rattle.link.specs.declared.decoder.DecodeAnswer.the-variants.{Delivery, NothingYet, Refused}
@@ -108,13 +108,14 @@ delivered t s r = record {
 unfoldable pub delivery : Table → List ℕ → ℕ → DecodeAnswer
 delivery t s r = elim (ltb (fillOf s) (delayOf t)) [ true ↦ NothingYet | false ↦ Delivery (delivered t s r) ]
 
+-- "A refusal returns its number. .. It writes no lent word"
 unfoldable pub decodeAnswer : Table → List ℕ → ℕ → DecodeAnswer
 decodeAnswer t s r = elim (eqb (decoderFault t s r) 0) [ true ↦ delivery t s r | false ↦ Refused (decoderFault t s r) ]
 
 unfoldable pub decodeMemory : Table → List ℕ → ℕ → List ℕ
 decodeMemory t s r = elim (eqb (decoderFault t s r) 0) [ true ↦ decoderNext t s r | false ↦ s ]
 
--- "A state is well-formed if 14 would refuse it for no stream."
+-- "A state is well-formed if 14 would refuse it for no stream." It has the length that 13 asks for.
 pub record DecoderFormed (t : Table) (s : List ℕ) : Type 0 where
   pub size : length s ≡ decoderWords t
   pub turn : turnOf s < t .depth

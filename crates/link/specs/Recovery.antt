@@ -9,13 +9,13 @@
 --   Within p bs              place p lies in one of them
 --   Bursts wrong long gap count   bursts can be so chosen that every wrong place lies in one
 --   Fades                    all the premises
---   Right sent taken delay p what the step at place p answers
+--   Recovered sent taken delay p   what the step at place p answers
 --   RECOVERY                 the theorem
 use mathlib.Core.Path.{_≡_}
 use mathlib.Core.Logic.{_≢_, _⊎_}
 use mathlib.Core.List.{List, [], _∷_}
 use Prim.Native.Nat.{ℕ, _+_, _-_, _*_, _≤_, _<_}
-use lib.ListN.{length, getD, take}
+use lib.ListN.{length, take}
 use Rattle.tables.specs.declared.table.Table.{Table}
 use Rattle.tables.specs.declared.read.Reading.{Reading}
 use Rattle.tables.specs.declared.read.ReadAnswer.the-variants.{Accepted}
@@ -93,16 +93,16 @@ pub record Fades (t : Table) (coder decoder : List ℕ) (cs ds : List Call) : Ty
   pub enough : length (takenBy decoder ds) ≤ length (sentBy coder cs)
   -- "Places 1 to 2 × m × (N − 1) are right."
   pub guard : (p : ℕ) → 1 ≤ p → p ≤ 2 * delayOf t → p ≤ length (takenBy decoder ds) → takenAt (takenBy decoder ds) p .block ≡ sentAt (sentBy coder cs) p .block
-  -- bursts within m blocks with m × (N − 1) right ones between
+  -- bursts within m blocks with at least m × (N − 1) right ones between
   pub bursts : Bursts (Wrong (sentBy coder cs) (takenBy decoder ds)) (t .depth) (delayOf t) (length (takenBy decoder ds))
 
 -- "that step's answer is a record whose information equals the information sent in block p − m × (N − 1), with a mark other than doubtful"
-abbrev pub Right : List Sent → List Taken → ℕ → ℕ → Type 0
-Right sent taken delay p =
+abbrev pub Recovered : List Sent → List Taken → ℕ → ℕ → Type 0
+Recovered sent taken delay p =
     (mark : Mark) × (takenAt taken p .answer ≡ Delivery (record { info = sentAt sent (p - delay) .info; mark = mark })) × (mark ≢ Doubtful)
 
 -- "Then for each p above 2 × m × (N − 1) at which a block is taken"
 abbrev pub RECOVERY : Type 0
 RECOVERY =
     (t : Table) (coder decoder : List ℕ) (cs ds : List Call) → Fades t coder decoder cs ds
-    → (p : ℕ) → 2 * delayOf t < p → p ≤ length (takenBy decoder ds) → Right (sentBy coder cs) (takenBy decoder ds) (delayOf t) p
+    → (p : ℕ) → 2 * delayOf t < p → p ≤ length (takenBy decoder ds) → Recovered (sentBy coder cs) (takenBy decoder ds) (delayOf t) p

@@ -1,9 +1,10 @@
 -- The question of refusal 10 at one shift is one about the least relation: among the shifted rows and the rows, a relation from n on is a
 -- clash, e0 above and e1 below. Assumes nothing.
 use mathlib.Core.Path.{_≡_, refl, sym, ap, ap₂, _∙_, subst}
+use mathlib.Core.Logic.{_⊎_, inl, inr}
 use mathlib.Core.List.{List, [], _∷_, _++_, map}
 use Prim.Native.Nat.{ℕ, _+_, _-_, _*_, _/_, _%_, _^_, _≤_, _<_}
-use native.Mathlib.Nat.{mod-lt, zero-mul, one-mul, mul-le-mul-right}
+use native.Mathlib.Nat.{eq-zero-or-pos, mod-lt, zero-mul, one-mul, mul-le-mul-right}
 use native.Mathlib.Omega.{arith}
 use lib.Arith.{digits-lt}
 use lib.ListN.{length, take, length-append, length-map}
@@ -16,11 +17,26 @@ use Rattle.span.specs.Combination.{combination, Relation, counted}
 use Rattle.span.specs.Relation.{leastRelation, IsLeast}
 use Rattle.span.proofs.Laws.{xor-eq, xor-self, shifted-zero, shifted-xor, combination-append, combination-map, combination-low, combination-pow, combination-xor, least-relation}
 use Rattle.tables.specs.Code.{image, shiftedImage, Clashes}
-use Rattle.tables.specs.Laws.{IMAGE}
+use Rattle.tables.specs.Laws.{IMAGE, ALIKE}
 
 pub images : IMAGE
 unfolding image
 images rows = (λ j. combination-pow rows (j - 1), combination-xor rows)
+
+pub alike : ALIKE
+unfolding image shiftedImage
+alike N rows suits l e0 e1 from to h0 h1 same = go (eq-zero-or-pos e0)
+  where
+    go : ((e0 ≡ 0) ⊎ (0 < e0)) → e0 ≡ 0
+    go (inl z) = z
+    go (inr p) = absurd (suits l e0 e1 (record {
+      shift-from = from;
+      shift-to = to;
+      first-some = λ (z : e0 ≡ 0). omega arith;
+      first-block = h0;
+      second-block = h1;
+      alike = same;
+    }))
 
 module _ (N : ℕ) (rows : List ℕ) (l : ℕ) where
   abbrev pub clashWords : List ℕ

@@ -18,6 +18,7 @@ use lib.Seq.{drop-drop}
 use borrow.Author.Tests.{ltb-true, ltb-false, leb-true, leb-false, eqb-true, eqb-false, not-false, eq-eqb, ne-eqb, lt-ltb, le-ltb}
 use lib.Dec.{leb, ltb, eqb}
 use Rattle.tables.specs.Format.{kind, size, word, rowWord, allGiven, taken, firstOf, fault, place, begun, after, refused, parsed, parseFrom, parse}
+use Rattle.tables.specs.Laws.{FIRST-NONE}
 use Rattle.tables.specs.declared.read.Progress.{Progress}
 use Rattle.tables.specs.Table.{sizesFit}
 
@@ -88,6 +89,11 @@ size-sizes k e = rw e
 pub size-row : (k : ℕ) → k ≡ 2 → size k ≡ 10
 unfolding size
 size-row k e = rw e
+
+pub first-none : FIRST-NONE
+unfolding firstOf
+first-none k true bs h e = absurd (omega arith)
+first-none k false bs h e = (refl, e)
 
 -- the tests of the other kinds do not apply
 first-sizes : (a b : Bool) → firstOf 4 (a ∷ b ∷ false ∷ false ∷ false ∷ false ∷ []) ≡ cond a 4 (cond b 5 0)

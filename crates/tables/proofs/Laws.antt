@@ -1,9 +1,10 @@
 -- The theorems that a layer above may use of `tables`, stated in `specs/`, each proved in the file that the right side names. Assumes nothing.
 use Rattle.tables.specs.Reading.{ACCEPTED-SUITABLE, SUITABLE-ACCEPTED, REFUSED-NUMBERS, REFUSED-UNSUITABLE, UNSUITABLE-NUMBERS}
 use Rattle.tables.specs.Written.{PARSES-EXACTLY}
-use Rattle.tables.specs.Laws.{IMAGE, NESTED, NESTED-ROWS, FILLING, FORCED, UNIQUE, MADE, MADE-DEPTH, NOT-MADE}
+use Rattle.tables.specs.Laws.{IMAGE, ALIKE, FIRST-NONE, NESTED, NESTED-ROWS, FILLING, FORCED, UNIQUE, MADE, MADE-DEPTH, NOT-MADE}
 use Rattle.tables.specs.Examples.{EXAMPLES}
 use Rattle.tables.proofs.Clash as Clash
+use Rattle.tables.proofs.Format as Format
 use Rattle.tables.proofs.Reading as Reading
 use Rattle.tables.proofs.Written as Written
 use Rattle.tables.proofs.Triangle as Triangle
@@ -16,7 +17,13 @@ use Rattle.tables.proofs.Examples as Examples
 pub images : IMAGE
 images = Clash.images
 
+pub alike : ALIKE
+alike = Clash.alike
+
 -- ---- reading
+
+pub first-none : FIRST-NONE
+first-none = Format.first-none
 
 pub accepted-suitable : ACCEPTED-SUITABLE
 accepted-suitable = Reading.accepted-suitable

@@ -5,11 +5,13 @@
 --   word s k c             the number of c bytes of s from place k on, low byte first
 --   rowWord s              the row of a row record
 --   progress, begun        the table so far and the rows given; before the first record
+--   allGiven, taken        whether all rows were given, and whether a row number is none or was given
 --   ended s .. followed s  a test for each of 1 to 9
---   fault g s              the first of them that applies, or 0
+--   firstOf k bs           the number of the first test that applies, counted from k, or 0
+--   fault g s              that of 1 to 9, or 0
 --   place k p              the place of refusal k at a record that begins at p
 --   sized, rowed, after    the progress after a sizes record, after a row record, and after either
---   parse bytes            refused, with number and place, or the table
+--   parseFrom, parse bytes refused, with number and place, or the table
 use mathlib.Core.Bool.{Bool, true, false, cond, not, _&&_, _||_}
 use mathlib.Core.List.{List, [], _∷_}
 use Prim.Native.Nat.{ℕ, zero, suc, _+_, _-_, _*_, _^_}

@@ -1,6 +1,8 @@
 -- What the crate proves of tables. `proofs/Laws` has a proof of each.
 --
 --   IMAGE         the image of one symbol is its row, and images are linear
+--   ALIKE         in a suitable table only the zero block has a shifted image as its image
+--   FIRST-NONE    no refusal is the first that applies only if none applies
 --   NESTED        the triangle for n is the one for n − 1 with column n added
 --   MADE          a made table has the sizes asked for and N = 2n, is fit and suitable, and has the rows of our triangle
 --   MADE-DEPTH    making with another depth changes only the depth
@@ -10,15 +12,17 @@
 --   FORCED        with our columns before it, a column makes its size suitable exactly if it is ours
 --   UNIQUE        a triangle all of whose sizes are suitable is ours
 use mathlib.Core.Path.{_≡_}
-use mathlib.Core.Bool.{true, false}
+use mathlib.Core.Bool.{Bool, true, false}
 use mathlib.Core.Logic.{_↔_}
 use mathlib.Core.List.{List, [], _∷_, _++_}
 use Prim.Native.Nat.{ℕ, suc, _+_, _-_, _*_, _^_, _≤_, _<_}
 use lib.ListN.{length, getD, take}
-use Rattle.span.specs.Word.{_⊕_, bit, digit}
+use Rattle.span.specs.Word.{_⊕_, bit, digit, shifted}
+use Rattle.span.specs.Combination.{combination}
 use Rattle.tables.specs.Code.{weight, image, Suitable}
 use Rattle.tables.specs.declared.make.MakeAnswer.the-variants.{Made}
 use Rattle.tables.specs.Table.{table, zeroTable, rowsOf, sizesFit, fit}
+use Rattle.tables.specs.Format.{firstOf}
 use Rattle.tables.specs.Made.{columns, madeRow, triangleRows, Triangle, making, madeNumbers}
 
 -- In both, the smaller table has n = suc (length cs) symbols, and the new column a is column n + 1.
@@ -67,3 +71,11 @@ NOT-MADE = (n m : ℕ) → sizesFit n 2 m ≡ false → (madeNumbers (making n m
 abbrev pub IMAGE : Type 0
 IMAGE = (rows : List ℕ)
     → ((j : ℕ) → image rows (weight j) ≡ getD rows (j - 1) 0) × ((e d : ℕ) → image rows (e ⊕ d) ≡ image rows e ⊕ image rows d)
+
+-- Suitability in terms of combinations, for a layer that works with those.
+abbrev pub ALIKE : Type 0
+ALIKE = (N : ℕ) (rows : List ℕ) → Suitable N rows → (l e0 e1 : ℕ) → 1 ≤ l → l < N → e0 < 2 ^ length rows → e1 < 2 ^ length rows
+    → combination rows e0 ≡ shifted N l (combination rows e1) → e0 ≡ 0
+
+abbrev pub FIRST-NONE : Type 0
+FIRST-NONE = (k : ℕ) (b : Bool) (bs : List Bool) → 1 ≤ k → firstOf k (b ∷ bs) ≡ 0 → (b ≡ false) × (firstOf (suc k) bs ≡ 0)
