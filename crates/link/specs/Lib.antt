@@ -1,5 +1,6 @@
 -- `link`: coder and decoder on lent memory, runs of their steps, and recovery after a fade.
 pub mod Stream
+pub mod Start
 pub mod Coder
 pub mod Decoder
 pub mod Runs

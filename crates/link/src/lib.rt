@@ -1,3 +1,4 @@
 // The link: coder and decoder on lent memory.
 pub mod coder;
 pub mod decoder;
+pub mod start;
