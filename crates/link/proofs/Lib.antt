@@ -1,4 +1,5 @@
 -- Why the definitions of the link have the properties that 01 asks for; the lowest file first.
+mod Faults
 mod Suitable
 mod Origin
 mod Step

@@ -28,7 +28,9 @@ pub record Fitting (t : Table) : Type 0 where
   pub n-from : 2 ≤ t .symbols
   pub n-to : t .symbols ≤ 16
   pub N-from : 2 ≤ t .span
+  pub N-to : t .span ≤ 64
   pub m-from : 1 ≤ t .depth
+  pub m-to : t .depth ≤ 64
   pub below : Below (t .span) (take (t .symbols - 1) (t .rows))
 
 pub fit-facts : (t : Table) → fit t ≡ true → Fitting t
@@ -39,7 +41,9 @@ fit-facts t e =
       n-from = z .n-from;
       n-to = z .n-to;
       N-from = z .N-from;
+      N-to = z .N-to;
       m-from = z .m-from;
+      m-to = z .m-to;
       below = rows-below (t .span) (take (t .symbols - 1) (t .rows))
           (and-right (sizesFit (t .symbols) (t .span) (t .depth)) (rowsFit (t .span) (take (t .symbols - 1) (t .rows))) e);
     }

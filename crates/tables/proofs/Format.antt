@@ -18,7 +18,7 @@ use lib.Seq.{drop-drop}
 use borrow.Author.Tests.{ltb-true, ltb-false, leb-true, leb-false, eqb-true, eqb-false, not-false, eq-eqb, ne-eqb, lt-ltb, le-ltb}
 use lib.Dec.{leb, ltb, eqb}
 use Rattle.tables.specs.Format.{kind, size, word, rowWord, allGiven, taken, firstOf, fault, place, begun, after, refused, parsed, parseFrom, parse}
-use Rattle.tables.specs.Laws.{FIRST-NONE}
+use Rattle.tables.specs.Laws.{FIRST, FIRST-NONE}
 use Rattle.tables.specs.declared.read.Progress.{Progress}
 use Rattle.tables.specs.Table.{sizesFit}
 
@@ -89,6 +89,15 @@ size-sizes k e = rw e
 pub size-row : (k : ℕ) → k ≡ 2 → size k ≡ 10
 unfolding size
 size-row k e = rw e
+
+first-pick : (k : ℕ) (b : Bool) (bs : List Bool) → firstOf k (b ∷ bs) ≡ cond b k (firstOf (suc k) bs)
+unfolding firstOf
+first-pick k true bs = refl
+first-pick k false bs = refl
+
+pub first : FIRST
+unfolding firstOf
+first k = (refl, first-pick k)
 
 pub first-none : FIRST-NONE
 unfolding firstOf

@@ -1,7 +1,7 @@
 -- The theorems that a layer above may use of `tables`, stated in `specs/`, each proved in the file that the right side names. Assumes nothing.
 use Rattle.tables.specs.Reading.{ACCEPTED-SUITABLE, SUITABLE-ACCEPTED, REFUSED-NUMBERS, REFUSED-UNSUITABLE, UNSUITABLE-NUMBERS}
 use Rattle.tables.specs.Written.{PARSES-EXACTLY}
-use Rattle.tables.specs.Laws.{IMAGE, ALIKE, FIRST-NONE, NESTED, NESTED-ROWS, FILLING, FORCED, UNIQUE, MADE, MADE-DEPTH, NOT-MADE}
+use Rattle.tables.specs.Laws.{IMAGE, ALIKE, FIRST, FIRST-NONE, NESTED, NESTED-ROWS, FILLING, FORCED, UNIQUE, MADE, MADE-DEPTH, NOT-MADE}
 use Rattle.tables.specs.Examples.{EXAMPLES}
 use Rattle.tables.proofs.Clash as Clash
 use Rattle.tables.proofs.Format as Format
@@ -21,6 +21,9 @@ pub alike : ALIKE
 alike = Clash.alike
 
 -- ---- reading
+
+pub first : FIRST
+first = Format.first
 
 pub first-none : FIRST-NONE
 first-none = Format.first-none

@@ -2,6 +2,7 @@
 --
 --   IMAGE         the image of one symbol is its row, and images are linear
 --   ALIKE         in a suitable table only the zero block has a shifted image as its image
+--   FIRST         the first refusal that applies is that of the first test, or else of those after it
 --   FIRST-NONE    no refusal is the first that applies only if none applies
 --   NESTED        the triangle for n is the one for n − 1 with column n added
 --   MADE          a made table has the sizes asked for and N = 2n, is fit and suitable, and has the rows of our triangle
@@ -12,7 +13,7 @@
 --   FORCED        with our columns before it, a column makes its size suitable exactly if it is ours
 --   UNIQUE        a triangle all of whose sizes are suitable is ours
 use mathlib.Core.Path.{_≡_}
-use mathlib.Core.Bool.{Bool, true, false}
+use mathlib.Core.Bool.{Bool, true, false, cond}
 use mathlib.Core.Logic.{_↔_}
 use mathlib.Core.List.{List, [], _∷_, _++_}
 use Prim.Native.Nat.{ℕ, suc, _+_, _-_, _*_, _^_, _≤_, _<_}
@@ -76,6 +77,9 @@ IMAGE = (rows : List ℕ)
 abbrev pub ALIKE : Type 0
 ALIKE = (N : ℕ) (rows : List ℕ) → Suitable N rows → (l e0 e1 : ℕ) → 1 ≤ l → l < N → e0 < 2 ^ length rows → e1 < 2 ^ length rows
     → combination rows e0 ≡ shifted N l (combination rows e1) → e0 ≡ 0
+
+abbrev pub FIRST : Type 0
+FIRST = (k : ℕ) → (firstOf k [] ≡ 0) × ((b : Bool) (bs : List Bool) → firstOf k (b ∷ bs) ≡ cond b k (firstOf (suc k) bs))
 
 abbrev pub FIRST-NONE : Type 0
 FIRST-NONE = (k : ℕ) (b : Bool) (bs : List Bool) → 1 ≤ k → firstOf k (b ∷ bs) ≡ 0 → (b ≡ false) × (firstOf (suc k) bs ≡ 0)
