@@ -1,4 +1,6 @@
 -- Why the definitions of the link have the properties that 01 asks for; the lowest file first.
+mod Words
+mod Parts
 mod Faults
 mod Suitable
 mod Origin

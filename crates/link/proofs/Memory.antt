@@ -1,8 +1,10 @@
 -- What a step that is taken does to each word, as records over n, N, m and the information's rows: nothing else of a table counts. Assumes
 -- nothing.
 --
---   CoderStep, coder-step       of the coder
---   DecoderStep, decoder-step   of the decoder
+--   CoderTaken, coder-taken       what the tests of a coder step that is taken say
+--   CoderStep, coder-step         what the step does
+--   DecoderTaken, decoder-taken   the same of the decoder
+--   DecoderStep, decoder-step
 use mathlib.Core.Path.{_≡_, refl, sym, ap, ap₂, _∙_}
 use mathlib.Core.Bool.{Bool, true, false, cond, not, xor, _||_}
 use mathlib.Core.Logic.{_≢_}
@@ -11,20 +13,22 @@ use Prim.Native.Nat.{ℕ, suc, _+_, _-_, _*_, _/_, _%_, _^_, _≤_, _<_}
 use native.Mathlib.Nat.{add-zero, mul-le-mul-right, suc-mul}
 use native.Mathlib.Decide.{decLt}
 use native.Mathlib.Omega.{arith}
-use borrow.Author.Tests.{not-false, eqb-true, leb-false, le-ltb}
+use borrow.Author.Tests.{not-false, eqb-true, leb-false, ltb-false, le-ltb}
 use lib.Dec.{leb, ltb, eqb}
 use lib.ListN.{length, getD, set, take, drop, length-append, length-set, length-drop, List·getD-append}
 use lib.Seq.{getD-set-same, getD-set-other, length-take-le, getD-append-add, getD-take, getD-drop, getD-at}
+use lib.Pow.{pow-mono}
 use Rattle.span.specs.Word.{_⊕_, odd, bit, digit}
 use Rattle.tables.specs.declared.table.Table.{Table}
 use Rattle.tables.specs.Table.{fit}
 use Rattle.tables.specs.Format.{firstOf}
 use Rattle.tables.proofs.Laws.{first-none}
-use Rattle.tables.proofs.Bounds.{fit-facts}
+use Rattle.tables.proofs.Bounds.{Fitting, fit-facts}
 use Rattle.link.specs.declared.decoder.Delivered.{Delivered}
 use Rattle.link.specs.declared.decoder.DecodeAnswer.{DecodeAnswer}
 use Rattle.link.specs.declared.decoder.DecodeAnswer.the-variants.{Delivery, NothingYet}
 use Rattle.link.specs.Stream.{joining, found, errorOf, keptOf, markOf, nextTurn}
+use Rattle.link.proofs.Words.{bit-most}
 use Rattle.link.specs.Coder.{infoRows, coderWords, turnOf, pendingAt, coderMalformed, coderFault, coderJoining, codedBlock, coderNext}
 use Rattle.link.specs.Decoder.{decoderWords, fillOf, delayOf, pendingOf, syndromeOf, delayedOut, decoderMalformed, decoderFault, decoderJoining, decoderRegister, decoderFound, partNext, fillNext, decoderNext, delivered, delivery}
 
@@ -44,6 +48,27 @@ four-none a b c d e =
 
 -- ---- the coder
 
+-- what the tests of a step that is taken say
+pub record CoderTaken (t : Table) (s : List ℕ) (b : ℕ) : Type 0 where
+  pub sizes : Fitting t
+  pub size : length s ≡ 1 + t .depth
+  pub turn : turnOf s < t .depth
+  pub pending : pendingAt s (turnOf s) < 2 ^ (t .span - 1)
+  pub info : b < 2 ^ (t .symbols - 1)
+
+pub coder-taken : (t : Table) (s : List ℕ) (b : ℕ) → coderFault t s b ≡ 0 → CoderTaken t s b
+unfolding coderFault
+coder-taken t s b e =
+    let f = four-none (not (fit t)) (not (eqb (length s) (coderWords t))) (coderMalformed t s) (leb (2 ^ (t .symbols - 1)) b) e in
+    let g = or-none (leb (t .depth) (turnOf s)) (leb (2 ^ (t .span - 1)) (pendingAt s (turnOf s))) (f .2) in
+    record {
+      sizes = fit-facts t (not-false (fit t) (f .0));
+      size = eqb-true (length s) (coderWords t) (not-false (eqb (length s) (coderWords t)) (f .1));
+      turn = leb-false (t .depth) (turnOf s) (g .0);
+      pending = leb-false (2 ^ (t .span - 1)) (pendingAt s (turnOf s)) (g .1);
+      info = leb-false (2 ^ (t .symbols - 1)) b (f .3);
+    }
+
 pub record CoderStep (n N m : ℕ) (infos : List ℕ) (s : List ℕ) (b c : ℕ) (after : List ℕ) : Type 0 where
   pub turn-lt : turnOf s < m
   pub pending-lt : pendingAt s (turnOf s) < 2 ^ (N - 1)
@@ -55,18 +80,17 @@ pub record CoderStep (n N m : ℕ) (infos : List ℕ) (s : List ℕ) (b c : ℕ)
 
 pub coder-step : (t : Table) (s : List ℕ) (b : ℕ) → coderFault t s b ≡ 0
     → CoderStep (t .symbols) (t .span) (t .depth) (infoRows t) s b (codedBlock t s b) (coderNext t s b)
-unfolding coderFault codedBlock coderNext coderJoining
+unfolding codedBlock coderNext coderJoining
 coder-step t s b e =
-    let f = four-none (not (fit t)) (not (eqb (length s) (coderWords t))) (coderMalformed t s) (leb (2 ^ (t .symbols - 1)) b) e in
-    let g = or-none (leb (t .depth) (turnOf s)) (leb (2 ^ (t .span - 1)) (pendingAt s (turnOf s))) (f .2) in
-    let size : length s ≡ 1 + t .depth = eqb-true (length s) (coderWords t) (not-false (eqb (length s) (coderWords t)) (f .1)) in
-    let turn = leb-false (t .depth) (turnOf s) (g .0) in
+    let k = coder-taken t s b e in
+    let size = k .size in
+    let turn = k .turn in
     let w = joining (infoRows t) (pendingAt s (turnOf s)) b / 2 in
     let to = nextTurn (t .depth) (turnOf s) in
     record {
       turn-lt = turn;
-      pending-lt = leb-false (2 ^ (t .span - 1)) (pendingAt s (turnOf s)) (g .1);
-      info-lt = leb-false (2 ^ (t .symbols - 1)) b (f .3);
+      pending-lt = k .pending;
+      info-lt = k .info;
       coded = refl;
       turn-on = getD-set-same (set s (1 + turnOf s) w) 0 to 0 (rw (length-set s (1 + turnOf s) w) (omega arith));
       own =
@@ -76,6 +100,17 @@ coder-step t s b e =
           getD-set-other (set s (1 + turnOf s) w) 0 (1 + k) to 0 (λ (z : 1 + k ≡ 0). omega arith)
           ∙ getD-set-other s (1 + turnOf s) (1 + k) w 0 (λ (z : 1 + k ≡ 1 + turnOf s). ne (omega arith));
     }
+
+-- the coded block has 16 bits at most
+pub coded-fits : (t : Table) (s : List ℕ) (b : ℕ) → coderFault t s b ≡ 0 → codedBlock t s b < 2 ^ 16
+unfolding codedBlock
+coded-fits t s b e =
+    let k = coder-taken t s b e in
+    let l = bit-most (odd (coderJoining t s b)) (t .symbols - 1) in
+    let n : suc (t .symbols - 1) ≤ 16 = omega arith in
+    let most = pow-mono n in
+    let i = k .info in
+    omega arith
 
 -- ---- the decoder
 
@@ -229,32 +264,35 @@ module _ (N m : ℕ) (s : List ℕ) (pending syndrome young fill to : ℕ) (from
           (omega (arith, mul-le-mul-right (N + 1) above, suc-mul (turnOf s) (N + 1)))
 
 -- what the tests of a step that is taken say
-record Taken (t : Table) (s : List ℕ) (r : ℕ) : Type 0 where
-  span-from : 2 ≤ t .span
-  size : length s ≡ 2 + t .depth * (t .span + 1)
-  turn : turnOf s < t .depth
-  pending : pendingOf t s (turnOf s) < 2 ^ (t .span - 1)
-  syndrome : syndromeOf t s (turnOf s) < 2 ^ (t .span - 1)
-  block : r < 2 ^ t .symbols
+pub record DecoderTaken (t : Table) (s : List ℕ) (r : ℕ) : Type 0 where
+  pub sizes : Fitting t
+  pub size : length s ≡ 2 + t .depth * (t .span + 1)
+  pub turn : turnOf s < t .depth
+  pub fill : fillOf s ≤ delayOf t
+  pub pending : pendingOf t s (turnOf s) < 2 ^ (t .span - 1)
+  pub syndrome : syndromeOf t s (turnOf s) < 2 ^ (t .span - 1)
+  pub delayed : delayedOut t s (turnOf s) (t .span - 1) ≡ false
+  pub block : r < 2 ^ t .symbols
 
-decoder-taken : (t : Table) (s : List ℕ) (r : ℕ) → decoderFault t s r ≡ 0 → Taken t s r
+pub decoder-taken : (t : Table) (s : List ℕ) (r : ℕ) → decoderFault t s r ≡ 0 → DecoderTaken t s r
 unfolding decoderFault
 decoder-taken t s r e =
     let N = t .span in
     let k = turnOf s in
     let f = four-none (not (fit t)) (not (eqb (length s) (decoderWords t))) (decoderMalformed t s) (leb (2 ^ t .symbols) r) e in
-    let z = fit-facts t (not-false (fit t) (f .0)) in
     let g4 = or-none (leb (t .depth) k || ltb (delayOf t) (fillOf s) || leb (2 ^ (N - 1)) (pendingOf t s k) || leb (2 ^ (N - 1)) (syndromeOf t s k))
     (delayedOut t s k (N - 1)) (f .2) in
     let g3 = or-none (leb (t .depth) k || ltb (delayOf t) (fillOf s) || leb (2 ^ (N - 1)) (pendingOf t s k)) (leb (2 ^ (N - 1)) (syndromeOf t s k)) (g4 .0) in
     let g2 = or-none (leb (t .depth) k || ltb (delayOf t) (fillOf s)) (leb (2 ^ (N - 1)) (pendingOf t s k)) (g3 .0) in
     let g1 = or-none (leb (t .depth) k) (ltb (delayOf t) (fillOf s)) (g2 .0) in
     record {
-      span-from = z .N-from;
+      sizes = fit-facts t (not-false (fit t) (f .0));
       size = eqb-true (length s) (decoderWords t) (not-false (eqb (length s) (decoderWords t)) (f .1));
       turn = leb-false (t .depth) k (g1 .0);
+      fill = ltb-false (delayOf t) (fillOf s) (g1 .1);
       pending = leb-false (2 ^ (N - 1)) (pendingOf t s k) (g2 .1);
       syndrome = leb-false (2 ^ (N - 1)) (syndromeOf t s k) (g3 .1);
+      delayed = g4 .1;
       block = leb-false (2 ^ t .symbols) r (f .3);
     }
 
@@ -270,19 +308,19 @@ decoder-step t s r e = record {
   pending-lt = k .pending;
   syndrome-lt = k .syndrome;
   block-lt = k .block;
-  turn-on = after-turn N (t .depth) s pending syndrome young fill to (k .span-from) (k .size) (k .turn);
-  fill-on = after-fill N (t .depth) s pending syndrome young fill to (k .span-from) (k .size) (k .turn);
+  turn-on = after-turn N (t .depth) s pending syndrome young fill to (k .sizes .N-from) (k .size) (k .turn);
+  fill-on = after-fill N (t .depth) s pending syndrome young fill to (k .sizes .N-from) (k .size) (k .turn);
   pending-on =
       ap (λ (i : ℕ). getD (decoderNext t s r) i 0) (sym (add-zero (streamIn N (turnOf s))))
-      ∙ after-own N (t .depth) s pending syndrome young fill to (k .span-from) (k .size) (k .turn) 0 (omega arith);
-  syndrome-on = after-own N (t .depth) s pending syndrome young fill to (k .span-from) (k .size) (k .turn) 1 (let h = k .span-from in omega arith);
-  delayed-on = after-moved N (t .depth) s pending syndrome young fill to (k .span-from) (k .size) (k .turn);
-  youngest = after-young N (t .depth) s pending syndrome young fill to (k .span-from) (k .size) (k .turn);
-  others = after-others N (t .depth) s pending syndrome young fill to (k .span-from) (k .size) (k .turn);
+      ∙ after-own N (t .depth) s pending syndrome young fill to (k .sizes .N-from) (k .size) (k .turn) 0 (omega arith);
+  syndrome-on = after-own N (t .depth) s pending syndrome young fill to (k .sizes .N-from) (k .size) (k .turn) 1 (let h = k .sizes .N-from in omega arith);
+  delayed-on = after-moved N (t .depth) s pending syndrome young fill to (k .sizes .N-from) (k .size) (k .turn);
+  youngest = after-young N (t .depth) s pending syndrome young fill to (k .sizes .N-from) (k .size) (k .turn);
+  others = after-others N (t .depth) s pending syndrome young fill to (k .sizes .N-from) (k .size) (k .turn);
   answers = λ h. complete (ltb (fillOf s) (delayOf t)) (delivered t s r) (le-ltb (fillOf s) (delayOf t) h);
 }
   where
-    k : Taken t s r
+    k : DecoderTaken t s r
     k = decoder-taken t s r e
 
     N : ℕ

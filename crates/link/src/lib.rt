@@ -2,3 +2,4 @@
 pub mod coder;
 pub mod decoder;
 pub mod start;
+pub mod stream;

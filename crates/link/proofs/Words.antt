@@ -1,0 +1,40 @@
+-- Words of 64 bits as the code has them: masks, and a bit shifted to its place. Assumes nothing.
+--
+--   above-mask    a word is above the mask of k places exactly if it is 2^k or more
+--   bit-most      a bit at place k is at most 2^k
+--   bit-shifted   no bit is lost where it is shifted to a place of the word
+use mathlib.Core.Path.{_≡_, sym, ap, _∙_}
+use mathlib.Core.Bool.{Bool, true, false}
+use Prim.Native.Nat.{ℕ, suc, _-_, _*_, _%_, _^_, _≤_, _<_, min}
+use native.Mathlib.Nat.{zero-mul, one-mul, mod-eq-of-lt}
+use native.Mathlib.Decide.{decLt}
+use native.Mathlib.Omega.{arith}
+use borrow.Author.Tests.{lt-ltb, le-ltb, le-leb, lt-leb}
+use lib.Dec.{leb, ltb}
+use lib.Pow.{pow-pos, pow-mono}
+use Rattle.span.specs.Word.{digit}
+
+pub above-mask : (k r x : ℕ) → k ≤ 64 → r ≡ 2 ^ min k 64 - 1 → ltb r x ≡ leb (2 ^ k) x
+above-mask k r x h e = go (decLt r x)
+  where
+    most : suc r ≡ 2 ^ k
+    most =
+        let all : min k 64 ≡ k = omega arith in
+        let some = pow-pos k in
+        let same : 2 ^ min k 64 ≡ 2 ^ k = ap (λ (j : ℕ). 2 ^ j) all in
+        omega arith
+
+    go : Dec (r < x) → ltb r x ≡ leb (2 ^ k) x
+    go (yes l) = lt-ltb r x l ∙ sym (le-leb (2 ^ k) x (let z = most in omega arith))
+    go (no l) = le-ltb r x (omega arith) ∙ sym (lt-leb (2 ^ k) x (let z = most in omega arith))
+
+pub bit-most : (s : Bool) (k : ℕ) → digit s * 2 ^ k ≤ 2 ^ k
+bit-most true k = let e = one-mul (2 ^ k) in omega arith
+bit-most false k = let e = zero-mul (2 ^ k) in omega arith
+
+pub bit-shifted : (s : Bool) (k : ℕ) → k < 64 → digit s * 2 ^ k % 2 ^ 64 ≡ digit s * 2 ^ k
+bit-shifted s k h =
+    let l = bit-most s k in
+    let p = pow-pos k in
+    let m : 2 ^ suc k ≤ 2 ^ 64 = pow-mono h in
+    mod-eq-of-lt (omega arith)

@@ -1,0 +1,47 @@
+-- `link::coder::code`: a refusal, or a step that is taken. Assumes nothing.
+use mathlib.Core.Path.{_≡_, refl, sym, ap, _∙_}
+use Prim.Native.Nat.{ℕ}
+use native.Mathlib.Omega.{arith}
+use borrow.Author.Needs.{needs}
+use Rattle.link.specs.declared.coder.CodeAnswer.the-variants.{Coded}
+use Rattle.link.proofs.Faults.{code-refuses, codes}
+use Rattle.link.proofs.Memory.{coded-fits}
+use Rattle.link.proofs.coder.code.Statement.{statement}
+use Rattle.link.proofs.coder.code.Tie as tie
+
+fault-requires : tie.Need-fault-requires
+fault-requires c κs = search needs
+
+same-length : tie.Need-same-length
+same-length c = search needs
+
+returns : tie.Need-returns
+returns c =
+    let a = c .before .before .before .before .args in
+    code-refuses (a .t) (a .state .now) (a .info) (c .before .fault .result) (sym (c .before .fault .ensures)) (omega arith)
+
+taken-requires : tie.Need-taken-requires
+taken-requires c κs = search needs
+
+cast-t12 : tie.Need-cast-t12
+cast-t12 c =
+    let a = c .before .before .before .before .before .before .before .before .args in
+    record {
+      fits =
+          rw (c .before .before .taken .ensures .0)
+          (coded-fits (a .t) (a .state .now) (a .info) (sym (c .before .before .before .before .before .fault .ensures) ∙ c .before .before .before .before .if1 .left));
+    }
+
+same-length-2 : tie.Need-same-length-2
+same-length-2 c = search needs
+
+returns-2 : tie.Need-returns-2
+returns-2 c =
+    let a = c .before .before .before .before .before .before .before .before .args in
+    let e = codes (a .t) (a .state .now) (a .info) (sym (c .before .before .before .before .before .fault .ensures) ∙ c .before .before .before .before .if1 .left) in
+    (ap Coded (c .before .before .taken .ensures .0) ∙ e .0, c .before .before .taken .ensures .1 ∙ e .1)
+
+pub code-spec : {M : Type 1} → statement M
+code-spec =
+    tie.close
+    (tie.spec fault-requires same-length returns taken-requires cast-t12 same-length-2 returns-2)

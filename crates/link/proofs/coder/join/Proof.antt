@@ -1,0 +1,29 @@
+-- `link::coder::join`: parity and half of the word that joins. Assumes nothing.
+use mathlib.Core.Path.{_≡_, ap, _∙_}
+use Prim.Native.Nat.{ℕ, _/_, _%_}
+use borrow.Author.Needs.{needs}
+use lib.ListN.{set}
+use Rattle.span.proofs.Laws.{odd-mod}
+use Rattle.link.proofs.coder.join.Statement.{statement}
+use Rattle.link.proofs.coder.join.Tie as tie
+
+slice-read-joining : tie.Need-slice-read-joining
+slice-read-joining c = search needs
+
+joining-requires : tie.Need-joining-requires
+joining-requires c κs = search needs
+
+slice-write-part : tie.Need-slice-write-part
+slice-write-part c = search needs
+
+same-length : tie.Need-same-length
+same-length c = search needs
+
+returns : tie.Need-returns
+returns c =
+    let e = c .joining .ensures in
+    (ap (λ (w : ℕ). w % 2) e ∙ odd-mod _, ap (λ (w : ℕ). set (c .before .before .before .before .args .part .now) 0 (w / 2)) e)
+
+pub join-spec : {M : Type 1} → statement M
+join-spec =
+    tie.close (tie.spec slice-read-joining joining-requires slice-write-part same-length returns)

@@ -1,0 +1,18 @@
+-- `link::stream::joining`: the exclusive or of the pending word and the combination of the rows. Assumes nothing.
+use mathlib.Core.Path.{_≡_, ap}
+use Prim.Native.Nat.{ℕ}
+use borrow.Author.Needs.{needs}
+use Rattle.span.specs.Word.{_⊕_}
+use Rattle.link.specs.Stream.{joining}
+use Rattle.link.proofs.stream.joining.Statement.{statement}
+use Rattle.link.proofs.stream.joining.Tie as tie
+
+combination-requires : tie.Need-combination-requires
+combination-requires c κs = search needs
+
+returns : tie.Need-returns
+unfolding joining _⊕_
+returns c = ap (λ (x : ℕ). c .before .before .args .pending ⊕ x) (c .combination .ensures)
+
+pub joining-spec : {M : Type 1} → statement M
+joining-spec = tie.close (tie.spec combination-requires returns)
