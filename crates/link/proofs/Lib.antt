@@ -6,6 +6,8 @@ mod Sequence
 mod Interleaving
 mod Runs
 mod Memory
+mod Answers
+mod Streams
 mod Bursts
 mod Fade
 mod Recovery

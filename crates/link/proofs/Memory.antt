@@ -3,6 +3,7 @@
 --
 --   CoderStep, coder-step       of the coder
 --   DecoderStep, decoder-step   of the decoder
+--   coder-length, decoder-length   the length stays
 use mathlib.Core.Path.{_≡_, refl, sym, ap, ap₂, _∙_}
 use mathlib.Core.Bool.{Bool, true, false, cond, not, xor, _||_}
 use mathlib.Core.Logic.{_≢_}
@@ -76,6 +77,10 @@ coder-step t s b e =
           getD-set-other (set s (1 + turnOf s) w) 0 (1 + k) to 0 (λ (z : 1 + k ≡ 0). omega arith)
           ∙ getD-set-other s (1 + turnOf s) (1 + k) w 0 (λ (z : 1 + k ≡ 1 + turnOf s). ne (omega arith));
     }
+
+pub coder-length : (t : Table) (s : List ℕ) (b : ℕ) → length (coderNext t s b) ≡ length s
+unfolding coderNext
+coder-length t s b = simp length-set
 
 -- ---- the decoder
 
@@ -302,3 +307,11 @@ decoder-step t s r e = record {
 
     to : ℕ
     to = nextTurn (t .depth) (turnOf s)
+
+pub decoder-length : (t : Table) (s : List ℕ) (r : ℕ) → decoderFault t s r ≡ 0 → length (decoderNext t s r) ≡ length s
+unfolding decoderNext partNext
+decoder-length t s r e =
+    let k = decoder-taken t s r e in
+    simp length-set
+    (body-length (t .span) (t .depth) s (decoderJoining t s r / 2) (keptOf (decoderFound t s r) (decoderRegister t s r)) (r % 2 ^ (t .symbols - 1))
+    (fillNext t (fillOf s)) (nextTurn (t .depth) (turnOf s)) (k .span-from) (k .size) (k .turn))
