@@ -11,3 +11,4 @@ mod Streams
 mod Bursts
 mod Fade
 mod Recovery
+mod Examples

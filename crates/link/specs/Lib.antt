@@ -7,3 +7,4 @@ pub mod Answers
 pub mod Streams
 pub mod Runs
 pub mod Recovery
+pub mod Examples
