@@ -12,3 +12,4 @@ mod Bursts
 mod Fade
 mod Recovery
 mod Examples
+mod StepExamples

@@ -8,3 +8,4 @@ pub mod Streams
 pub mod Runs
 pub mod Recovery
 pub mod Examples
+pub mod StepExamples
