@@ -56,7 +56,7 @@ decodeNumbers NothingYet = 0 ∷ 0 ∷ 0 ∷ 0 ∷ []
 decodeNumbers (DecodeRefused k) = k ∷ []
 
 -- "A refusal returns its number .. It writes no lent word, so a sequence goes on as if the call had not come." A call that is not refused returns
--- its values and leaves its memory.
+-- 0 and its values, and the memory after it is `next`.
 pub record Answered (fault : ℕ) (values next before ns after : List ℕ) : Type 0 where
   pub number : getD ns 0 0 ≡ fault
   pub refused : fault ≢ 0 → (ns ≡ fault ∷ []) × (after ≡ before)
