@@ -9,6 +9,10 @@ mod Sequence
 mod Interleaving
 mod Runs
 mod Memory
+mod Answers
+mod Streams
 mod Bursts
 mod Fade
 mod Recovery
+mod Examples
+mod StepExamples

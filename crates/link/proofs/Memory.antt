@@ -1,10 +1,12 @@
 -- What a step that is taken does to each word, as records over n, N, m and the information's rows: nothing else of a table counts. Assumes
 -- nothing.
 --
---   CoderTaken, coder-taken       what the tests of a coder step that is taken say
---   CoderStep, coder-step         what the step does
---   DecoderTaken, decoder-taken   the same of the decoder
+--   CoderTaken, coder-taken        what the tests of a coder step that is taken say
+--   CoderStep, coder-step          what the step does
+--   DecoderTaken, decoder-taken    the same of the decoder
 --   DecoderStep, decoder-step
+--   coder-length, decoder-length   the length stays
+--   coded-fits                     a coded block has 16 bits at most
 use mathlib.Core.Path.{_≡_, refl, sym, ap, ap₂, _∙_}
 use mathlib.Core.Bool.{Bool, true, false, cond, not, xor, _||_}
 use mathlib.Core.Logic.{_≢_}
@@ -111,6 +113,10 @@ coded-fits t s b e =
     let most = pow-mono n in
     let i = k .info in
     omega arith
+
+pub coder-length : (t : Table) (s : List ℕ) (b : ℕ) → length (coderNext t s b) ≡ length s
+unfolding coderNext
+coder-length t s b = simp length-set
 
 -- ---- the decoder
 
@@ -340,3 +346,11 @@ decoder-step t s r e = record {
 
     to : ℕ
     to = nextTurn (t .depth) (turnOf s)
+
+pub decoder-length : (t : Table) (s : List ℕ) (r : ℕ) → decoderFault t s r ≡ 0 → length (decoderNext t s r) ≡ length s
+unfolding decoderNext partNext
+decoder-length t s r e =
+    let k = decoder-taken t s r e in
+    simp length-set
+    (body-length (t .span) (t .depth) s (decoderJoining t s r / 2) (keptOf (decoderFound t s r) (decoderRegister t s r)) (r % 2 ^ (t .symbols - 1))
+    (fillNext t (fillOf s)) (nextTurn (t .depth) (turnOf s)) (k .sizes .N-from) (k .size) (k .turn))

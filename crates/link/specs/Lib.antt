@@ -3,5 +3,9 @@ pub mod Stream
 pub mod Start
 pub mod Coder
 pub mod Decoder
+pub mod Answers
+pub mod Streams
 pub mod Runs
 pub mod Recovery
+pub mod Examples
+pub mod StepExamples
