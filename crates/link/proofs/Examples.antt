@@ -13,7 +13,7 @@ use Rattle.tables.specs.Examples as Tables
 use Rattle.tables.proofs.Laws.{examples-hold as tables-hold}
 use Rattle.link.specs.Stream.{joining}
 use Rattle.link.specs.Coder.{coderFault, coderJoining, codedBlock, coderNext, codeAnswer, codeMemory}
-use Rattle.link.specs.Decoder.{delayedOut, decoderFault, decoderJoining, decoderRegister, decoderFound, partNext, decoderNext, delivered, delivery, decodeAnswer, decodeMemory}
+use Rattle.link.specs.Decoder.{someAbove, decoderFault, decoderJoining, decoderRegister, decoderFound, partNext, decoderNext, delivered, delivery, decodeAnswer, decodeMemory}
 use Rattle.link.specs.Examples.{answersBy, Example, tables, AllHold, steps, EXAMPLES}
 
 -- the examples of `tables`, and then others
@@ -25,7 +25,7 @@ z : Table
 z = table 2 4 1 (10 ∷ replicate 14 0)
 
 pub examples-hold : EXAMPLES
-unfolding z answersBy codeAnswer codeMemory coderFault coderJoining codedBlock coderNext decodeAnswer decodeMemory decoderFault decoderJoining decoderRegister decoderFound partNext decoderNext delivered delivery delayedOut joining combination leastFrom leastCoefficients _⊕_ odd bit xor sizesFit rowsFit fit firstOf
+unfolding z answersBy codeAnswer codeMemory coderFault coderJoining codedBlock coderNext decodeAnswer decodeMemory decoderFault decoderJoining decoderRegister decoderFound partNext decoderNext delivered delivery someAbove joining combination leastFrom leastCoefficients _⊕_ odd bit xor sizesFit rowsFit fit firstOf
 examples-hold =
     let says = tables-hold .0 in
     with-tables Tables.examples steps tables-hold ((z, says, refl), ((z, says, refl), ((z, says, refl), tt)))

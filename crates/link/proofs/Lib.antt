@@ -1,6 +1,7 @@
 -- Why the definitions of the link have the properties that 01 asks for; the lowest file first.
 mod Words
 mod Parts
+mod Error
 mod Faults
 mod Suitable
 mod Origin
@@ -9,6 +10,8 @@ mod Sequence
 mod Interleaving
 mod Runs
 mod Memory
+mod Room
+mod Lent
 mod Answers
 mod Streams
 mod Bursts

@@ -36,7 +36,7 @@ use Rattle.link.specs.Decoder.{decoderWords, fillOf, delayOf, pendingOf,
 
 -- ---- no refusal applies
 
-or-none : (s t : Bool) → s || t ≡ false → (s ≡ false) × (t ≡ false)
+pub or-none : (s t : Bool) → s || t ≡ false → (s ≡ false) × (t ≡ false)
 or-none true t e = let z : _≡_ {A = ℕ} 0 1 = cc in absurd (omega arith)
 or-none false t e = (refl, e)
 
@@ -218,7 +218,7 @@ module _ (N m : ℕ) (s : List ℕ) (pending syndrome young fill to : ℕ) (from
       let b = moved-length in
       omega arith
 
-  body-length : length body ≡ length s
+  pub body-length : length body ≡ length s
   body-length = replaced-length s part at (N + 1) part-length part-room
 
   after-word : (i : ℕ) → 2 ≤ i → getD after i 0 ≡ getD body i 0

@@ -2,14 +2,16 @@
 --
 --   mid-word    a word of a part is one of the memory
 --   put-word    a part of one word that comes back with another
+--   put-part    the memory with a part that comes back
+--   mid-drop    a part without its first words
 use mathlib.Core.Path.{_≡_, sym, ap, _∙_}
-use mathlib.Core.List.{List}
+use mathlib.Core.List.{List, _++_}
 use Prim.Native.Nat.{ℕ, _+_, _-_, _≤_, _<_}
 use native.Mathlib.Nat.{add-zero}
 use native.Mathlib.Omega.{arith}
-use borrow.Rule.Slice.PartMut.{midOf, putMid, set-mid-at, mid-len}
+use borrow.Rule.Slice.PartMut.{midOf, putMid, set-mid-at, mid-len, post-is}
 use lib.ListN.{length, getD, set, take, drop}
-use lib.Seq.{getD-take, getD-drop}
+use lib.Seq.{getD-take, getD-drop, take-add, drop-at, drop-drop, length-take-le}
 
 pub mid-word : (s : List ℕ) (a e j : ℕ) → a + j < e → getD (midOf a (e - a) s) j 0 ≡ getD s (a + j) 0
 mid-word s a e j h = getD-take (e - a) (drop a s) j 0 (omega arith) ∙ getD-drop a s j 0
@@ -19,3 +21,13 @@ put-word s part a v h e =
     ap (putMid a (a + 1 - a) s) e
     ∙ set-mid-at a (a + 1 - a) 0 s v (let l = mid-len a (a + 1) s (omega arith) in omega arith)
     ∙ ap (λ (i : ℕ). set s i v) (add-zero a)
+
+-- the part as a take of a drop, and the memory around it as the definitions have it
+pub put-part : (s part : List ℕ) (a e : ℕ) → a ≤ e → putMid a (e - a) s part ≡ take a s ++ (part ++ drop e s)
+put-part s part a e h = ap (λ (l : List ℕ). take a s ++ (part ++ l)) (post-is a e s h)
+
+pub mid-drop : (s : List ℕ) (a e j : ℕ) → a ≤ e → e ≤ length s → drop j (midOf a (e - a) s) ≡ drop (a + j) (take e s)
+mid-drop s a e j h room =
+    let whole : take e s ≡ take a s ++ midOf a (e - a) s =
+    ap (λ (k : ℕ). take k s) (let q : e ≡ a + (e - a) = omega arith in q) ∙ take-add a (e - a) s in
+    ap (drop j) (sym (drop-at (take a s) (midOf a (e - a) s) a (length-take-le a s (omega arith))) ∙ ap (drop a) (sym whole)) ∙ drop-drop j a (take e s)

@@ -5,7 +5,9 @@
 --   fillOf s, delayOf t     the fill, and where it is complete
 --   streamAt t k            where the part of stream k begins; it has N + 1 words
 --   pendingOf, syndromeOf, delayedOf   the words of stream k
---   delayedOut t s k i      whether one of the first i delayed blocks is 2^(n−1) or more
+--   delayedBound t          what a delayed block is below
+--   someAbove bound s from i   whether one of i words of s, from `from` on, is the bound or more
+--   delayedOut t s k i      whether one of the first i delayed blocks of stream k is
 --   decoderMalformed t s    the condition of refusal 14
 --   decoderFault t s r      the first of refusals 12 to 15 that applies to a step, or 0
 --   decoderJoining, decoderRegister, decoderFound   w, the register, and the error found
@@ -54,9 +56,16 @@ syndromeOf t s k = getD s (streamAt t k + 1) 0
 abbrev pub delayedOf : Table → List ℕ → ℕ → ℕ → ℕ
 delayedOf t s k i = getD s (streamAt t k + 2 + i) 0
 
-unfoldable pub delayedOut : Table → List ℕ → ℕ → ℕ → Bool
-delayedOut t s k zero = false
-delayedOut t s k (suc i) = delayedOut t s k i || leb (2 ^ (t .symbols - 1)) (delayedOf t s k i)
+-- a delayed block is information, and so below this
+abbrev pub delayedBound : Table → ℕ
+delayedBound t = 2 ^ (t .symbols - 1)
+
+unfoldable pub someAbove : ℕ → List ℕ → ℕ → ℕ → Bool
+someAbove bound s from zero = false
+someAbove bound s from (suc i) = someAbove bound s from i || leb bound (getD s (from + i) 0)
+
+abbrev pub delayedOut : Table → List ℕ → ℕ → ℕ → Bool
+delayedOut t s k i = someAbove (delayedBound t) s (streamAt t k + 2) i
 
 -- 14. "In a step: turn is m or more, fill exceeds m × (N − 1), or in the turn's stream a pending or syndrome word is 2^(N−1) or more or a delayed
 -- block 2^(n−1) or more."
@@ -122,4 +131,4 @@ pub record DecoderFormed (t : Table) (s : List ℕ) : Type 0 where
   pub fill : fillOf s ≤ delayOf t
   pub pending : (k : ℕ) → k < t .depth → pendingOf t s k < 2 ^ (t .span - 1)
   pub syndrome : (k : ℕ) → k < t .depth → syndromeOf t s k < 2 ^ (t .span - 1)
-  pub delayed : (k i : ℕ) → k < t .depth → i < t .span - 1 → delayedOf t s k i < 2 ^ (t .symbols - 1)
+  pub delayed : (k i : ℕ) → k < t .depth → i < t .span - 1 → delayedOf t s k i < delayedBound t

@@ -6,19 +6,24 @@
 --   information n r, parity n r   information and parity of a received block
 --   rawTerm w n r                 the raw term of the syndrome
 --   register N syndrome raw       the register
+--   streamJoining, streamRegister the word w and the register of a decoding step on a stream's pending word and syndrome word
 --   found rows x                  the least error block whose image is the register, or none
 --   errorOf f, keptOf f x         the error, and the syndrome word that stays
 --   markOf f x                    the mark
 --   nextTurn m turn               the turn after a step
+--   streamFound, streamNext, streamInfo, streamMark   a decoding step on a stream's part: the error found, the part after it, the
+--                                 information and the mark of its record
 use mathlib.Core.Bool.{Bool, true, false, cond, xor}
-use mathlib.Core.List.{List}
+use mathlib.Core.List.{List, [], _∷_, _++_}
 use Prim.Native.Nat.{ℕ, suc, _+_, _-_, _*_, _/_, _%_, _^_}
 use lib.Dec.{eqb}
+use lib.ListN.{getD, take, drop}
 use Rattle.span.specs.declared.eliminate.Least.{Least}
 use Rattle.span.specs.declared.eliminate.Least.the-variants.{Found, Missing}
 use Rattle.span.specs.Word.{_⊕_, odd, bit, digit}
 use Rattle.span.specs.Combination.{combination}
 use Rattle.span.specs.Relation.{leastCoefficients}
+use Rattle.tables.specs.Table.{codeRows}
 use Rattle.link.specs.declared.decoder.Mark.{Mark}
 use Rattle.link.specs.declared.decoder.Mark.the-variants.{Clean, Corrected, Doubtful, Held}
 
@@ -46,6 +51,13 @@ rawTerm w n r = xor (odd w) (parity n r)
 abbrev pub register : ℕ → ℕ → Bool → ℕ
 register N syndrome raw = syndrome + digit raw * 2 ^ (N - 1)
 
+-- lines 1 and 2 on the words of a stream: n and N, the rows stored, the pending word p, the syndrome word s, and the received block r
+abbrev pub streamJoining : ℕ → List ℕ → ℕ → ℕ → ℕ
+streamJoining n rows p r = joining (take (n - 1) rows) p (information n r)
+
+abbrev pub streamRegister : ℕ → ℕ → List ℕ → ℕ → ℕ → ℕ → ℕ
+streamRegister n N rows p s r = register N s (rawTerm (streamJoining n rows p r) n r)
+
 -- 3. "If some e has the register as image, the least such e is the error, and the syndrome word becomes 0. Otherwise the error is 0 and the word
 -- is the register halved, its bit 0 dropped."
 abbrev pub found : List ℕ → ℕ → Least
@@ -68,3 +80,19 @@ markOf Missing x = elim (odd x) [ true ↦ Doubtful | false ↦ Held ]
 -- "Turn counts 0 to m − 1 and returns to 0."
 abbrev pub nextTurn : ℕ → ℕ → ℕ
 nextTurn m turn = cond (eqb (suc turn) m) 0 (suc turn)
+
+-- the four lines on a stream's part: what the part is after the step, and the record that the step has to deliver
+abbrev pub streamFound : ℕ → ℕ → List ℕ → List ℕ → ℕ → Least
+streamFound n N rows part r = found (codeRows n rows) (streamRegister n N rows (getD part 0 0) (getD part 1 0) r)
+
+abbrev pub streamNext : ℕ → ℕ → List ℕ → List ℕ → ℕ → List ℕ
+streamNext n N rows part r =
+    nextPending (streamJoining n rows (getD part 0 0) r)
+    ∷ keptOf (streamFound n N rows part r) (streamRegister n N rows (getD part 0 0) (getD part 1 0) r)
+    ∷ (drop 3 part ++ (information n r ∷ []))
+
+abbrev pub streamInfo : ℕ → ℕ → List ℕ → List ℕ → ℕ → ℕ
+streamInfo n N rows part r = getD part 2 0 ⊕ information n (errorOf (streamFound n N rows part r))
+
+abbrev pub streamMark : ℕ → ℕ → List ℕ → List ℕ → ℕ → Mark
+streamMark n N rows part r = markOf (streamFound n N rows part r) (streamRegister n N rows (getD part 0 0) (getD part 1 0) r)

@@ -1,0 +1,108 @@
+-- `link::decoder::fault`: the tests of 12 to 15 in their order. Assumes nothing.
+use mathlib.Core.Path.{_≡_, refl, sym, ap, _∙_}
+use mathlib.Core.Bool.{Bool, true, false}
+use Prim.Native.Nat.{ℕ, _+_, _-_, _*_, _^_}
+use native.Mathlib.Omega.{arith}
+use borrow.Author.Needs.{needs}
+use borrow.Author.Tests.{eq-eqb, ne-eqb, lt-ltb, le-ltb, not-true, not-false}
+use lib.Dec.{leb}
+use lib.ListN.{length}
+use Rattle.tables.specs.Table.{fit}
+use Rattle.tables.proofs.Bounds.{fit-facts}
+use Rattle.link.specs.Decoder.{decoderWords, decoderMalformed}
+use Rattle.link.proofs.Words.{above-mask}
+use Rattle.link.proofs.Faults.{decoder-fault}
+use Rattle.link.proofs.Room.{fit-room}
+use Rattle.link.proofs.decoder.fault.Statement.{statement}
+use Rattle.link.proofs.decoder.fault.Tie as tie
+
+is-fit-requires : tie.Need-is-fit-requires
+is-fit-requires c κs = search needs
+
+returns : tie.Need-returns
+returns c =
+    let a = c .before .before .before .args in
+    let f : fit (a .t) ≡ false = sym (c .before .is-fit .ensures) ∙ not-true _ (c .if1 .taken) in
+    sym (decoder-fault (a .t) (a .state .now) (a .block) ∙ simp f)
+
+add-if2 : tie.Need-add-if2
+add-if2 c =
+    let a = c .before .before .before .before .args in
+    let f : fit (a .t) ≡ true = sym (c .before .before .is-fit .ensures) ∙ not-false _ (c .before .if1 .left) in
+    let z = fit-facts (a .t) f in
+    record { fits = omega arith }
+
+mul-if2 : tie.Need-mul-if2
+mul-if2 c =
+    let a = c .before .before .before .before .before .args in
+    let f : fit (a .t) ≡ true = sym (c .before .before .before .is-fit .ensures) ∙ not-false _ (c .before .before .if1 .left) in
+    let m = fit-room (a .t) (fit-facts (a .t) f) in
+    record { fits = omega arith }
+
+add-if2-2 : tie.Need-add-if2-2
+add-if2-2 c =
+    let a = c .before .before .before .before .before .args in
+    let f : fit (a .t) ≡ true = sym (c .before .before .before .is-fit .ensures) ∙ not-false _ (c .before .before .if1 .left) in
+    let m = fit-room (a .t) (fit-facts (a .t) f) in
+    record { fits = omega arith }
+
+returns-2 : tie.Need-returns-2
+returns-2 c =
+    let a = c .before .before .before .before .before .before .args in
+    let f : fit (a .t) ≡ true = sym (c .before .before .before .before .is-fit .ensures) ∙ not-false _ (c .before .before .before .if1 .left) in
+    sym (decoder-fault (a .t) (a .state .now) (a .block) ∙ simp (f, ne-eqb (length (a .state .now)) (decoderWords (a .t)) (c .if2 .taken)))
+
+malformed-requires : tie.Need-malformed-requires
+malformed-requires c κs =
+    let a = c .before .before .before .before .before .before .args in
+    let f : fit (a .t) ≡ true = sym (c .before .before .before .before .is-fit .ensures) ∙ not-false _ (c .before .before .before .if1 .left) in
+    (f, c .if2 .left)
+
+returns-3 : tie.Need-returns-3
+returns-3 c =
+    let a = c .before .before .before .before .before .before .before .before .args in
+    let f : fit (a .t) ≡ true = sym (c .before .before .before .before .before .before .is-fit .ensures) ∙ not-false _ (c .before .before .before .before .before .if1 .left) in
+    let size = eq-eqb (length (a .state .now)) (decoderWords (a .t)) (c .before .before .if2 .left) in
+    let out : decoderMalformed (a .t) (a .state .now) ≡ true = sym (c .before .malformed .ensures) ∙ c .if3 .taken in
+    sym (decoder-fault (a .t) (a .state .now) (a .block) ∙ simp (f, size, out))
+
+mask-requires : tie.Need-mask-requires
+mask-requires c κs = search needs
+
+returns-4 : tie.Need-returns-4
+returns-4 c =
+    let a = c .before .before .before .before .before .before .before .before .before .before .args in
+    let f : fit (a .t) ≡ true = sym (c .before .before .before .before .before .before .before .before .is-fit .ensures) ∙ not-false _ (c .before .before .before .before .before .before .before .if1 .left) in
+    let size = eq-eqb (length (a .state .now)) (decoderWords (a .t)) (c .before .before .before .before .if2 .left) in
+    let in14 : decoderMalformed (a .t) (a .state .now) ≡ false = sym (c .before .before .before .malformed .ensures) ∙ c .before .before .if3 .left in
+    let z = fit-facts (a .t) f in
+    let in15 : leb (2 ^ a .t .symbols) (a .block) ≡ true =
+    sym (above-mask (a .t .symbols) (c .before .mask .result) (a .block) (omega arith) (c .before .mask .ensures)) ∙ lt-ltb _ _ (c .if4 .taken) in
+    sym (decoder-fault (a .t) (a .state .now) (a .block) ∙ simp (f, size, in14, in15))
+
+returns-5 : tie.Need-returns-5
+returns-5 c =
+    let a = c .before .before .before .before .before .before .before .before .before .before .args in
+    let f : fit (a .t) ≡ true = sym (c .before .before .before .before .before .before .before .before .is-fit .ensures) ∙ not-false _ (c .before .before .before .before .before .before .before .if1 .left) in
+    let size = eq-eqb (length (a .state .now)) (decoderWords (a .t)) (c .before .before .before .before .if2 .left) in
+    let in14 : decoderMalformed (a .t) (a .state .now) ≡ false = sym (c .before .before .before .malformed .ensures) ∙ c .before .before .if3 .left in
+    let z = fit-facts (a .t) f in
+    let in15 : leb (2 ^ a .t .symbols) (a .block) ≡ false =
+    sym (above-mask (a .t .symbols) (c .before .mask .result) (a .block) (omega arith) (c .before .mask .ensures)) ∙ le-ltb _ _ (c .if4 .left) in
+    sym (decoder-fault (a .t) (a .state .now) (a .block) ∙ simp (f, size, in14, in15))
+
+pub fault-spec : {M : Type 1} → statement M
+fault-spec =
+    tie.close
+    (tie.spec
+    is-fit-requires
+    returns
+    add-if2
+    mul-if2
+    add-if2-2
+    returns-2
+    malformed-requires
+    returns-3
+    mask-requires
+    returns-4
+    returns-5)
