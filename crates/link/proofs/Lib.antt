@@ -8,4 +8,5 @@ mod Runs
 mod Memory
 mod Bursts
 mod Fade
+mod Convolution
 mod Recovery
