@@ -13,7 +13,7 @@ use Rattle.link.specs.Decoder.{delayOf, decoderNext}
 use Rattle.link.specs.Runs.{Call, Sent, Taken, sentEntry, takenEntry, sentBy, takenBy, sentAt, takenAt}
 use Rattle.link.specs.Recovery.{SameTable, Wrong, Fades, RECOVERY}
 use Rattle.link.proofs.Origin.{origin-coding}
-use Rattle.link.proofs.Runs.{coderBefore, decoderBefore, sent-entry, taken-entry}
+use Rattle.link.proofs.Runs.{coderBefore, decoderBefore, sent-place, taken-place}
 use Rattle.link.proofs.Memory.{CoderStep, coder-step, DecoderStep, decoder-step}
 use Rattle.link.proofs.Bursts.{bursts-apart}
 use Rattle.link.proofs.Fade.{Linked, recovers}
@@ -46,9 +46,9 @@ module _ (t : Table) (coder decoder : List ℕ) (cs ds : List Call) (f : Fades t
   decoded : (p : ℕ) → p < count
       → DecoderStep (t .symbols) (t .span) (t .depth) (infoRows t) (decoderBefore decoder ds p) (taken p .block) (taken p .answer) (decoderBefore decoder ds (suc p))
   decoded p h =
-      let e = taken-entry decoder ds p h in
+      let e = taken-place decoder ds p h in
       let u = e .call .table in
-      let is = e .is (record { table = zeroTable; block = 0; answer = NothingYet }) in
+      let is = e .is takenEntry (record { table = zeroTable; block = 0; answer = NothingYet }) in
       let same : SameTable u t =
       subst (λ (v : Table). SameTable v t) (ap (λ (k : ℕ). taken k .table) (from-one p) ∙ ap (λ (x : Taken). x .table) is)
       (f .decoder-tables (suc p) (omega arith) (omega arith)) in
@@ -60,9 +60,9 @@ module _ (t : Table) (coder decoder : List ℕ) (cs ds : List Call) (f : Fades t
       → CoderStep (t .symbols) (t .span) (t .depth) (infoRows t) (coderBefore coder cs p) (sent p .info) (sent p .block) (coderBefore coder cs (suc p))
   coded p h =
       let many = f .enough in
-      let e = sent-entry coder cs p (omega arith) in
+      let e = sent-place coder cs p (omega arith) in
       let u = e .call .table in
-      let is = e .is (record { table = zeroTable; info = 0; block = 0 }) in
+      let is = e .is sentEntry (record { table = zeroTable; info = 0; block = 0 }) in
       let same : SameTable u t =
       subst (λ (v : Table). SameTable v t) (ap (λ (k : ℕ). sent k .table) (from-one p) ∙ ap (λ (x : Sent). x .table) is)
       (f .coder-tables (suc p) (omega arith) (omega arith)) in
