@@ -6,6 +6,7 @@ mod Sequence
 mod Interleaving
 mod Runs
 mod Memory
+mod OneTable
 mod Bursts
 mod Fade
 mod Convolution

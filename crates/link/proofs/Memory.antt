@@ -3,6 +3,7 @@
 --
 --   CoderStep, coder-step       of the coder
 --   DecoderStep, decoder-step   of the decoder
+--   Verdict, decoder-verdict    what the decoder judges by: raw term, register and the error found
 use mathlib.Core.Path.{_≡_, refl, sym, ap, ap₂, _∙_}
 use mathlib.Core.Bool.{Bool, true, false, cond, not, xor, _||_}
 use mathlib.Core.Logic.{_≢_}
@@ -15,6 +16,7 @@ use borrow.Author.Tests.{not-false, eqb-true, leb-false, le-ltb}
 use lib.Dec.{leb, ltb, eqb}
 use lib.ListN.{length, getD, set, take, drop, length-append, length-set, length-drop, List·getD-append}
 use lib.Seq.{getD-set-same, getD-set-other, length-take-le, getD-append-add, getD-take, getD-drop, getD-at}
+use Rattle.span.specs.declared.eliminate.Least.{Least}
 use Rattle.span.specs.Word.{_⊕_, odd, bit, digit}
 use Rattle.tables.specs.declared.table.Table.{Table}
 use Rattle.tables.specs.Table.{fit}
@@ -24,7 +26,7 @@ use Rattle.tables.proofs.Bounds.{fit-facts}
 use Rattle.link.specs.declared.decoder.Delivered.{Delivered}
 use Rattle.link.specs.declared.decoder.DecodeAnswer.{DecodeAnswer}
 use Rattle.link.specs.declared.decoder.DecodeAnswer.the-variants.{Delivery, NothingYet}
-use Rattle.link.specs.Stream.{joining, found, errorOf, keptOf, markOf, nextTurn}
+use Rattle.link.specs.Stream.{joining, rawTerm, found, errorOf, keptOf, markOf, nextTurn}
 use Rattle.link.specs.Coder.{infoRows, coderWords, turnOf, pendingAt, coderMalformed, coderFault, coderJoining, codedBlock, coderNext}
 use Rattle.link.specs.Decoder.{decoderWords, fillOf, delayOf, pendingOf, syndromeOf, delayedOut, decoderMalformed, decoderFault, decoderJoining, decoderRegister, decoderFound, partNext, fillNext, decoderNext, delivered, delivery}
 
@@ -302,3 +304,13 @@ decoder-step t s r e = record {
 
     to : ℕ
     to = nextTurn (t .depth) (turnOf s)
+
+pub record Verdict (n N : ℕ) (infos : List ℕ) (s : List ℕ) (r : ℕ) (raw : Bool) (register : ℕ) (error : Least) : Type 0 where
+  pub raw-is : raw ≡ xor (odd (joining infos (getD s (streamIn N (turnOf s)) 0) (r % 2 ^ (n - 1)))) (bit (n - 1) r)
+  pub register-is : register ≡ registerIn n N infos s r
+  pub found-is : error ≡ found (infos ++ (1 ∷ [])) (registerIn n N infos s r)
+
+pub decoder-verdict : (t : Table) (s : List ℕ) (r : ℕ)
+    → Verdict (t .symbols) (t .span) (infoRows t) s r (rawTerm (decoderJoining t s r) (t .symbols) r) (decoderRegister t s r) (decoderFound t s r)
+unfolding decoderFound decoderRegister decoderJoining
+decoder-verdict t s r = record { raw-is = refl; register-is = refl; found-is = refl }
