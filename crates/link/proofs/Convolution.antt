@@ -7,16 +7,16 @@
 --   stream-convolution    the theorem
 use mathlib.Core.Path.{_≡_, refl, sym, ap, ap₂, _∙_, subst}
 use mathlib.Core.Bool.{Bool, true, false, cond, xor, _&&_}
-use mathlib.Core.List.{List, [], _∷_, _++_}
-use Prim.Native.Nat.{ℕ, zero, suc, _+_, _-_, _*_, _/_, _%_, _^_, _≤_, _<_}
-use native.Mathlib.Nat.{add-zero, mod-one, div-one}
+use mathlib.Core.List.{List, [], _∷_}
+use Prim.Native.Nat.{ℕ, zero, suc, _+_, _-_, _/_, _^_, _≤_, _<_}
+use native.Mathlib.Nat.{add-zero, mod-one}
 use native.Mathlib.Omega.{arith}
 use lib.Dec.{leb, leb·zero, leb·suc-zero, leb·suc-suc}
 use lib.ListN.{length, getD}
 use lib.Pow.{pow-pos}
 use Rattle.span.specs.Word.{_⊕_, odd, bit, sel}
 use Rattle.span.specs.Combination.{combination}
-use Rattle.span.proofs.Laws.{xor-false-l, xor-false-r, xor-zero-l, xor-lt, bit-zero, bit-suc, bit-xor, bit-none, combination-zero, combination-xor, combination-append, combination-last, combination-low}
+use Rattle.span.proofs.Laws.{xor-false-l, xor-zero-l, xor-lt, bit-zero, bit-suc, bit-xor, bit-none, combination-zero, combination-append, combination-last, combination-low}
 use Rattle.link.specs.Massey.{sumOver, rowOf, symbol, ago, convolution}
 
 -- ---- exclusive or of two, and over a range

@@ -7,6 +7,7 @@ mod Interleaving
 mod Runs
 mod Memory
 mod OneTable
+mod Streams
 mod Bursts
 mod Fade
 mod Convolution

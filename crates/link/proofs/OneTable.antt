@@ -3,10 +3,10 @@
 --   coded      a step of the coder
 --   decoded    a step of the decoder
 --   verdict    its raw term, register and error
-use mathlib.Core.Path.{_≡_, refl, sym, ap, _∙_, subst}
-use mathlib.Core.Bool.{Bool, true, false}
-use mathlib.Core.List.{List, [], _∷_, _++_}
-use Prim.Native.Nat.{ℕ, suc, _+_, _-_, _*_, _^_, _<_}
+use mathlib.Core.Path.{_≡_, sym, ap, _∙_, subst}
+use mathlib.Core.Bool.{Bool, false}
+use mathlib.Core.List.{List}
+use Prim.Native.Nat.{ℕ, suc, _-_, _<_}
 use native.Mathlib.Omega.{arith}
 use lib.ListN.{length, getD, take}
 use Rattle.span.specs.declared.eliminate.Least.{Least}
@@ -14,7 +14,7 @@ use Rattle.span.specs.declared.eliminate.Least.the-variants.{Missing}
 use Rattle.tables.specs.declared.table.Table.{Table}
 use Rattle.tables.specs.Table.{zeroTable}
 use Rattle.link.specs.declared.decoder.DecodeAnswer.the-variants.{NothingYet}
-use Rattle.link.specs.Stream.{found, rawTerm}
+use Rattle.link.specs.Stream.{rawTerm}
 use Rattle.link.specs.Coder.{infoRows, coderNext}
 use Rattle.link.specs.Decoder.{decoderNext, decoderJoining, decoderRegister, decoderFound}
 use Rattle.link.specs.Runs.{Call, Sent, Taken, sentEntry, takenEntry, sentBy, takenBy, sentAt, takenAt}

@@ -14,7 +14,7 @@
 --   SYNDROME-ERRORS          000, eq. 3
 --   REGISTER                 the register holds the last N raw terms since the word was last cleared
 use mathlib.Core.Path.{_≡_}
-use mathlib.Core.Bool.{Bool, true, false, cond, xor, _&&_}
+use mathlib.Core.Bool.{Bool, false, cond, xor, _&&_}
 use mathlib.Core.Logic.{_⊎_}
 use mathlib.Core.List.{List}
 use Prim.Native.Nat.{ℕ, zero, suc, _+_, _-_, _*_, _^_, _≤_, _<_}
