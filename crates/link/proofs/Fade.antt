@@ -22,7 +22,7 @@ use Rattle.link.specs.Stream.{joining, found, errorOf, keptOf, markOf}
 use Rattle.link.specs.Coder.{turnOf, pendingAt}
 use Rattle.link.specs.Decoder.{fillOf}
 use Rattle.link.proofs.Suitable.{Corrects}
-use Rattle.link.proofs.Step.{both-half, both-odd, coder-info, coded-lt}
+use Rattle.link.proofs.Step.{both-half, both-odd, coder-info, topped-lt}
 use Rattle.link.proofs.Sequence.{Stream, stream-judged}
 use Rattle.link.proofs.Memory.{CoderStep, DecoderStep, streamIn, registerIn}
 use Rattle.link.proofs.Streams.{coder-again, pending-again, syndrome-again, delayed-again}
@@ -84,7 +84,7 @@ module _ (n N m : ℕ) (infos : List ℕ) (S M : ℕ → List ℕ) (R B C : ℕ 
       xor-lt n (R p) (C p) (l .decodes p h .block-lt)
       (subst (λ (x : ℕ). x < 2 ^ n) (sym (c .coded))
       (subst (λ (k : ℕ). B p + digit (odd (joining infos (pc p) (B p))) * 2 ^ (n - 1) < 2 ^ k) (let e : suc (n - 1) ≡ n = omega arith in e)
-      (coded-lt infos (n - 1) (l .size) (B p) (odd (joining infos (pc p) (B p))) (c .info-lt))))
+      (topped-lt (n - 1) (B p) (odd (joining infos (pc p) (B p))) (c .info-lt))))
 
   er-right : (p : ℕ) → R p ≡ C p → er p ≡ 0
   er-right p e = ap (λ (x : ℕ). x ⊕ C p) e ∙ xor-self (C p)

@@ -1,6 +1,7 @@
 -- What a step that is taken does to each word, as records over n, N, m and the information's rows: nothing else of a table counts. Assumes
 -- nothing.
 --
+--   Fits                        what is left where 12 does not apply
 --   CoderStep, coder-step       of the coder
 --   DecoderStep, decoder-step   of the decoder
 --   Verdict, decoder-verdict    what the decoder judges by: raw term, register and the error found
@@ -18,6 +19,7 @@ use lib.ListN.{length, getD, set, take, drop, length-append, length-set, length-
 use lib.Seq.{getD-set-same, getD-set-other, length-take-le, getD-append-add, getD-take, getD-drop, getD-at}
 use Rattle.span.specs.declared.eliminate.Least.{Least}
 use Rattle.span.specs.Word.{_⊕_, odd, bit, digit}
+use Rattle.span.specs.Combination.{Below}
 use Rattle.tables.specs.declared.table.Table.{Table}
 use Rattle.tables.specs.Table.{fit}
 use Rattle.tables.specs.Format.{firstOf}
@@ -44,9 +46,21 @@ four-none a b c d e =
     let s = first-none 15 d [] (omega arith) (r .1) in
     (p .0, q .0, r .0, s .0)
 
+-- the sizes and rows of a table that 12 does not refuse
+pub record Fits (n N : ℕ) (infos : List ℕ) : Type 0 where
+  pub n-from : 2 ≤ n
+  pub N-from : 2 ≤ N
+  pub below : Below N infos
+
+table-fits : (t : Table) → fit t ≡ true → Fits (t .symbols) (t .span) (infoRows t)
+table-fits t e =
+    let z = fit-facts t e in
+    record { n-from = z .n-from; N-from = z .N-from; below = z .below }
+
 -- ---- the coder
 
 pub record CoderStep (n N m : ℕ) (infos : List ℕ) (s : List ℕ) (b c : ℕ) (after : List ℕ) : Type 0 where
+  pub fits : Fits n N infos
   pub turn-lt : turnOf s < m
   pub pending-lt : pendingAt s (turnOf s) < 2 ^ (N - 1)
   pub info-lt : b < 2 ^ (n - 1)
@@ -66,6 +80,7 @@ coder-step t s b e =
     let w = joining (infoRows t) (pendingAt s (turnOf s)) b / 2 in
     let to = nextTurn (t .depth) (turnOf s) in
     record {
+      fits = table-fits t (not-false (fit t) (f .0));
       turn-lt = turn;
       pending-lt = leb-false (2 ^ (t .span - 1)) (pendingAt s (turnOf s)) (g .1);
       info-lt = leb-false (2 ^ (t .symbols - 1)) b (f .3);
@@ -91,6 +106,7 @@ registerIn n N infos s r =
     + digit (xor (odd (joining infos (getD s (streamIn N (turnOf s)) 0) (r % 2 ^ (n - 1)))) (bit (n - 1) r)) * 2 ^ (N - 1)
 
 pub record DecoderStep (n N m : ℕ) (infos : List ℕ) (s : List ℕ) (r : ℕ) (answer : DecodeAnswer) (after : List ℕ) : Type 0 where
+  pub fits : Fits n N infos
   pub turn-lt : turnOf s < m
   pub pending-lt : getD s (streamIn N (turnOf s)) 0 < 2 ^ (N - 1)
   pub syndrome-lt : getD s (streamIn N (turnOf s) + 1) 0 < 2 ^ (N - 1)
@@ -232,7 +248,7 @@ module _ (N m : ℕ) (s : List ℕ) (pending syndrome young fill to : ℕ) (from
 
 -- what the tests of a step that is taken say
 record Taken (t : Table) (s : List ℕ) (r : ℕ) : Type 0 where
-  span-from : 2 ≤ t .span
+  fits : Fits (t .symbols) (t .span) (infoRows t)
   size : length s ≡ 2 + t .depth * (t .span + 1)
   turn : turnOf s < t .depth
   pending : pendingOf t s (turnOf s) < 2 ^ (t .span - 1)
@@ -245,14 +261,13 @@ decoder-taken t s r e =
     let N = t .span in
     let k = turnOf s in
     let f = four-none (not (fit t)) (not (eqb (length s) (decoderWords t))) (decoderMalformed t s) (leb (2 ^ t .symbols) r) e in
-    let z = fit-facts t (not-false (fit t) (f .0)) in
     let g4 = or-none (leb (t .depth) k || ltb (delayOf t) (fillOf s) || leb (2 ^ (N - 1)) (pendingOf t s k) || leb (2 ^ (N - 1)) (syndromeOf t s k))
     (delayedOut t s k (N - 1)) (f .2) in
     let g3 = or-none (leb (t .depth) k || ltb (delayOf t) (fillOf s) || leb (2 ^ (N - 1)) (pendingOf t s k)) (leb (2 ^ (N - 1)) (syndromeOf t s k)) (g4 .0) in
     let g2 = or-none (leb (t .depth) k || ltb (delayOf t) (fillOf s)) (leb (2 ^ (N - 1)) (pendingOf t s k)) (g3 .0) in
     let g1 = or-none (leb (t .depth) k) (ltb (delayOf t) (fillOf s)) (g2 .0) in
     record {
-      span-from = z .N-from;
+      fits = table-fits t (not-false (fit t) (f .0));
       size = eqb-true (length s) (decoderWords t) (not-false (eqb (length s) (decoderWords t)) (f .1));
       turn = leb-false (t .depth) k (g1 .0);
       pending = leb-false (2 ^ (N - 1)) (pendingOf t s k) (g2 .1);
@@ -268,19 +283,20 @@ pub decoder-step : (t : Table) (s : List ℕ) (r : ℕ) → decoderFault t s r �
     → DecoderStep (t .symbols) (t .span) (t .depth) (infoRows t) s r (delivery t s r) (decoderNext t s r)
 unfolding decoderNext partNext delivery delivered decoderFound decoderRegister decoderJoining
 decoder-step t s r e = record {
+  fits = k .fits;
   turn-lt = k .turn;
   pending-lt = k .pending;
   syndrome-lt = k .syndrome;
   block-lt = k .block;
-  turn-on = after-turn N (t .depth) s pending syndrome young fill to (k .span-from) (k .size) (k .turn);
-  fill-on = after-fill N (t .depth) s pending syndrome young fill to (k .span-from) (k .size) (k .turn);
+  turn-on = after-turn N (t .depth) s pending syndrome young fill to (k .fits .N-from) (k .size) (k .turn);
+  fill-on = after-fill N (t .depth) s pending syndrome young fill to (k .fits .N-from) (k .size) (k .turn);
   pending-on =
       ap (λ (i : ℕ). getD (decoderNext t s r) i 0) (sym (add-zero (streamIn N (turnOf s))))
-      ∙ after-own N (t .depth) s pending syndrome young fill to (k .span-from) (k .size) (k .turn) 0 (omega arith);
-  syndrome-on = after-own N (t .depth) s pending syndrome young fill to (k .span-from) (k .size) (k .turn) 1 (let h = k .span-from in omega arith);
-  delayed-on = after-moved N (t .depth) s pending syndrome young fill to (k .span-from) (k .size) (k .turn);
-  youngest = after-young N (t .depth) s pending syndrome young fill to (k .span-from) (k .size) (k .turn);
-  others = after-others N (t .depth) s pending syndrome young fill to (k .span-from) (k .size) (k .turn);
+      ∙ after-own N (t .depth) s pending syndrome young fill to (k .fits .N-from) (k .size) (k .turn) 0 (omega arith);
+  syndrome-on = after-own N (t .depth) s pending syndrome young fill to (k .fits .N-from) (k .size) (k .turn) 1 (let h = k .fits .N-from in omega arith);
+  delayed-on = after-moved N (t .depth) s pending syndrome young fill to (k .fits .N-from) (k .size) (k .turn);
+  youngest = after-young N (t .depth) s pending syndrome young fill to (k .fits .N-from) (k .size) (k .turn);
+  others = after-others N (t .depth) s pending syndrome young fill to (k .fits .N-from) (k .size) (k .turn);
   answers = λ h. complete (ltb (fillOf s) (delayOf t)) (delivered t s r) (le-ltb (fillOf s) (delayOf t) h);
 }
   where
