@@ -11,4 +11,6 @@ mod Streams
 mod Bursts
 mod Fade
 mod Convolution
+mod Register
 mod Recovery
+mod Massey

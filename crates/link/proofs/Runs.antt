@@ -27,7 +27,7 @@ module _ (fault : Table → List ℕ → ℕ → ℕ) (next : Table → List ℕ
         | false ↦ before s cs p
       ]
 
-  before-first : (s : List ℕ) (cs : List Call) → before s cs 0 ≡ s
+  pub before-first : (s : List ℕ) (cs : List Call) → before s cs 0 ≡ s
   unfolding before later
   before-first s [] = refl
   before-first s (c ∷ cs) = go (eqb (fault (c .table) s (c .block)) 0) (before-first s cs)
