@@ -7,6 +7,7 @@ use Prim.Native.Nat.{ℕ, zero, suc, _+_, _-_, _*_, _/_, _%_, _^_, _≤_, _<_, m
 use native.Mathlib.Nat.{add-zero, zero-mul, suc-mul, mul-le-mul-right}
 use native.Mathlib.Decide.{decLt}
 use native.Mathlib.Omega.{arith}
+use lib.Dec.{leb}
 use lib.ListN.{length, getD, take, replicate, length-append, length-take, getD-replicate, List·getD-eq-default, length-replicate}
 use lib.Seq.{length-take-le}
 use Rattle.span.specs.declared.eliminate.Least.{Least}
@@ -137,5 +138,142 @@ module _ (t : Table) (cs : List Call) (tables : CoderTables t (started (coderWor
       b (omega arith))
       ∙ coder-even (infoRows t) (t .symbols - 1) size (pending b) 0 (info b) (block b) 0 (s .info-lt) (s .coded)
 
-pub parities : PARITY
-parities = stream-parity
+-- ---- a stream of the decoder
+
+module _ (t : Table) (ds : List Call) (tables : DecoderTables t (started (decoderWords t)) ds) (r b : ℕ) (low : r < t .depth)
+    (inside : r + b * t .depth < length (takenBy (started (decoderWords t)) ds)) where
+  abbrev memories : ℕ → List ℕ
+  memories = decoderBefore (started (decoderWords t)) ds
+
+  abbrev many : ℕ
+  many = length (takenBy (started (decoderWords t)) ds)
+
+  abbrev received : ℕ → ℕ
+  received = stream (t .depth) r (blockTaken (takenBy (started (decoderWords t)) ds))
+
+  abbrev raw : ℕ → Bool
+  raw = stream (t .depth) r (rawAt (started (decoderWords t)) ds)
+
+  abbrev register : ℕ → ℕ
+  register = stream (t .depth) r (registerAt (started (decoderWords t)) ds)
+
+  abbrev error : ℕ → Least
+  error = stream (t .depth) r (foundAt (started (decoderWords t)) ds)
+
+  abbrev joins : ℕ → ℕ
+  joins k = getD (memories (r + k * t .depth)) (streamIn (t .span) (turnOf (memories (r + k * t .depth)))) 0
+
+  abbrev syndrome : ℕ → ℕ
+  syndrome k = getD (memories (r + k * t .depth)) (streamIn (t .span) (turnOf (memories (r + k * t .depth))) + 1) 0
+
+  taken : (k : ℕ) → k ≤ b → r + k * t .depth < many
+  taken k h = earlier (t .depth) r b k many inside h
+
+  fits : Fits (t .symbols) (t .span) (infoRows t)
+  fits = decoded t (started (decoderWords t)) ds tables (r + b * t .depth) inside .fits
+
+  judged : (k : ℕ) → k ≤ b
+      → Verdict (t .symbols) (t .span) (infoRows t) (memories (r + k * t .depth)) (received k) (raw k) (register k) (error k)
+  judged k h = verdict t (started (decoderWords t)) ds tables (r + k * t .depth) (taken k h)
+
+  zero-word : (i : ℕ) → getD (memories 0) i 0 ≡ 0
+  zero-word i =
+      ap (λ (s : List ℕ). getD s i 0) (before-first decoderFault decoderNext (started (decoderWords t)) ds) ∙ started-word (decoderWords t) i
+
+  joins-start : joins 0 ≡ 0
+  joins-start =
+      let z = taken 0 (omega arith) in
+      let p = place-first (t .depth) r in
+      let f = fits .N-from in
+      ap (λ (q : ℕ). getD (memories q) (streamIn (t .span) (turnOf (memories q))) 0) p
+      ∙ pending-first (t .symbols) (t .span) (t .depth) (infoRows t) memories (blockTaken (takenBy (started (decoderWords t)) ds))
+      (λ (q : ℕ). takenAt (takenBy (started (decoderWords t)) ds) (suc q) .answer) many f (omega arith) (decoded t (started (decoderWords t)) ds tables)
+      (zero-word 0) r low (omega arith)
+      ∙ zero-word (streamIn (t .span) r)
+
+  joins-on : (k : ℕ) → k < b → joins (suc k) ≡ joining (infoRows t) (joins k) (received k % 2 ^ (t .symbols - 1)) / 2
+  joins-on k h =
+      let z = taken (suc k) h in
+      let p = place-next (t .depth) r k in
+      let f = fits .N-from in
+      ap (λ (q : ℕ). getD (memories q) (streamIn (t .span) (turnOf (memories q))) 0) p
+      ∙ pending-again (t .symbols) (t .span) (t .depth) (infoRows t) memories (blockTaken (takenBy (started (decoderWords t)) ds))
+      (λ (q : ℕ). takenAt (takenBy (started (decoderWords t)) ds) (suc q) .answer) many f (omega arith) (decoded t (started (decoderWords t)) ds tables)
+      (r + k * t .depth) (omega arith)
+
+  -- the raw term, over all symbols
+  pub stream-syndrome : t .symbols - 1 ≤ length (t .rows) → raw b ≡ convolution (t .symbols) (t .span) (rowsOf t) received b
+  stream-syndrome room =
+      let size : length (infoRows t) ≡ t .symbols - 1 = length-take-le (t .symbols - 1) (t .rows) room in
+      judged b (omega arith) .raw-is ∙ sym (joined-odd (infoRows t) (t .symbols - 1) size (joins b) (received b))
+      ∙ stream-convolution (t .symbols) (t .span) (rowsOf t) received joins (suc b)
+      (all-size (t .symbols) (t .span) (infoRows t) fits (omega arith)) (all-images (t .symbols) (t .span) (infoRows t) fits) joins-start
+      (λ k h. joins-on k (omega arith) ∙ sym (joined-half (infoRows t) (t .symbols - 1) size (joins k) (received k))) b (omega arith)
+
+  -- ---- its register
+
+  syndrome-start : syndrome 0 ≡ 0
+  syndrome-start =
+      let z = taken 0 (omega arith) in
+      let p = place-first (t .depth) r in
+      let f = fits .N-from in
+      ap (λ (q : ℕ). getD (memories q) (streamIn (t .span) (turnOf (memories q)) + 1) 0) p
+      ∙ syndrome-first (t .symbols) (t .span) (t .depth) (infoRows t) memories (blockTaken (takenBy (started (decoderWords t)) ds))
+      (λ (q : ℕ). takenAt (takenBy (started (decoderWords t)) ds) (suc q) .answer) many f (omega arith) (decoded t (started (decoderWords t)) ds tables)
+      (zero-word 0) r low (omega arith)
+      ∙ zero-word (streamIn (t .span) r + 1)
+
+  syndrome-on : (k : ℕ) → k < b → syndrome (suc k) ≡ keptOf (error k) (register k)
+  syndrome-on k h =
+      let z = taken (suc k) h in
+      let p = place-next (t .depth) r k in
+      let f = fits .N-from in
+      let v = judged k (omega arith) in
+      ap (λ (q : ℕ). getD (memories q) (streamIn (t .span) (turnOf (memories q)) + 1) 0) p
+      ∙ syndrome-again (t .symbols) (t .span) (t .depth) (infoRows t) memories (blockTaken (takenBy (started (decoderWords t)) ds))
+      (λ (q : ℕ). takenAt (takenBy (started (decoderWords t)) ds) (suc q) .answer) many f (omega arith) (decoded t (started (decoderWords t)) ds tables)
+      (r + k * t .depth) (omega arith)
+      ∙ sym (ap₂ keptOf (v .found-is) (v .register-is))
+
+  register-joins : (k : ℕ) → k ≤ b → register k ≡ syndrome k + digit (raw k) * 2 ^ (t .span - 1)
+  register-joins k h =
+      let v = judged k h in
+      v .register-is ∙ ap (λ (s : Bool). syndrome k + digit s * 2 ^ (t .span - 1)) (sym (v .raw-is))
+
+  cleared : (c : ℕ) → c ≤ b → (c ≡ 0) ⊎ ((e : ℕ) × (error (c - 1) ≡ Found e)) → syndrome c ≡ 0
+  cleared zero h z = syndrome-start
+  cleared (suc c) h (inl z) = absurd (omega arith)
+  cleared (suc c) h (inr (e, is)) =
+      syndrome-on c h
+      ∙ ap (λ (f : Least). keptOf f (register c)) (ap error (let p : c ≡ suc c - 1 = omega arith in p) ∙ is)
+
+  pub stream-register : (c : ℕ) → c ≤ b → (c ≡ 0) ⊎ ((e : ℕ) × (error (c - 1) ≡ Found e)) → ((d : ℕ) → c ≤ d → d < b → error d ≡ Missing)
+      → (register b < 2 ^ t .span)
+      × ((k : ℕ) → k < t .span → bit (t .span - 1 - k) (register b) ≡ cond (leb (c + k) b) (raw (b - k)) false)
+  stream-register c from clear none =
+      let N = fits .N-from in
+      let halves : (d : ℕ) → c ≤ d → d < b → syndrome (suc d) ≡ register d / 2 =
+      (λ d l h. syndrome-on d h ∙ ap (λ (f : Least). keptOf f (register d)) (none d l h)) in
+      let w = t .span - 1 in (
+        subst (λ (k : ℕ). register b < 2 ^ k) (let e : suc (t .span - 1) ≡ t .span = omega arith in e)
+            (register-lt w syndrome register raw c b (cleared c from clear) (λ d l h. register-joins d h) halves from),
+        λ k h. register-bit w syndrome register raw c b (cleared c from clear) (λ d l h. register-joins d h) halves from (w - k) k (omega arith),
+      )
+
+pub parity : PARITY
+parity = stream-parity
+
+pub syndromes : SYNDROME
+syndromes t ds room tables r b low inside = stream-syndrome t ds tables r b low inside room
+
+pub syndrome-errors : SYNDROME-ERRORS
+syndrome-errors t cs ds room coder decoder enough r b low inside =
+    let sent = stream (t .depth) r (blockSent (sentBy (started (coderWords t)) cs)) in
+    let received = stream (t .depth) r (blockTaken (takenBy (started (decoderWords t)) ds)) in
+    let all = convolution (t .symbols) (t .span) (rowsOf t) in
+    stream-syndrome t ds decoder r b low inside room
+    ∙ sym (convolution-xor (t .symbols) (t .span) (rowsOf t) received sent b
+    ∙ ap (xor (all received b)) (stream-even t cs coder r b low (omega arith) room) ∙ xor-false-r (all received b))
+
+pub registers : REGISTER
+registers t ds tables r b c low inside = stream-register t ds tables r b low inside c

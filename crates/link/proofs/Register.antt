@@ -4,12 +4,21 @@ use mathlib.Core.Path.{_≡_, sym, ap, ap₂, _∙_, subst}
 use mathlib.Core.Bool.{Bool, true, false, cond}
 use Prim.Native.Nat.{ℕ, zero, suc, _+_, _-_, _*_, _/_, _^_, _≤_, _<_}
 use native.Mathlib.Nat.{add-zero}
+use native.Mathlib.Decide.{decLt}
 use native.Mathlib.Omega.{arith}
+use borrow.Author.Tests.{lt-leb, le-leb}
 use lib.Dec.{leb, leb·zero, leb·suc-zero, leb·suc-suc}
 use lib.Pow.{pow-pos}
 use Rattle.span.specs.Word.{bit, digit}
 use Rattle.span.proofs.Laws.{bit-suc, bit-low, bit-none}
 use Rattle.link.proofs.Step.{topped-low, topped-bit, topped-lt}
+
+leb-add : (c k i : ℕ) → leb k i ≡ leb (c + k) (c + i)
+leb-add c k i = go (decLt i k)
+  where
+    go : Dec (i < k) → leb k i ≡ leb (c + k) (c + i)
+    go (yes h) = lt-leb k i h ∙ sym (lt-leb (c + k) (c + i) (omega arith))
+    go (no h) = le-leb k i (omega arith) ∙ sym (le-leb (c + k) (c + i) (omega arith))
 
 module _ (w : ℕ) (s g : ℕ → ℕ) (raw : ℕ → Bool) (c b : ℕ) (clear : s c ≡ 0) (joins : (d : ℕ) → c ≤ d → d ≤ b → g d ≡ s d + digit (raw d) * 2 ^ w)
     (halves : (d : ℕ) → c ≤ d → d < b → s (suc d) ≡ g d / 2) where
@@ -26,9 +35,6 @@ module _ (w : ℕ) (s g : ℕ → ℕ) (raw : ℕ → Bool) (c b : ℕ) (clear :
       let e = halved i h in
       omega arith
 
-  pub register-lt : (i : ℕ) → c + i ≤ b → g (c + i) < 2 ^ suc w
-  register-lt i h = topped i h (syndrome-lt i h)
-
   -- the newest term is on top, and below it is the syndrome word
   register-top : (i a : ℕ) → c + i ≤ b → a ≡ w → bit a (g (c + i)) ≡ raw (c + i)
   register-top i a h e =
@@ -39,15 +45,26 @@ module _ (w : ℕ) (s g : ℕ → ℕ) (raw : ℕ → Bool) (c b : ℕ) (clear :
       ap (bit a) (joins (c + i) (omega arith) h) ∙ sym (bit-low a w (s (c + i) + digit (raw (c + i)) * 2 ^ w) l)
       ∙ ap (bit a) (topped-low w (s (c + i)) (raw (c + i)) (syndrome-lt i h))
 
-  -- bit w − k is the term of k blocks ago, as far back as block c
-  pub register-bit : (i a k : ℕ) → a + k ≡ w → c + i ≤ b → bit a (g (c + i)) ≡ cond (leb k i) (raw (c + i - k)) false
-  register-bit i a zero e h =
+  register-bits : (i a k : ℕ) → a + k ≡ w → c + i ≤ b → bit a (g (c + i)) ≡ cond (leb k i) (raw (c + i - k)) false
+  register-bits i a zero e h =
       register-top i a h (omega arith)
       ∙ ap₂ (λ (t : Bool) (p : ℕ). cond t (raw p) false) (sym (leb·zero i)) (let p : c + i ≡ c + i - 0 = omega arith in p)
-  register-bit zero a (suc k) e h =
+  register-bits zero a (suc k) e h =
       register-rest 0 a h (omega arith) ∙ ap (bit a) (ap s (add-zero c) ∙ clear) ∙ bit-none a 0 (pow-pos a)
       ∙ ap (λ (t : Bool). cond t (raw (c + 0 - suc k)) false) (sym (leb·suc-zero k))
-  register-bit (suc i) a (suc k) e h =
+  register-bits (suc i) a (suc k) e h =
       register-rest (suc i) a h (omega arith) ∙ ap (bit a) (halved i h) ∙ sym (bit-suc a (g (c + i)))
-      ∙ register-bit i (suc a) k (omega arith) (omega arith)
+      ∙ register-bits i (suc a) k (omega arith) (omega arith)
       ∙ ap₂ (λ (t : Bool) (p : ℕ). cond t (raw p) false) (sym (leb·suc-suc k i)) (let p : c + i - k ≡ c + suc i - suc k = omega arith in p)
+
+  module _ (from : c ≤ b) where
+    pub register-lt : g b < 2 ^ suc w
+    register-lt =
+        subst (λ (d : ℕ). g d < 2 ^ suc w) (let e : c + (b - c) ≡ b = omega arith in e)
+        (topped (b - c) (omega arith) (syndrome-lt (b - c) (omega arith)))
+
+    -- bit w − k is the term of k blocks ago, as far back as block c
+    pub register-bit : (a k : ℕ) → a + k ≡ w → bit a (g b) ≡ cond (leb (c + k) b) (raw (b - k)) false
+    register-bit a k e =
+        subst (λ (d : ℕ). bit a (g d) ≡ cond (leb (c + k) d) (raw (d - k)) false) (let p : c + (b - c) ≡ b = omega arith in p)
+        (register-bits (b - c) a k e (omega arith) ∙ ap (λ (t : Bool). cond t (raw (c + (b - c) - k)) false) (leb-add c k (b - c)))
