@@ -25,7 +25,7 @@ use Rattle.link.proofs.Suitable.{Corrects}
 use Rattle.link.proofs.Step.{both-half, both-odd, coder-info, topped-lt}
 use Rattle.link.proofs.Sequence.{Stream, stream-judged}
 use Rattle.link.proofs.Memory.{CoderStep, DecoderStep, streamIn, registerIn}
-use Rattle.link.proofs.Streams.{coder-again, pending-again, syndrome-again, delayed-again}
+use Rattle.link.proofs.Streams.{CoderRun, DecoderRun, coder-again, pending-again, syndrome-again, delayed-again}
 
 pub record Linked (n N m : ℕ) (infos : List ℕ) (S M : ℕ → List ℕ) (R B C : ℕ → ℕ) (A : ℕ → DecodeAnswer) (count : ℕ) : Type 0 where
   pub n-from : 2 ≤ n
@@ -64,11 +64,17 @@ module _ (n N m : ℕ) (infos : List ℕ) (S M : ℕ → List ℕ) (R B C : ℕ 
 
   -- ---- coder and decoder together
 
+  coding : CoderRun n N m infos M B C count
+  coding = record { m-from = l .m-from; codes = l .codes }
+
+  decoding : DecoderRun n N m infos S R A count
+  decoding = record { N-from = l .N-from; m-from = l .m-from; decodes = l .decodes }
+
   jt-again : (p : ℕ) → p + m < count → jt (p + m) ≡ (jt p ⊕ combination rows (er p)) / 2
   jt-again p h =
       let c = l .codes p (omega arith) in
-      ap₂ _⊕_ (pending-again n N m infos S R A count (l .N-from) (l .m-from) (l .decodes) p h)
-      (coder-again n N m infos M B C count (l .m-from) (l .codes) p h)
+      ap₂ _⊕_ (pending-again decoding p h)
+      (coder-again coding p h)
       ∙ sym (both-half infos (n - 1) (l .size) (pc p) (pd p) (B p) (C p) (R p) (c .info-lt) (c .coded))
 
   register-is : (p : ℕ) → p < count → registerIn n N infos (S p) (R p) ≡ sy p + digit (odd (jt p ⊕ combination rows (er p))) * 2 ^ (N - 1)
@@ -135,7 +141,7 @@ module _ (n N m : ℕ) (infos : List ℕ) (S M : ℕ → List ℕ) (R B C : ℕ 
       syndrome-next = λ k h.
           let e = place-next k in
           let z = inside (suc k) h in
-          ap sy (place-next k) ∙ syndrome-again n N m infos S R A count (l .N-from) (l .m-from) (l .decodes) (r + k * m) (omega arith)
+          ap sy (place-next k) ∙ syndrome-again decoding (r + k * m) (omega arith)
           ∙ ap (λ (x : ℕ). keptOf (found rows x) x) (register-is (r + k * m) (omega arith));
       joint-lt = xor-lt (N - 1) (pd (r + 0 * m)) (pc (r + 0 * m)) (l .decodes (r + 0 * m) (inside 0 some) .pending-lt) (l .codes (r + 0 * m) (inside 0 some) .pending-lt);
       syndrome-lt = l .decodes (r + 0 * m) (inside 0 some) .syndrome-lt;
@@ -168,10 +174,10 @@ module _ (n N m : ℕ) (infos : List ℕ) (S M : ℕ → List ℕ) (R B C : ℕ 
   delayed-at : (q j i : ℕ) → i + suc j ≡ N - 1 → q + suc j * m < count → dl i (q + suc j * m) ≡ R q % 2 ^ (n - 1)
   delayed-at q zero i e h =
       let one : q + 1 * m ≡ q + m = omega (arith, one-mul m) in
-      ap (dl i) one ∙ delayed-again n N m infos S R A count (l .N-from) (l .m-from) (l .decodes) i q (omega arith) (omega arith) ∙ l .decodes q (omega arith) .youngest i (omega arith)
+      ap (dl i) one ∙ delayed-again decoding i q (omega arith) (omega arith) ∙ l .decodes q (omega arith) .youngest i (omega arith)
   delayed-at q (suc j) i e h =
       let step : q + suc (suc j) * m ≡ q + suc j * m + m = omega (arith, suc-mul (suc j) m) in
-      ap (dl i) step ∙ delayed-again n N m infos S R A count (l .N-from) (l .m-from) (l .decodes) i (q + suc j * m) (omega arith) (omega arith)
+      ap (dl i) step ∙ delayed-again decoding i (q + suc j * m) (omega arith) (omega arith)
       ∙ l .decodes (q + suc j * m) (omega arith) .delayed-on i (omega arith)
       ∙ delayed-at q j (suc i) (omega arith) (omega arith)
 

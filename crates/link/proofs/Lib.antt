@@ -3,6 +3,8 @@ mod Suitable
 mod Origin
 mod Step
 mod Sequence
+mod Convolution
+mod Register
 mod Interleaving
 mod Runs
 mod Memory
@@ -10,7 +12,5 @@ mod OneTable
 mod Streams
 mod Bursts
 mod Fade
-mod Convolution
-mod Register
 mod Recovery
 mod Massey
