@@ -1,5 +1,8 @@
 -- One stream as sequences, its blocks counted from 0: s is the syndrome word, raw the raw term and g the register, of N = w + 1 bits. From a block
 -- with the syndrome word 0 on, and as long as the word is the register halved, the register holds the raw terms. Assumes nothing.
+--
+--   register-lt     it has N bits
+--   register-bit    and those are the raw terms
 use mathlib.Core.Path.{_≡_, sym, ap, ap₂, _∙_, subst}
 use mathlib.Core.Bool.{Bool, false, cond}
 use Prim.Native.Nat.{ℕ, zero, suc, _+_, _-_, _*_, _/_, _^_, _≤_, _<_}

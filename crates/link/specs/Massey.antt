@@ -1,18 +1,18 @@
 -- Demand 2, Massey's code over runs of steps: what the pending words and the syndrome words compute is 000's code. Taken place p of a run, counted
 -- from 0, is block p div m of stream p mod m, so that block b of stream r is place r + b × m.
 --
---   sumOver from count f     the exclusive or of f from, f (from + 1), ..: `count` of them
---   rowOf rows j, symbol j x row j, and symbol j of a block
---   ago x b k                block b − k of a stream; blocks before the start are zero
---   convolution n N rows x b the sum of 000, eq. 1, over rows 1 to n, at block b
---   stream m r at            stream r of m, of what stands at the places of a run
+--   sumOver from count f              the exclusive or of f from, f (from + 1), ..: `count` of them
+--   rowOf rows j, symbol j x          row j, and symbol j of a block
+--   ago x b k                         block b − k of a stream; blocks before the start are zero
+--   convolution last N rows x b       the sum of 000, eq. 1, over rows 1 to `last`, at block b of the stream x
+--   stream m r at                     stream r of m, of what stands at the places of a run
 --   infoSent, blockSent, blockTaken   information and block sent at a place, and block taken
 --   rawAt, registerAt, foundAt        raw term, register and what was found there
 --   CoderTables, DecoderTables        each step that is not refused uses a table that is the same as t
---   PARITY                   000, eq. 1
---   SYNDROME                 the raw terms, whatever was received
---   SYNDROME-ERRORS          000, eq. 3
---   REGISTER                 the register holds the last N raw terms since the word was last cleared
+--   PARITY                            000, eq. 1
+--   SYNDROME                          the raw terms, whatever was received
+--   SYNDROME-ERRORS                   000, eq. 3
+--   REGISTER                          the register holds the last N raw terms since the word was last cleared
 use mathlib.Core.Path.{_≡_}
 use mathlib.Core.Bool.{Bool, false, cond, xor, _&&_}
 use mathlib.Core.Logic.{_⊎_}
@@ -49,10 +49,10 @@ symbol j x = bit (j - 1) x
 abbrev pub ago : (ℕ → ℕ) → ℕ → ℕ → ℕ
 ago x b k = cond (leb k b) (x (b - k)) 0
 
--- "In one stream the parity of block t is the exclusive or, over j and k, of bit k of row j and symbol j of block t − k." Here over j from 1 to n
--- and k from 0 to N − 1; block t is block b of the stream x.
+-- "In one stream the parity of block t is the exclusive or, over j and k, of bit k of row j and symbol j of block t − k." Here t is b; j goes from 1
+-- to `last`, which is n − 1 for the information and n with the parity, and k from 0 to N − 1.
 unfoldable pub convolution : ℕ → ℕ → List ℕ → (ℕ → ℕ) → ℕ → Bool
-convolution n N rows x b = sumOver 1 n (λ j. sumOver 0 N (λ k. bit k (rowOf rows j) && symbol j (ago x b k)))
+convolution last N rows x b = sumOver 1 last (λ j. sumOver 0 N (λ k. bit k (rowOf rows j) && symbol j (ago x b k)))
 
 -- ---- streams of a run
 
@@ -60,6 +60,7 @@ convolution n N rows x b = sumOver 1 n (λ j. sumOver 0 N (λ k. bit k (rowOf ro
 abbrev pub stream : {X : Type 0} → ℕ → ℕ → (ℕ → X) → ℕ → X
 stream m r at b = at (r + b * m)
 
+-- of the place counted from 0
 abbrev pub infoSent : List Sent → ℕ → ℕ
 infoSent xs p = sentAt xs (suc p) .info
 
