@@ -24,6 +24,7 @@ use Rattle.link.specs.Decoder.{fillOf}
 use Rattle.link.proofs.Suitable.{Corrects}
 use Rattle.link.proofs.Step.{both-half, both-odd, coder-info, topped-lt}
 use Rattle.link.proofs.Sequence.{Stream, stream-judged}
+use Rattle.link.proofs.Interleaving.{place-next}
 use Rattle.link.proofs.Memory.{CoderStep, DecoderStep, streamIn, registerIn}
 use Rattle.link.proofs.Streams.{CoderRun, DecoderRun, coder-again, pending-again, syndrome-again, delayed-again}
 
@@ -101,9 +102,6 @@ module _ (n N m : ℕ) (infos : List ℕ) (S M : ℕ → List ℕ) (R B C : ℕ 
   -- ---- one stream: the places r + k × m
 
   module _ (r blocks : ℕ) (first : r < m) (inside : (k : ℕ) → k < blocks → r + k * m < count) where
-    place-next : (k : ℕ) → r + suc k * m ≡ r + k * m + m
-    place-next k = omega (arith, suc-mul k m)
-
     stream-apart : (i d : ℕ) → 1 ≤ d → d ≤ N - 1 → i + d < blocks → (er (r + i * m) ≡ 0) ⊎ (er (r + (i + d) * m) ≡ 0)
     stream-apart i d from to h = go (eq-zero-or-pos (er (r + i * m))) (eq-zero-or-pos (er (r + (i + d) * m)))
       where
@@ -136,12 +134,12 @@ module _ (n N m : ℕ) (infos : List ℕ) (S M : ℕ → List ℕ) (R B C : ℕ 
       some = let from = l .N-from in omega arith;
       error-lt = λ k h. er-lt (r + k * m) (inside k h);
       joint-next = λ k h.
-          let e = place-next k in
-          ap jt (place-next k) ∙ jt-again (r + k * m) (omega (arith, inside (suc k) h));
+          let e = place-next m r k in
+          ap jt (place-next m r k) ∙ jt-again (r + k * m) (omega (arith, inside (suc k) h));
       syndrome-next = λ k h.
-          let e = place-next k in
+          let e = place-next m r k in
           let z = inside (suc k) h in
-          ap sy (place-next k) ∙ syndrome-again decoding (r + k * m) (omega arith)
+          ap sy (place-next m r k) ∙ syndrome-again decoding (r + k * m) (omega arith)
           ∙ ap (λ (x : ℕ). keptOf (found rows x) x) (register-is (r + k * m) (omega arith));
       joint-lt = xor-lt (N - 1) (pd (r + 0 * m)) (pc (r + 0 * m)) (l .decodes (r + 0 * m) (inside 0 some) .pending-lt) (l .codes (r + 0 * m) (inside 0 some) .pending-lt);
       syndrome-lt = l .decodes (r + 0 * m) (inside 0 some) .syndrome-lt;

@@ -3,8 +3,8 @@
 use mathlib.Core.Path.{_≡_, refl, sym, ap, _∙_}
 use mathlib.Core.Bool.{Bool, true, false, cond}
 use mathlib.Core.Logic.{_≢_, _⊎_, inl, inr}
-use Prim.Native.Nat.{ℕ, zero, suc, _+_, _-_, _≤_, _<_}
-use native.Mathlib.Nat.{add-zero}
+use Prim.Native.Nat.{ℕ, zero, suc, _+_, _-_, _*_, _≤_, _<_}
+use native.Mathlib.Nat.{add-zero, suc-mul}
 use native.Mathlib.Omega.{arith}
 use borrow.Author.Tests.{eqb-true, eqb-false}
 use lib.Dec.{eqb}
@@ -16,6 +16,10 @@ turn-next m x = go (eqb (suc x) m) refl
     go : (b : Bool) → eqb (suc x) m ≡ b → ((suc x ≡ m) × (cond b 0 (suc x) ≡ 0)) ⊎ ((suc x ≢ m) × (cond b 0 (suc x) ≡ suc x))
     go true q = inl (eqb-true (suc x) m q, refl)
     go false q = inr (eqb-false (suc x) m q, refl)
+
+-- the next place of a stream
+pub place-next : (m r k : ℕ) → r + suc k * m ≡ r + k * m + m
+place-next m r k = omega (arith, suc-mul k m)
 
 pub record Turns (m : ℕ) (turn : ℕ → ℕ) (count : ℕ) : Type 0 where
   pub some : 1 ≤ m

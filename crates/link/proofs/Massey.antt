@@ -8,7 +8,7 @@ use mathlib.Core.Bool.{Bool, false, cond, xor}
 use mathlib.Core.Logic.{_⊎_, inl, inr}
 use mathlib.Core.List.{List, [], _∷_, _++_}
 use Prim.Native.Nat.{ℕ, zero, suc, _+_, _-_, _*_, _/_, _%_, _^_, _≤_, _<_}
-use native.Mathlib.Nat.{zero-mul, suc-mul, mul-le-mul-right}
+use native.Mathlib.Nat.{zero-mul, mul-le-mul-right}
 use native.Mathlib.Decide.{decLt}
 use native.Mathlib.Omega.{arith}
 use lib.Dec.{leb}
@@ -30,6 +30,7 @@ use Rattle.link.specs.Runs.{Call, Sent, Taken, sentBy, takenBy, takenAt}
 use Rattle.link.specs.Massey.{convolution, stream, infoSent, blockSent, blockTaken, rawAt, registerAt, foundAt, CoderTables, DecoderTables, PARITY, SYNDROME, SYNDROME-ERRORS, REGISTER}
 use Rattle.link.proofs.Origin.{below-snoc}
 use Rattle.link.proofs.Step.{topped-low, topped-bit, joined-half, joined-odd, coder-half, coder-even}
+use Rattle.link.proofs.Interleaving.{place-next}
 use Rattle.link.proofs.Runs.{coderBefore, decoderBefore, before-first}
 use Rattle.link.proofs.Memory.{Fits, CoderStep, Verdict, streamIn}
 use Rattle.link.proofs.OneTable.{coded, decoded, verdict}
@@ -45,9 +46,6 @@ earlier m r b k count h l = omega (arith, mul-le-mul-right m l)
 
 place-first : (m r : ℕ) → r + 0 * m ≡ r
 place-first m r = omega (arith, zero-mul m)
-
-place-next : (m r k : ℕ) → r + suc k * m ≡ r + k * m + m
-place-next m r k = omega (arith, suc-mul k m)
 
 all-images : (n N : ℕ) (infos : List ℕ) → Fits n N infos → (c : ℕ) → combination (infos ++ (1 ∷ [])) c < 2 ^ N
 all-images n N infos f c =
