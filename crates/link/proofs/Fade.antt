@@ -6,7 +6,7 @@ use mathlib.Core.Bool.{Bool, true, false, cond}
 use mathlib.Core.Logic.{_≢_, _⊎_, inl, inr}
 use mathlib.Core.List.{List, [], _∷_, _++_}
 use Prim.Native.Nat.{ℕ, zero, suc, _+_, _-_, _*_, _/_, _%_, _^_, _≤_, _<_}
-use native.Mathlib.Nat.{add-zero, add-assoc, add-mul, suc-mul, one-mul, mul-comm, mul-assoc, mul-le-mul-right, mod-lt, div-add-mod', le-div-iff-mul-le, eq-zero-or-pos}
+use native.Mathlib.Nat.{add-mul, suc-mul, one-mul, mul-comm, mul-assoc, mul-le-mul-right, mod-lt, div-add-mod', le-div-iff-mul-le, eq-zero-or-pos}
 use native.Mathlib.Omega.{arith}
 use borrow.Author.Tests.{ltb-false}
 use lib.Dec.{ltb}
@@ -22,10 +22,11 @@ use Rattle.link.specs.Stream.{joining, found, errorOf, keptOf, markOf}
 use Rattle.link.specs.Coder.{turnOf, pendingAt}
 use Rattle.link.specs.Decoder.{fillOf}
 use Rattle.link.proofs.Suitable.{Corrects}
-use Rattle.link.proofs.Step.{both-half, both-odd, coder-info, coded-lt}
+use Rattle.link.proofs.Step.{both-half, both-odd, coder-info, topped-lt}
 use Rattle.link.proofs.Sequence.{Stream, stream-judged}
-use Rattle.link.proofs.Interleaving.{Turns, word-again}
+use Rattle.link.proofs.Interleaving.{place-next}
 use Rattle.link.proofs.Memory.{CoderStep, DecoderStep, streamIn, registerIn}
+use Rattle.link.proofs.Turn.{CoderRun, DecoderRun, coder-again, pending-again, syndrome-again, delayed-again}
 
 pub record Linked (n N m : ℕ) (infos : List ℕ) (S M : ℕ → List ℕ) (R B C : ℕ → ℕ) (A : ℕ → DecodeAnswer) (count : ℕ) : Type 0 where
   pub n-from : 2 ≤ n
@@ -62,55 +63,20 @@ module _ (n N m : ℕ) (infos : List ℕ) (S M : ℕ → List ℕ) (R B C : ℕ 
   abbrev er : ℕ → ℕ
   er p = R p ⊕ C p
 
-  -- ---- the streams in turn
-
-  decoder-turns : Turns m (λ (p : ℕ). turnOf (S p)) count
-  decoder-turns = record {
-    some = l .m-from;
-    inside = λ p h. l .decodes p h .turn-lt;
-    next = λ p h. l .decodes p h .turn-on;
-  }
-
-  coder-turns : Turns m (λ (p : ℕ). turnOf (M p)) count
-  coder-turns = record {
-    some = l .m-from;
-    inside = λ p h. l .codes p h .turn-lt;
-    next = λ p h. l .codes p h .turn-on;
-  }
-
-  pd-again : (p : ℕ) → p + m < count → pd (p + m) ≡ joining infos (pd p) (R p % 2 ^ (n - 1)) / 2
-  pd-again p h =
-      word-again m (λ (q : ℕ). turnOf (S q)) count decoder-turns (λ (q k : ℕ). getD (S q) (streamIn N k) 0)
-      (λ q k a b ne. ap (λ (i : ℕ). getD (S (suc q)) i 0) (sym (add-zero (streamIn N k))) ∙ l .decodes q a .others k 0 b (omega arith) ne
-      ∙ ap (λ (i : ℕ). getD (S q) i 0) (add-zero (streamIn N k))) p h
-      ∙ l .decodes p (omega arith) .pending-on
-
-  sy-again : (p : ℕ) → p + m < count
-      → sy (p + m) ≡ keptOf (found rows (registerIn n N infos (S p) (R p))) (registerIn n N infos (S p) (R p))
-  sy-again p h =
-      let from = l .N-from in
-      word-again m (λ (q : ℕ). turnOf (S q)) count decoder-turns (λ (q k : ℕ). getD (S q) (streamIn N k + 1) 0)
-      (λ q k a b ne. l .decodes q a .others k 1 b (omega arith) ne) p h
-      ∙ l .decodes p (omega arith) .syndrome-on
-
-  dl-again : (i p : ℕ) → i < N - 1 → p + m < count → dl i (p + m) ≡ getD (S (suc p)) (streamIn N (turnOf (S p)) + 2 + i) 0
-  dl-again i p b h =
-      word-again m (λ (q : ℕ). turnOf (S q)) count decoder-turns (λ (q k : ℕ). getD (S q) (streamIn N k + 2 + i) 0)
-      (λ q k a c ne. ap (λ (j : ℕ). getD (S (suc q)) j 0) (add-assoc (streamIn N k) 2 i) ∙ l .decodes q a .others k (2 + i) c (omega arith) ne
-      ∙ ap (λ (j : ℕ). getD (S q) j 0) (sym (add-assoc (streamIn N k) 2 i))) p h
-
-  pc-again : (p : ℕ) → p + m < count → pc (p + m) ≡ joining infos (pc p) (B p) / 2
-  pc-again p h =
-      word-again m (λ (q : ℕ). turnOf (M q)) count coder-turns (λ (q k : ℕ). pendingAt (M q) k)
-      (λ q k a b ne. l .codes q a .others k b ne) p h
-      ∙ l .codes p (omega arith) .own
-
   -- ---- coder and decoder together
+
+  coding : CoderRun n N m infos M B C count
+  coding = record { m-from = l .m-from; codes = l .codes }
+
+  decoding : DecoderRun n N m infos S R A count
+  decoding = record { N-from = l .N-from; m-from = l .m-from; decodes = l .decodes }
 
   jt-again : (p : ℕ) → p + m < count → jt (p + m) ≡ (jt p ⊕ combination rows (er p)) / 2
   jt-again p h =
       let c = l .codes p (omega arith) in
-      ap₂ _⊕_ (pd-again p h) (pc-again p h) ∙ sym (both-half infos (n - 1) (l .size) (pc p) (pd p) (B p) (C p) (R p) (c .info-lt) (c .coded))
+      ap₂ _⊕_ (pending-again decoding p h)
+      (coder-again coding p h)
+      ∙ sym (both-half infos (n - 1) (l .size) (pc p) (pd p) (B p) (C p) (R p) (c .info-lt) (c .coded))
 
   register-is : (p : ℕ) → p < count → registerIn n N infos (S p) (R p) ≡ sy p + digit (odd (jt p ⊕ combination rows (er p))) * 2 ^ (N - 1)
   register-is p h =
@@ -125,7 +91,7 @@ module _ (n N m : ℕ) (infos : List ℕ) (S M : ℕ → List ℕ) (R B C : ℕ 
       xor-lt n (R p) (C p) (l .decodes p h .block-lt)
       (subst (λ (x : ℕ). x < 2 ^ n) (sym (c .coded))
       (subst (λ (k : ℕ). B p + digit (odd (joining infos (pc p) (B p))) * 2 ^ (n - 1) < 2 ^ k) (let e : suc (n - 1) ≡ n = omega arith in e)
-      (coded-lt infos (n - 1) (l .size) (B p) (odd (joining infos (pc p) (B p))) (c .info-lt))))
+      (topped-lt (n - 1) (B p) (odd (joining infos (pc p) (B p))) (c .info-lt))))
 
   er-right : (p : ℕ) → R p ≡ C p → er p ≡ 0
   er-right p e = ap (λ (x : ℕ). x ⊕ C p) e ∙ xor-self (C p)
@@ -136,9 +102,6 @@ module _ (n N m : ℕ) (infos : List ℕ) (S M : ℕ → List ℕ) (R B C : ℕ 
   -- ---- one stream: the places r + k × m
 
   module _ (r blocks : ℕ) (first : r < m) (inside : (k : ℕ) → k < blocks → r + k * m < count) where
-    place-next : (k : ℕ) → r + suc k * m ≡ r + k * m + m
-    place-next k = omega (arith, suc-mul k m)
-
     stream-apart : (i d : ℕ) → 1 ≤ d → d ≤ N - 1 → i + d < blocks → (er (r + i * m) ≡ 0) ⊎ (er (r + (i + d) * m) ≡ 0)
     stream-apart i d from to h = go (eq-zero-or-pos (er (r + i * m))) (eq-zero-or-pos (er (r + (i + d) * m)))
       where
@@ -171,12 +134,12 @@ module _ (n N m : ℕ) (infos : List ℕ) (S M : ℕ → List ℕ) (R B C : ℕ 
       some = let from = l .N-from in omega arith;
       error-lt = λ k h. er-lt (r + k * m) (inside k h);
       joint-next = λ k h.
-          let e = place-next k in
-          ap jt (place-next k) ∙ jt-again (r + k * m) (omega (arith, inside (suc k) h));
+          let e = place-next m r k in
+          ap jt (place-next m r k) ∙ jt-again (r + k * m) (omega (arith, inside (suc k) h));
       syndrome-next = λ k h.
-          let e = place-next k in
+          let e = place-next m r k in
           let z = inside (suc k) h in
-          ap sy (place-next k) ∙ sy-again (r + k * m) (omega arith)
+          ap sy (place-next m r k) ∙ syndrome-again decoding (r + k * m) (omega arith)
           ∙ ap (λ (x : ℕ). keptOf (found rows x) x) (register-is (r + k * m) (omega arith));
       joint-lt = xor-lt (N - 1) (pd (r + 0 * m)) (pc (r + 0 * m)) (l .decodes (r + 0 * m) (inside 0 some) .pending-lt) (l .codes (r + 0 * m) (inside 0 some) .pending-lt);
       syndrome-lt = l .decodes (r + 0 * m) (inside 0 some) .syndrome-lt;
@@ -209,10 +172,10 @@ module _ (n N m : ℕ) (infos : List ℕ) (S M : ℕ → List ℕ) (R B C : ℕ 
   delayed-at : (q j i : ℕ) → i + suc j ≡ N - 1 → q + suc j * m < count → dl i (q + suc j * m) ≡ R q % 2 ^ (n - 1)
   delayed-at q zero i e h =
       let one : q + 1 * m ≡ q + m = omega (arith, one-mul m) in
-      ap (dl i) one ∙ dl-again i q (omega arith) (omega arith) ∙ l .decodes q (omega arith) .youngest i (omega arith)
+      ap (dl i) one ∙ delayed-again decoding i q (omega arith) (omega arith) ∙ l .decodes q (omega arith) .youngest i (omega arith)
   delayed-at q (suc j) i e h =
       let step : q + suc (suc j) * m ≡ q + suc j * m + m = omega (arith, suc-mul (suc j) m) in
-      ap (dl i) step ∙ dl-again i (q + suc j * m) (omega arith) (omega arith)
+      ap (dl i) step ∙ delayed-again decoding i (q + suc j * m) (omega arith) (omega arith)
       ∙ l .decodes (q + suc j * m) (omega arith) .delayed-on i (omega arith)
       ∙ delayed-at q j (suc i) (omega arith) (omega arith)
 

@@ -2,11 +2,11 @@
 -- makes both words 0, and then each error is alone among the blocks of the stream that are still delayed, is found as it leaves, and nothing is
 -- found before. Assumes nothing.
 use mathlib.Core.Path.{_≡_, sym, ap, _∙_, subst}
-use mathlib.Core.Bool.{Bool, true, false}
+use mathlib.Core.Bool.{Bool, false}
 use mathlib.Core.Logic.{_≢_, _⊎_, inl, inr}
 use mathlib.Core.List.{List}
 use Prim.Native.Nat.{ℕ, zero, suc, _+_, _-_, _*_, _/_, _%_, _^_, _≤_, _<_}
-use native.Mathlib.Nat.{add-zero, zero-mul, one-mul, div-one, mod-one, zero-mod, zero-div, eq-zero-or-pos}
+use native.Mathlib.Nat.{add-zero, zero-mul, div-one, mod-one, zero-mod, zero-div, eq-zero-or-pos}
 use native.Mathlib.Omega.{arith}
 use lib.Pow.{pow-pos}
 use Rattle.span.specs.declared.eliminate.Least.{Least}
@@ -17,7 +17,7 @@ use Rattle.span.proofs.Laws.{xor-zero-l, xor-zero-r, odd-of, combination-zero}
 use Rattle.link.specs.declared.decoder.Mark.the-variants.{Doubtful}
 use Rattle.link.specs.Stream.{found, errorOf, keptOf, markOf}
 use Rattle.link.proofs.Suitable.{Corrects}
-use Rattle.link.proofs.Step.{leaving, staying}
+use Rattle.link.proofs.Step.{topped-lt, leaving, staying}
 
 abbrev pub joint : List ℕ → (ℕ → ℕ) → (ℕ → ℕ) → ℕ → ℕ
 joint rows D e k = D k ⊕ combination rows (e k)
@@ -41,10 +41,6 @@ pub record Stream (n w : ℕ) (rows : List ℕ) (D s e : ℕ → ℕ) (count : �
 kept-lt : (f : Least) (x j : ℕ) → x < 2 ^ suc j → keptOf f x < 2 ^ j
 kept-lt (Found e) x j h = pow-pos j
 kept-lt Missing x j h = omega arith
-
-digit-add-lt : (b : Bool) (x w : ℕ) → x < 2 ^ w → x + digit b * 2 ^ w < 2 ^ suc w
-digit-add-lt true x w h = let e = one-mul (2 ^ w) in omega arith
-digit-add-lt false x w h = let e = zero-mul (2 ^ w) in omega arith
 
 module _ (n w : ℕ) (rows : List ℕ) (D s e : ℕ → ℕ) (count : ℕ) (S : Stream n w rows D s e count) where
   -- a right block adds nothing
@@ -77,7 +73,7 @@ module _ (n w : ℕ) (rows : List ℕ) (D s e : ℕ → ℕ) (count : ℕ) (S : 
   syndrome-below (suc k) h =
       rw (S .syndrome-next k h)
       (kept-lt (found rows (registered w rows D e s k)) (registered w rows D e s k) w
-      (digit-add-lt (odd (joint rows D e k)) (s k) w (syndrome-below k (omega arith))))
+      (topped-lt w (s k) (odd (joint rows D e k)) (syndrome-below k (omega arith))))
 
   guard-syndrome : (i j : ℕ) → i + j ≡ w → w + i < count → s (w + i) < 2 ^ j
   guard-syndrome zero j h l = subst (λ (k : ℕ). s (w + 0) < 2 ^ k) (omega arith) (syndrome-below (w + 0) l)

@@ -1,4 +1,4 @@
--- `link`: coder and decoder on lent memory, runs of their steps, and recovery after a fade.
+-- `link`: coder and decoder on lent memory, runs of their steps, recovery after a fade, Massey's code, and the examples.
 pub mod Stream
 pub mod Start
 pub mod Coder
@@ -7,5 +7,6 @@ pub mod Answers
 pub mod Streams
 pub mod Runs
 pub mod Recovery
+pub mod Massey
 pub mod Examples
 pub mod StepExamples
