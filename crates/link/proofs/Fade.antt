@@ -23,7 +23,7 @@ use Rattle.link.specs.Coder.{turnOf, pendingAt}
 use Rattle.link.specs.Decoder.{fillOf}
 use Rattle.link.proofs.Suitable.{Corrects}
 use Rattle.link.proofs.Step.{both-half, both-odd, coder-info, coded-lt}
-use Rattle.link.proofs.Sequence.{Stream, stream-judged}
+use Rattle.link.proofs.Sequence.{Stream, guard-clean, guard-syndrome, stream-judged}
 use Rattle.link.proofs.Interleaving.{Turns, word-again}
 use Rattle.link.proofs.Memory.{CoderStep, DecoderStep, streamIn, registerIn}
 
@@ -35,9 +35,6 @@ pub record Linked (n N m : ℕ) (infos : List ℕ) (S M : ℕ → List ℕ) (R B
   pub code : Corrects n (N - 1) (infos ++ (1 ∷ []))
   pub decodes : (p : ℕ) → p < count → DecoderStep n N m infos (S p) (R p) (A p) (S (suc p))
   pub codes : (p : ℕ) → p < count → CoderStep n N m infos (M p) (B p) (C p) (M (suc p))
-  pub guard : (p : ℕ) → p < count → p < 2 * (m * (N - 1)) → R p ≡ C p
-  -- two wrong places lie in one burst, or far apart
-  pub apart : (p q : ℕ) → p < q → q < count → R p ≢ C p → R q ≢ C q → (q < p + m) ⊎ (p + m * (N - 1) < q)
 
 module _ (n N m : ℕ) (infos : List ℕ) (S M : ℕ → List ℕ) (R B C : ℕ → ℕ) (A : ℕ → DecodeAnswer) (count : ℕ) (l : Linked n N m infos S M R B C A count) where
   abbrev rows : List ℕ
@@ -135,56 +132,45 @@ module _ (n N m : ℕ) (infos : List ℕ) (S M : ℕ → List ℕ) (R B C : ℕ 
 
   -- ---- one stream: the places r + k × m
 
-  module _ (r blocks : ℕ) (first : r < m) (inside : (k : ℕ) → k < blocks → r + k * m < count) where
+  module _ (r : ℕ) where
     place-next : (k : ℕ) → r + suc k * m ≡ r + k * m + m
     place-next k = omega (arith, suc-mul k m)
 
-    stream-apart : (i d : ℕ) → 1 ≤ d → d ≤ N - 1 → i + d < blocks → (er (r + i * m) ≡ 0) ⊎ (er (r + (i + d) * m) ≡ 0)
-    stream-apart i d from to h = go (eq-zero-or-pos (er (r + i * m))) (eq-zero-or-pos (er (r + (i + d) * m)))
-      where
-        long : r + (i + d) * m ≡ r + i * m + d * m
-        long = omega (arith, add-mul i d m)
+    place-inside : (last k : ℕ) → r + last * m < count → k < suc last → r + k * m < count
+    place-inside last k h b = let below : k ≤ last = omega arith in omega (arith, mul-le-mul-right m below)
 
-        least : m ≤ d * m
-        least = omega (arith, mul-le-mul-right m from, one-mul m)
-
-        most : d * m ≤ m * (N - 1)
-        most = omega (arith, mul-le-mul-right m to, mul-comm m (N - 1))
-
-        never : (r + (i + d) * m < r + i * m + m) ⊎ (r + i * m + m * (N - 1) < r + (i + d) * m) → ⊥
-        never (inl z) = let a = long in let b = least in omega arith
-        never (inr z) = let a = long in let b = most in omega arith
-
-        go : ((er (r + i * m) ≡ 0) ⊎ (0 < er (r + i * m))) → ((er (r + (i + d) * m) ≡ 0) ⊎ (0 < er (r + (i + d) * m)))
-            → (er (r + i * m) ≡ 0) ⊎ (er (r + (i + d) * m) ≡ 0)
-        go (inl z) b = inl z
-        go (inr z) (inl y) = inr y
-        go (inr z) (inr y) =
-            let some = l .m-from in
-            let a = long in
-            let b = least in
-            absurd (never (l .apart (r + i * m) (r + (i + d) * m) (omega arith) (inside (i + d) h) (er-wrong (r + i * m) z) (er-wrong (r + (i + d) * m) y)))
-
-    stream : 0 < blocks → Stream n (N - 1) rows (λ (k : ℕ). jt (r + k * m)) (λ (k : ℕ). sy (r + k * m)) (λ (k : ℕ). er (r + k * m)) blocks
-    stream some = record {
+    -- from place r on, to that of its block number `last`
+    stream : (last : ℕ) → r + last * m < count
+        → Stream n (N - 1) rows (λ (k : ℕ). jt (r + k * m)) (λ (k : ℕ). sy (r + k * m)) (λ (k : ℕ). er (r + k * m)) (suc last)
+    stream last h = record {
       code = l .code;
       some = let from = l .N-from in omega arith;
-      error-lt = λ k h. er-lt (r + k * m) (inside k h);
-      joint-next = λ k h.
+      error-lt = λ k b. er-lt (r + k * m) (place-inside last k h b);
+      joint-next = λ k b.
           let e = place-next k in
-          ap jt (place-next k) ∙ jt-again (r + k * m) (omega (arith, inside (suc k) h));
-      syndrome-next = λ k h.
+          ap jt (place-next k) ∙ jt-again (r + k * m) (omega (arith, place-inside last (suc k) h b));
+      syndrome-next = λ k b.
           let e = place-next k in
-          let z = inside (suc k) h in
+          let z = place-inside last (suc k) h b in
           ap sy (place-next k) ∙ sy-again (r + k * m) (omega arith)
           ∙ ap (λ (x : ℕ). keptOf (found rows x) x) (register-is (r + k * m) (omega arith));
-      joint-lt = xor-lt (N - 1) (pd (r + 0 * m)) (pc (r + 0 * m)) (l .decodes (r + 0 * m) (inside 0 some) .pending-lt) (l .codes (r + 0 * m) (inside 0 some) .pending-lt);
-      syndrome-lt = l .decodes (r + 0 * m) (inside 0 some) .syndrome-lt;
-      guard = λ k below h.
-          er-right (r + k * m) (l .guard (r + k * m) (inside k h)
-          (omega (arith, mul-le-mul-right m below, suc-mul k m, mul-assoc 2 (N - 1) m, mul-comm m (N - 1))));
-      apart = stream-apart;
+      joint-lt =
+          let z = place-inside last 0 h (omega arith) in
+          xor-lt (N - 1) (pd (r + 0 * m)) (pc (r + 0 * m)) (l .decodes (r + 0 * m) z .pending-lt) (l .codes (r + 0 * m) z .pending-lt);
+      syndrome-lt = λ k b. l .decodes (r + k * m) (place-inside last k h b) .syndrome-lt;
     }
+
+    -- N − 1 + i right blocks from place r on: no pending word differs, and the syndrome word is short
+    pub guarded : (i j : ℕ) → i + j ≡ N - 1 → r + (N - 1 + i) * m < count → ((k : ℕ) → k < N - 1 + i → R (r + k * m) ≡ C (r + k * m))
+        → (jt (r + (N - 1 + i) * m) ≡ 0) × (sy (r + (N - 1 + i) * m) < 2 ^ j)
+    guarded i j whole h right =
+        let q = N - 1 + i in
+        let quiet : (k : ℕ) → k < q → k < suc q → er (r + k * m) ≡ 0 = (λ k b c. er-right (r + k * m) (right k b)) in (
+          guard-clean n (N - 1) rows (λ (k : ℕ). jt (r + k * m)) (λ (k : ℕ). sy (r + k * m)) (λ (k : ℕ). er (r + k * m)) (suc q) (stream q h) q quiet i
+              (omega arith) (omega arith),
+          guard-syndrome n (N - 1) rows (λ (k : ℕ). jt (r + k * m)) (λ (k : ℕ). sy (r + k * m)) (λ (k : ℕ). er (r + k * m)) (suc q) (stream q h) q quiet i
+              j whole (omega arith) (omega arith),
+        )
 
   -- ---- what is delivered
 
@@ -223,46 +209,100 @@ module _ (n N m : ℕ) (infos : List ℕ) (S M : ℕ → List ℕ) (R B C : ℕ 
       let place : p ≡ q + suc (N - 2) * m = sym e ∙ ap (λ (x : ℕ). q + x) (mul-comm m (N - 1) ∙ ap (λ (k : ℕ). k * m) (sym many)) in
       ap (dl 0) place ∙ delayed-at q (N - 2) 0 (omega arith) (omega arith)
 
-  -- the error of place q is found at place p
-  found-at : (p q : ℕ) → p < count → 2 * (m * (N - 1)) ≤ p → q + m * (N - 1) ≡ p
-      → (errorOf (found rows (registerIn n N infos (S p) (R p))) ≡ er q)
-      × (markOf (found rows (registerIn n N infos (S p) (R p))) (registerIn n N infos (S p) (R p)) ≢ Doubtful)
-  found-at p q h late e =
-      let some = l .m-from in
-      let r = p % m in
-      let k = p / m in
-      let w = N - 1 in
-      let i = k - w in
-      let first : r < m = mod-lt p (omega arith) in
-      let whole = div-add-mod' p m in
-      let inside : (j : ℕ) → j < suc k → r + j * m < count =
-      (λ j b. let below : j ≤ k = omega arith in omega (arith, mul-le-mul-right m below)) in
-      let from : 2 * w ≤ k = le-div-iff-mul-le {k = m} (omega arith) .1 (omega (arith, mul-assoc 2 w m, mul-comm m w)) in
-      let back : i + w ≡ k = omega arith in
-      let here : r + k * m ≡ p = omega arith in
-      let there : r + i * m ≡ q = omega (arith, ap (λ (x : ℕ). x * m) back, add-mul i w m, mul-comm m w) in
-      let out = stream-judged n w rows (λ (j : ℕ). jt (r + j * m)) (λ (j : ℕ). sy (r + j * m)) (λ (j : ℕ). er (r + j * m)) (suc k)
-      (stream r (suc k) first inside (omega arith)) k i (omega arith) from back in
-      let same : sy (r + k * m) + digit (odd (jt (r + k * m) ⊕ combination rows (er (r + k * m)))) * 2 ^ w ≡ registerIn n N infos (S p) (R p) =
-      sym (register-is (r + k * m) (omega arith)) ∙ ap (λ (x : ℕ). registerIn n N infos (S x) (R x)) here in (
-        ap (λ (x : ℕ). errorOf (found rows x)) (sym same) ∙ out .0 ∙ ap er there,
-        subst (λ (x : ℕ). markOf (found rows x) x ≢ Doubtful) same (out .1),
-      )
-
   corrected : (q : ℕ) → q < count → R q % 2 ^ (n - 1) ⊕ er q % 2 ^ (n - 1) ≡ B q
   corrected q h =
       let c = l .codes q h in
       ap (λ (x : ℕ). R q % 2 ^ (n - 1) ⊕ x) (xor-mod (R q) (C q) (n - 1)) ∙ xor-twice (R q % 2 ^ (n - 1)) (C q % 2 ^ (n - 1))
       ∙ coder-info infos (n - 1) (l .size) (pc q) (pd q) (B q) (C q) (R q) (c .info-lt) (c .coded)
 
-  pub recovers : (p q : ℕ) → p < count → 2 * (m * (N - 1)) ≤ p → q + m * (N - 1) ≡ p
+  -- ---- what is found
+
+  -- Two wrong places lie in one burst, or far apart. The first `start` blocks of each stream are right, and then both its words are 0.
+  module _ (apart : (p q : ℕ) → p < q → q < count → R p ≢ C p → R q ≢ C q → (q < p + m) ⊎ (p + m * (N - 1) < q)) (start : ℕ)
+      (right : (p : ℕ) → p < start * m → p < count → R p ≡ C p)
+      (clean : (r : ℕ) → r < m → r + start * m < count → (jt (r + start * m) ≡ 0) × (sy (r + start * m) ≡ 0)) where
+    stream-apart : (r last : ℕ) → r + last * m < count → (i d : ℕ) → 1 ≤ d → d ≤ N - 1 → i + d < suc last
+        → (er (r + i * m) ≡ 0) ⊎ (er (r + (i + d) * m) ≡ 0)
+    stream-apart r last inside i d from to h = go (eq-zero-or-pos (er (r + i * m))) (eq-zero-or-pos (er (r + (i + d) * m)))
+      where
+        long : r + (i + d) * m ≡ r + i * m + d * m
+        long = omega (arith, add-mul i d m)
+
+        least : m ≤ d * m
+        least = omega (arith, mul-le-mul-right m from, one-mul m)
+
+        most : d * m ≤ m * (N - 1)
+        most = omega (arith, mul-le-mul-right m to, mul-comm m (N - 1))
+
+        never : (r + (i + d) * m < r + i * m + m) ⊎ (r + i * m + m * (N - 1) < r + (i + d) * m) → ⊥
+        never (inl z) = let a = long in let b = least in omega arith
+        never (inr z) = let a = long in let b = most in omega arith
+
+        go : ((er (r + i * m) ≡ 0) ⊎ (0 < er (r + i * m))) → ((er (r + (i + d) * m) ≡ 0) ⊎ (0 < er (r + (i + d) * m)))
+            → (er (r + i * m) ≡ 0) ⊎ (er (r + (i + d) * m) ≡ 0)
+        go (inl z) b = inl z
+        go (inr z) (inl y) = inr y
+        go (inr z) (inr y) =
+            let some = l .m-from in
+            let a = long in
+            let b = least in
+            absurd (never (apart (r + i * m) (r + (i + d) * m) (omega arith) (place-inside r last (i + d) inside h) (er-wrong (r + i * m) z)
+            (er-wrong (r + (i + d) * m) y)))
+
+    -- at place p the error of the place m × (N − 1) before is found, or 0 if there is no such place
+    found-at : (p x : ℕ) → p < count → start * m ≤ p → ((q : ℕ) → q + m * (N - 1) ≡ p → er q ≡ x) → (p < m * (N - 1) → x ≡ 0)
+        → (errorOf (found rows (registerIn n N infos (S p) (R p))) ≡ x)
+        × (markOf (found rows (registerIn n N infos (S p) (R p))) (registerIn n N infos (S p) (R p)) ≢ Doubtful)
+    found-at p x h late leaves none =
+        let some = l .m-from in
+        let r = p % m in
+        let k = p / m in
+        let w = N - 1 in
+        let first : r < m = mod-lt p (omega arith) in
+        let whole = div-add-mod' p m in
+        let here : r + k * m ≡ p = omega arith in
+        let inside : r + k * m < count = omega arith in
+        let from : start ≤ k = le-div-iff-mul-le {k = m} (omega arith) .1 late in
+        let begin : r + start * m < count = omega (arith, mul-le-mul-right m from) in
+        let z = clean r first begin in
+        let out = stream-judged n w rows (λ (j : ℕ). jt (r + j * m)) (λ (j : ℕ). sy (r + j * m)) (λ (j : ℕ). er (r + j * m)) (suc k) (stream r k inside)
+        (stream-apart r k inside) start (z .0) (z .1)
+        (λ i d e a b.
+        let next : suc i ≤ start = omega arith in
+        let room : r + i * m < start * m = omega (arith, mul-le-mul-right m next, suc-mul i m) in
+        er-right (r + i * m) (right (r + i * m) room (omega arith)))
+        k x from (omega arith) (λ i e. leaves (r + i * m) (omega (arith, ap (λ (y : ℕ). y * m) e, add-mul i w m, mul-comm m w)))
+        (λ few. none (omega (arith, mul-le-mul-right m few, suc-mul k m, mul-comm m w))) in
+        let same : sy (r + k * m) + digit (odd (jt (r + k * m) ⊕ combination rows (er (r + k * m)))) * 2 ^ w ≡ registerIn n N infos (S p) (R p) =
+        sym (register-is (r + k * m) inside) ∙ ap (λ (y : ℕ). registerIn n N infos (S y) (R y)) here in (
+          ap (λ (y : ℕ). errorOf (found rows y)) (sym same) ∙ out .0,
+          subst (λ (y : ℕ). markOf (found rows y) y ≢ Doubtful) same (out .1),
+        )
+
+    pub delivers : (p q : ℕ) → p < count → start * m ≤ p → q + m * (N - 1) ≡ p
+        → (mark : Mark) × (A p ≡ Delivery (record { info = B q; mark = mark })) × (mark ≢ Doubtful)
+    delivers p q h late e =
+        let f = found-at p (er q) h late (λ i d. ap er (let same : i ≡ q = omega arith in same)) (λ few. absurd (omega arith)) in
+        let mark = markOf (found rows (registerIn n N infos (S p) (R p))) (registerIn n N infos (S p) (R p)) in (
+          mark,
+          l .decodes p h .answers (fill-complete p h (omega arith))
+              ∙ ap (λ (x : ℕ). Delivery (record { info = x; mark = mark }))
+              (ap₂ (λ (x y : ℕ). x ⊕ y % 2 ^ (n - 1)) (oldest p q h e) (f .0) ∙ corrected q (omega arith)),
+          f .1,
+        )
+
+  -- the guard makes every stream clean
+  pub recovers : ((p q : ℕ) → p < q → q < count → R p ≢ C p → R q ≢ C q → (q < p + m) ⊎ (p + m * (N - 1) < q))
+      → ((p : ℕ) → p < 2 * (m * (N - 1)) → p < count → R p ≡ C p) → (p q : ℕ) → p < count → 2 * (m * (N - 1)) ≤ p → q + m * (N - 1) ≡ p
       → (mark : Mark) × (A p ≡ Delivery (record { info = B q; mark = mark })) × (mark ≢ Doubtful)
-  recovers p q h late e =
-      let f = found-at p q h late e in
-      let mark = markOf (found rows (registerIn n N infos (S p) (R p))) (registerIn n N infos (S p) (R p)) in (
-        mark,
-        l .decodes p h .answers (fill-complete p h (omega arith))
-            ∙ ap (λ (x : ℕ). Delivery (record { info = x; mark = mark }))
-            (ap₂ (λ (x y : ℕ). x ⊕ y % 2 ^ (n - 1)) (oldest p q h e) (f .0) ∙ corrected q (omega arith)),
-        f .1,
-      )
+  recovers apart guard p q h late e =
+      let w = N - 1 in
+      let long : (w + w) * m ≡ 2 * (m * w) = omega (arith, add-mul w w m, mul-comm m w) in
+      let right : (i : ℕ) → i < (w + w) * m → i < count → R i ≡ C i = (λ i a b. guard i (omega arith) b) in
+      delivers apart (w + w) right
+      (λ r first inside.
+      let g = guarded r w 0 (omega arith) inside
+      (λ k b. right (r + k * m) (omega (arith, mul-le-mul-right m b, suc-mul k m))
+      (let below : k ≤ w + w = omega arith in omega (arith, mul-le-mul-right m below))) in
+      (g .0, omega arith))
+      p q h (omega arith) e

@@ -10,8 +10,8 @@ use Rattle.tables.specs.Table.{zeroTable}
 use Rattle.link.specs.declared.decoder.DecodeAnswer.the-variants.{NothingYet}
 use Rattle.link.specs.Coder.{infoRows, coderNext}
 use Rattle.link.specs.Decoder.{delayOf, decoderNext}
-use Rattle.link.specs.Runs.{Call, Sent, Taken, sentEntry, takenEntry, sentBy, takenBy, sentAt, takenAt}
-use Rattle.link.specs.Recovery.{SameTable, Wrong, Fades, RECOVERY}
+use Rattle.link.specs.Runs.{Call, Sent, Taken, sentEntry, takenEntry, sentBy, takenBy}
+use Rattle.link.specs.Recovery.{SameTable, Right, Wrong, Fades, RECOVERY, Running, Separated, RECOVERY-ANY-MEMORY}
 use Rattle.link.proofs.Origin.{origin-coding}
 use Rattle.link.proofs.Runs.{coderBefore, decoderBefore, sent-entry, taken-entry}
 use Rattle.link.proofs.Memory.{CoderStep, coder-step, DecoderStep, decoder-step}
@@ -29,7 +29,7 @@ same-step P u t same x y is a b on h =
     let entry = subst (λ v. P (t .symbols) (t .span) (t .depth) (infoRows t) v a) (sym is) m in
     subst (P (t .symbols) (t .span) (t .depth) (infoRows t) y) (sym on) entry
 
-module _ (t : Table) (coder decoder : List ℕ) (cs ds : List Call) (f : Fades t coder decoder cs ds) where
+module _ (t : Table) (coder decoder : List ℕ) (cs ds : List Call) (f : Running t coder decoder cs ds) where
   abbrev sent : ℕ → Sent
   sent p = getD (sentBy coder cs) p (record { table = zeroTable; info = 0; block = 0 })
 
@@ -70,17 +70,15 @@ module _ (t : Table) (coder decoder : List ℕ) (cs ds : List Call) (f : Fades t
       (sentEntry u (coderBefore coder cs p) (e .call .block)) (sent p) is (coderNext u (coderBefore coder cs p) (e .call .block))
       (coderBefore coder cs (suc p)) (e .on) (coder-step u (coderBefore coder cs p) (e .call .block) (e .taken))
 
-  right-at : (p : ℕ) → takenAt (takenBy decoder ds) (suc p) .block ≡ sentAt (sentBy coder cs) (suc p) .block → taken p .block ≡ sent p .block
+  right-at : (p : ℕ) → Right (sentBy coder cs) (takenBy decoder ds) (suc p) → taken p .block ≡ sent p .block
   right-at p e = ap (λ (k : ℕ). taken k .block) (sym (from-one p)) ∙ e ∙ ap (λ (k : ℕ). sent k .block) (from-one p)
 
   wrong-at : (p : ℕ) → taken p .block ≢ sent p .block → Wrong (sentBy coder cs) (takenBy decoder ds) (suc p)
   wrong-at p ne e = ne (right-at p e)
 
-  wrong-apart : (p q : ℕ) → p < q → q < count → taken p .block ≢ sent p .block → taken q .block ≢ sent q .block
-      → (q < p + t .depth) ⊎ (p + t .depth * (t .span - 1) < q)
-  wrong-apart p q l h u v =
-      go (bursts-apart (Wrong (sentBy coder cs) (takenBy decoder ds)) (t .depth) (delayOf t) count (f .bursts) (suc p) (suc q) (omega arith) (omega arith)
-      (omega arith) (wrong-at p u) (wrong-at q v))
+  separated : Separated (Wrong (sentBy coder cs) (takenBy decoder ds)) (t .depth) (delayOf t) count → (p q : ℕ) → p < q → q < count
+      → taken p .block ≢ sent p .block → taken q .block ≢ sent q .block → (q < p + t .depth) ⊎ (p + t .depth * (t .span - 1) < q)
+  separated apart p q l h u v = go (apart (suc p) (suc q) (omega arith) (omega arith) (omega arith) (wrong-at p u) (wrong-at q v))
     where
       go : (suc q < suc p + t .depth) ⊎ (suc p + t .depth * (t .span - 1) < suc q) → (q < p + t .depth) ⊎ (p + t .depth * (t .span - 1) < q)
       go (inl z) = inl (omega arith)
@@ -98,13 +96,20 @@ module _ (t : Table) (coder decoder : List ℕ) (cs ds : List Call) (f : Fades t
         code = c .corrects;
         decodes = decoded;
         codes = coded;
-        guard = λ p h early. right-at p (f .guard (suc p) (omega arith) (omega arith) (omega arith));
-        apart = wrong-apart;
       }
 
-pub recovery : RECOVERY
-recovery t coder decoder cs ds f p late h =
+pub recovery-any-memory : RECOVERY-ANY-MEMORY
+recovery-any-memory t coder decoder cs ds f guard apart p late h =
     recovers (t .symbols) (t .span) (t .depth) (infoRows t) (decoderBefore decoder ds) (coderBefore coder cs)
     (λ (q : ℕ). taken t coder decoder cs ds f q .block) (λ (q : ℕ). sent t coder decoder cs ds f q .info)
     (λ (q : ℕ). sent t coder decoder cs ds f q .block) (λ (q : ℕ). taken t coder decoder cs ds f q .answer)
-    (length (takenBy decoder ds)) (linked t coder decoder cs ds f) (p - 1) (p - delayOf t - 1) (omega arith) (omega arith) (omega arith)
+    (length (takenBy decoder ds)) (linked t coder decoder cs ds f) (separated t coder decoder cs ds f apart)
+    (λ q early inside. right-at t coder decoder cs ds f q (guard (suc q) (omega arith) (omega arith) (omega arith)))
+    (p - 1) (p - delayOf t - 1) (omega arith) (omega arith) (omega arith)
+
+-- well-formed memories are not needed, and chosen bursts keep the wrong places apart
+pub recovery : RECOVERY
+recovery t coder decoder cs ds f =
+    recovery-any-memory t coder decoder cs ds
+    (record { origin = f .origin; coder-tables = f .coder-tables; decoder-tables = f .decoder-tables; enough = f .enough }) (f .guard)
+    (bursts-apart (Wrong (sentBy coder cs) (takenBy decoder ds)) (t .depth) (delayOf t) (length (takenBy decoder ds)) (f .bursts))
