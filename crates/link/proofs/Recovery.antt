@@ -30,17 +30,17 @@ same-step P u t same x y is a b on h =
     subst (P (t .symbols) (t .span) (t .depth) (infoRows t) y) (sym on) entry
 
 module _ (t : Table) (coder decoder : List ℕ) (cs ds : List Call) (f : Running t coder decoder cs ds) where
-  abbrev sent : ℕ → Sent
+  abbrev pub sent : ℕ → Sent
   sent p = getD (sentBy coder cs) p (record { table = zeroTable; info = 0; block = 0 })
 
-  abbrev taken : ℕ → Taken
+  abbrev pub taken : ℕ → Taken
   taken p = getD (takenBy decoder ds) p (record { table = zeroTable; block = 0; answer = NothingYet })
 
   abbrev count : ℕ
   count = length (takenBy decoder ds)
 
   -- places count from 1, sequences from 0
-  from-one : (p : ℕ) → suc p - 1 ≡ p
+  pub from-one : (p : ℕ) → suc p - 1 ≡ p
   from-one p = omega arith
 
   decoded : (p : ℕ) → p < count
@@ -70,7 +70,7 @@ module _ (t : Table) (coder decoder : List ℕ) (cs ds : List Call) (f : Running
       (sentEntry u (coderBefore coder cs p) (e .call .block)) (sent p) is (coderNext u (coderBefore coder cs p) (e .call .block))
       (coderBefore coder cs (suc p)) (e .on) (coder-step u (coderBefore coder cs p) (e .call .block) (e .taken))
 
-  right-at : (p : ℕ) → Right (sentBy coder cs) (takenBy decoder ds) (suc p) → taken p .block ≡ sent p .block
+  pub right-at : (p : ℕ) → Right (sentBy coder cs) (takenBy decoder ds) (suc p) → taken p .block ≡ sent p .block
   right-at p e = ap (λ (k : ℕ). taken k .block) (sym (from-one p)) ∙ e ∙ ap (λ (k : ℕ). sent k .block) (from-one p)
 
   wrong-at : (p : ℕ) → taken p .block ≢ sent p .block → Wrong (sentBy coder cs) (takenBy decoder ds) (suc p)
@@ -84,7 +84,7 @@ module _ (t : Table) (coder decoder : List ℕ) (cs ds : List Call) (f : Running
       go (inl z) = inl (omega arith)
       go (inr z) = inr (omega arith)
 
-  linked : Linked (t .symbols) (t .span) (t .depth) (infoRows t) (decoderBefore decoder ds) (coderBefore coder cs) (λ (p : ℕ). taken p .block)
+  pub linked : Linked (t .symbols) (t .span) (t .depth) (infoRows t) (decoderBefore decoder ds) (coderBefore coder cs) (λ (p : ℕ). taken p .block)
       (λ (p : ℕ). sent p .info) (λ (p : ℕ). sent p .block) (λ (p : ℕ). taken p .answer) count
   linked =
       let c = origin-coding t (f .origin) in

@@ -14,12 +14,12 @@ use Rattle.link.specs.Decoder.{decoderFault, decoderNext}
 use Rattle.link.specs.Runs.{Call, run, sentEntry, takenEntry, sentBy, takenBy}
 
 module _ {X : Type 0} (fault : Table → List ℕ → ℕ → ℕ) (next : Table → List ℕ → ℕ → List ℕ) (entry : Table → List ℕ → ℕ → X) where
-  later : List ℕ → (ℕ → List ℕ) → ℕ → List ℕ
+  unfoldable pub later : List ℕ → (ℕ → List ℕ) → ℕ → List ℕ
   later s f zero = s
   later s f (suc p) = f p
 
   -- the memory before the call that is taken at place p, counted from 0
-  pub before : List ℕ → List Call → ℕ → List ℕ
+  unfoldable pub before : List ℕ → List Call → ℕ → List ℕ
   before s [] p = s
   before s (c ∷ cs) p =
       elim (eqb (fault (c .table) s (c .block)) 0) [
