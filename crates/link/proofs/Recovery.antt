@@ -40,7 +40,7 @@ module _ (t : Table) (coder decoder : List ℕ) (cs ds : List Call) (f : Running
   count = length (takenBy decoder ds)
 
   -- places count from 1, sequences from 0
-  pub from-one : (p : ℕ) → suc p - 1 ≡ p
+  from-one : (p : ℕ) → suc p - 1 ≡ p
   from-one p = omega arith
 
   decoded : (p : ℕ) → p < count

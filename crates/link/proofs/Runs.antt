@@ -14,12 +14,12 @@ use Rattle.link.specs.Decoder.{decoderFault, decoderNext}
 use Rattle.link.specs.Runs.{Call, run, sentEntry, takenEntry, sentBy, takenBy}
 
 module _ {X : Type 0} (fault : Table → List ℕ → ℕ → ℕ) (next : Table → List ℕ → ℕ → List ℕ) (entry : Table → List ℕ → ℕ → X) where
-  unfoldable pub later : List ℕ → (ℕ → List ℕ) → ℕ → List ℕ
+  later : List ℕ → (ℕ → List ℕ) → ℕ → List ℕ
   later s f zero = s
   later s f (suc p) = f p
 
   -- the memory before the call that is taken at place p, counted from 0
-  unfoldable pub before : List ℕ → List Call → ℕ → List ℕ
+  pub before : List ℕ → List Call → ℕ → List ℕ
   before s [] p = s
   before s (c ∷ cs) p =
       elim (eqb (fault (c .table) s (c .block)) 0) [
@@ -27,7 +27,7 @@ module _ {X : Type 0} (fault : Table → List ℕ → ℕ → ℕ) (next : Table
         | false ↦ before s cs p
       ]
 
-  before-first : (s : List ℕ) (cs : List Call) → before s cs 0 ≡ s
+  pub before-first : (s : List ℕ) (cs : List Call) → before s cs 0 ≡ s
   unfolding before later
   before-first s [] = refl
   before-first s (c ∷ cs) = go (eqb (fault (c .table) s (c .block)) 0) (before-first s cs)
@@ -60,7 +60,7 @@ module _ {X : Type 0} (fault : Table → List ℕ → ℕ → ℕ) (next : Table
       let e = more p (omega arith) in
       record { call = e .call; taken = e .taken; is = e .is; on = e .on }
 
-  run-entry : (s : List ℕ) (cs : List Call) (p : ℕ) → p < length (run fault next entry s cs) → Entry (run fault next entry s cs) (before s cs) p
+  pub run-entry : (s : List ℕ) (cs : List Call) (p : ℕ) → p < length (run fault next entry s cs) → Entry (run fault next entry s cs) (before s cs) p
   unfolding run before
   run-entry s [] p h = absurd (omega arith)
   run-entry s (c ∷ cs) p h = go (eqb (fault (c .table) s (c .block)) 0) refl (run-entry (next (c .table) s (c .block)) cs) (run-entry s cs p) h
