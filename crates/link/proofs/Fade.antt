@@ -6,14 +6,14 @@ use mathlib.Core.Bool.{Bool, true, false, cond}
 use mathlib.Core.Logic.{_≢_, _⊎_, inl, inr}
 use mathlib.Core.List.{List, [], _∷_, _++_}
 use Prim.Native.Nat.{ℕ, zero, suc, _+_, _-_, _*_, _/_, _%_, _^_, _≤_, _<_}
-use native.Mathlib.Nat.{add-zero, add-assoc, add-mul, suc-mul, one-mul, mul-comm, mul-assoc, mul-le-mul-right, mod-lt, div-add-mod', le-div-iff-mul-le, eq-zero-or-pos}
+use native.Mathlib.Nat.{add-zero, zero-add, add-assoc, zero-mul, zero-mod, add-mod-mod, div-lt-iff-lt-mul, add-mul, suc-mul, one-mul, mul-comm, mul-assoc, mul-le-mul-right, mod-lt, div-add-mod', le-div-iff-mul-le, eq-zero-or-pos}
 use native.Mathlib.Omega.{arith}
 use borrow.Author.Tests.{ltb-false}
 use lib.Dec.{ltb}
 use lib.ListN.{length, getD}
 use Rattle.span.specs.Word.{_⊕_, odd, digit}
 use Rattle.span.specs.Combination.{combination}
-use Rattle.span.proofs.Laws.{xor-lt, xor-mod, xor-self, xor-twice}
+use Rattle.span.proofs.Laws.{xor-zero-r, xor-lt, xor-mod, xor-self, xor-twice}
 use Rattle.link.specs.declared.decoder.Mark.{Mark}
 use Rattle.link.specs.declared.decoder.Mark.the-variants.{Doubtful}
 use Rattle.link.specs.declared.decoder.DecodeAnswer.{DecodeAnswer}
@@ -24,7 +24,7 @@ use Rattle.link.specs.Decoder.{fillOf}
 use Rattle.link.proofs.Suitable.{Corrects}
 use Rattle.link.proofs.Step.{both-half, both-odd, coder-info, coded-lt}
 use Rattle.link.proofs.Sequence.{Stream, guard-clean, guard-syndrome, stream-judged}
-use Rattle.link.proofs.Interleaving.{Turns, word-again}
+use Rattle.link.proofs.Interleaving.{Turns, turn-first, word-again, word-first}
 use Rattle.link.proofs.Memory.{CoderStep, DecoderStep, streamIn, registerIn}
 
 pub record Linked (n N m : ℕ) (infos : List ℕ) (S M : ℕ → List ℕ) (R B C : ℕ → ℕ) (A : ℕ → DecodeAnswer) (count : ℕ) : Type 0 where
@@ -75,32 +75,59 @@ module _ (n N m : ℕ) (infos : List ℕ) (S M : ℕ → List ℕ) (R B C : ℕ 
     next = λ p h. l .codes p h .turn-on;
   }
 
+  -- a step leaves the words of the other streams
+  pd-kept : (q k : ℕ) → q < count → k < m → k ≢ turnOf (S q) → getD (S (suc q)) (streamIn N k) 0 ≡ getD (S q) (streamIn N k) 0
+  pd-kept q k a b ne =
+      ap (λ (i : ℕ). getD (S (suc q)) i 0) (sym (add-zero (streamIn N k))) ∙ l .decodes q a .others k 0 b (omega arith) ne
+      ∙ ap (λ (i : ℕ). getD (S q) i 0) (add-zero (streamIn N k))
+
+  sy-kept : (q k : ℕ) → q < count → k < m → k ≢ turnOf (S q) → getD (S (suc q)) (streamIn N k + 1) 0 ≡ getD (S q) (streamIn N k + 1) 0
+  sy-kept q k a b ne = let from = l .N-from in l .decodes q a .others k 1 b (omega arith) ne
+
+  dl-kept : (i q k : ℕ) → i < N - 1 → q < count → k < m → k ≢ turnOf (S q)
+      → getD (S (suc q)) (streamIn N k + 2 + i) 0 ≡ getD (S q) (streamIn N k + 2 + i) 0
+  dl-kept i q k c a b ne =
+      ap (λ (j : ℕ). getD (S (suc q)) j 0) (add-assoc (streamIn N k) 2 i) ∙ l .decodes q a .others k (2 + i) b (omega arith) ne
+      ∙ ap (λ (j : ℕ). getD (S q) j 0) (sym (add-assoc (streamIn N k) 2 i))
+
   pd-again : (p : ℕ) → p + m < count → pd (p + m) ≡ joining infos (pd p) (R p % 2 ^ (n - 1)) / 2
   pd-again p h =
-      word-again m (λ (q : ℕ). turnOf (S q)) count decoder-turns (λ (q k : ℕ). getD (S q) (streamIn N k) 0)
-      (λ q k a b ne. ap (λ (i : ℕ). getD (S (suc q)) i 0) (sym (add-zero (streamIn N k))) ∙ l .decodes q a .others k 0 b (omega arith) ne
-      ∙ ap (λ (i : ℕ). getD (S q) i 0) (add-zero (streamIn N k))) p h
+      word-again m (λ (q : ℕ). turnOf (S q)) count decoder-turns (λ (q k : ℕ). getD (S q) (streamIn N k) 0) pd-kept p h
       ∙ l .decodes p (omega arith) .pending-on
 
   sy-again : (p : ℕ) → p + m < count
       → sy (p + m) ≡ keptOf (found rows (registerIn n N infos (S p) (R p))) (registerIn n N infos (S p) (R p))
   sy-again p h =
-      let from = l .N-from in
-      word-again m (λ (q : ℕ). turnOf (S q)) count decoder-turns (λ (q k : ℕ). getD (S q) (streamIn N k + 1) 0)
-      (λ q k a b ne. l .decodes q a .others k 1 b (omega arith) ne) p h
+      word-again m (λ (q : ℕ). turnOf (S q)) count decoder-turns (λ (q k : ℕ). getD (S q) (streamIn N k + 1) 0) sy-kept p h
       ∙ l .decodes p (omega arith) .syndrome-on
 
   dl-again : (i p : ℕ) → i < N - 1 → p + m < count → dl i (p + m) ≡ getD (S (suc p)) (streamIn N (turnOf (S p)) + 2 + i) 0
   dl-again i p b h =
-      word-again m (λ (q : ℕ). turnOf (S q)) count decoder-turns (λ (q k : ℕ). getD (S q) (streamIn N k + 2 + i) 0)
-      (λ q k a c ne. ap (λ (j : ℕ). getD (S (suc q)) j 0) (add-assoc (streamIn N k) 2 i) ∙ l .decodes q a .others k (2 + i) c (omega arith) ne
-      ∙ ap (λ (j : ℕ). getD (S q) j 0) (sym (add-assoc (streamIn N k) 2 i))) p h
+      word-again m (λ (q : ℕ). turnOf (S q)) count decoder-turns (λ (q k : ℕ). getD (S q) (streamIn N k + 2 + i) 0) (λ q k. dl-kept i q k b) p h
 
   pc-again : (p : ℕ) → p + m < count → pc (p + m) ≡ joining infos (pc p) (B p) / 2
   pc-again p h =
-      word-again m (λ (q : ℕ). turnOf (M q)) count coder-turns (λ (q k : ℕ). pendingAt (M q) k)
-      (λ q k a b ne. l .codes q a .others k b ne) p h
+      word-again m (λ (q : ℕ). turnOf (M q)) count coder-turns (λ (q k : ℕ). pendingAt (M q) k) (λ q k a b ne. l .codes q a .others k b ne) p h
       ∙ l .codes p (omega arith) .own
+
+  -- the first turn of a stream finds the words of the first memory
+  pd-first : (r : ℕ) → r < m → r < count → pd r ≡ getD (S 0) (streamIn N ((turnOf (S 0) + r) % m)) 0
+  pd-first r b h =
+      word-first m (λ (q : ℕ). turnOf (S q)) count decoder-turns (λ (q k : ℕ). getD (S q) (streamIn N k) 0) pd-kept r b h
+      ∙ ap (λ (k : ℕ). getD (S 0) (streamIn N k) 0) (turn-first m (λ (q : ℕ). turnOf (S q)) count decoder-turns r b h)
+
+  sy-first : (r : ℕ) → r < m → r < count → sy r ≡ getD (S 0) (streamIn N (turnOf (S r)) + 1) 0
+  sy-first r b h = word-first m (λ (q : ℕ). turnOf (S q)) count decoder-turns (λ (q k : ℕ). getD (S q) (streamIn N k + 1) 0) sy-kept r b h
+
+  dl-first : (i r : ℕ) → i < N - 1 → r < m → r < count → dl i r ≡ getD (S 0) (streamIn N ((turnOf (S 0) + r) % m) + 2 + i) 0
+  dl-first i r c b h =
+      word-first m (λ (q : ℕ). turnOf (S q)) count decoder-turns (λ (q k : ℕ). getD (S q) (streamIn N k + 2 + i) 0) (λ q k. dl-kept i q k c) r b h
+      ∙ ap (λ (k : ℕ). getD (S 0) (streamIn N k + 2 + i) 0) (turn-first m (λ (q : ℕ). turnOf (S q)) count decoder-turns r b h)
+
+  pc-first : (r : ℕ) → r < m → r < count → pc r ≡ pendingAt (M 0) ((turnOf (M 0) + r) % m)
+  pc-first r b h =
+      word-first m (λ (q : ℕ). turnOf (M q)) count coder-turns (λ (q k : ℕ). pendingAt (M q) k) (λ q k a c ne. l .codes q a .others k c ne) r b h
+      ∙ ap (pendingAt (M 0)) (turn-first m (λ (q : ℕ). turnOf (M q)) count coder-turns r b h)
 
   -- ---- coder and decoder together
 
@@ -191,23 +218,36 @@ module _ (n N m : ℕ) (infos : List ℕ) (S M : ℕ → List ℕ) (R B C : ℕ 
       go (inl z) = omega arith
       go (inr z) = z
 
-  -- the information received at place q, j + 1 blocks of its stream later
-  delayed-at : (q j i : ℕ) → i + suc j ≡ N - 1 → q + suc j * m < count → dl i (q + suc j * m) ≡ R q % 2 ^ (n - 1)
-  delayed-at q zero i e h =
-      let one : q + 1 * m ≡ q + m = omega (arith, one-mul m) in
-      ap (dl i) one ∙ dl-again i q (omega arith) (omega arith) ∙ l .decodes q (omega arith) .youngest i (omega arith)
-  delayed-at q (suc j) i e h =
-      let step : q + suc (suc j) * m ≡ q + suc j * m + m = omega (arith, suc-mul (suc j) m) in
-      ap (dl i) step ∙ dl-again i (q + suc j * m) (omega arith) (omega arith)
-      ∙ l .decodes (q + suc j * m) (omega arith) .delayed-on i (omega arith)
-      ∙ delayed-at q j (suc i) (omega arith) (omega arith)
+  -- a delayed block, k blocks of its stream before
+  delayed-before : (q k i : ℕ) → i + k < N - 1 → q + k * m < count → dl i (q + k * m) ≡ dl (i + k) q
+  delayed-before q zero i b h =
+      ap₂ dl (sym (add-zero i)) (let e : q + 0 * m ≡ q = omega (arith, zero-mul m) in e)
+  delayed-before q (suc k) i b h =
+      let step : q + suc k * m ≡ q + k * m + m = omega (arith, suc-mul k m) in
+      ap (dl i) step ∙ dl-again i (q + k * m) (omega arith) (omega arith) ∙ l .decodes (q + k * m) (omega arith) .delayed-on i (omega arith)
+      ∙ delayed-before q k (suc i) (omega arith) (omega arith) ∙ ap (λ (j : ℕ). dl j q) (let e : suc i + k ≡ i + suc k = omega arith in e)
 
+  -- the oldest is the information received m × (N − 1) places before
   oldest : (p q : ℕ) → p < count → q + m * (N - 1) ≡ p → dl 0 p ≡ R q % 2 ^ (n - 1)
   oldest p q h e =
       let from = l .N-from in
       let many : suc (N - 2) ≡ N - 1 = omega arith in
-      let place : p ≡ q + suc (N - 2) * m = sym e ∙ ap (λ (x : ℕ). q + x) (mul-comm m (N - 1) ∙ ap (λ (k : ℕ). k * m) (sym many)) in
-      ap (dl 0) place ∙ delayed-at q (N - 2) 0 (omega arith) (omega arith)
+      let place : p ≡ q + m + (N - 2) * m = omega (arith, ap (λ (k : ℕ). k * m) many, suc-mul (N - 2) m, mul-comm m (N - 1)) in
+      ap (dl 0) place ∙ delayed-before (q + m) (N - 2) 0 (omega arith) (omega arith) ∙ dl-again (0 + (N - 2)) q (omega arith) (omega arith)
+      ∙ l .decodes q (omega arith) .youngest (0 + (N - 2)) (omega arith)
+
+  -- where there is no such place it is a block of the first memory
+  oldest-first : (p : ℕ) → p < count → p < m * (N - 1) → dl 0 p ≡ getD (S 0) (streamIn N ((turnOf (S 0) + p) % m) + 2 + p / m) 0
+  oldest-first p h early =
+      let some = l .m-from in
+      let r = p % m in
+      let k = p / m in
+      let first : r < m = mod-lt p (omega arith) in
+      let whole = div-add-mod' p m in
+      let here : p ≡ r + k * m = omega arith in
+      let few : k < N - 1 = div-lt-iff-lt-mul {k = m} (omega arith) .1 (omega (arith, mul-comm m (N - 1))) in
+      ap (dl 0) here ∙ delayed-before r k 0 (omega arith) (omega arith) ∙ ap (λ (i : ℕ). dl i r) (zero-add k) ∙ dl-first k r few first (omega arith)
+      ∙ ap (λ (j : ℕ). getD (S 0) (streamIn N j + 2 + k) 0) (add-mod-mod (turnOf (S 0)) p m)
 
   corrected : (q : ℕ) → q < count → R q % 2 ^ (n - 1) ⊕ er q % 2 ^ (n - 1) ≡ B q
   corrected q h =
@@ -291,6 +331,22 @@ module _ (n N m : ℕ) (infos : List ℕ) (S M : ℕ → List ℕ) (R B C : ℕ 
           f .1,
         )
 
+    -- a block of the first memory leaves as it is
+    pub delivers-first : (p : ℕ) → p < count → start * m ≤ p → p < m * (N - 1) → m * (N - 1) ≤ fillOf (S p)
+        → (mark : Mark)
+        × (A p ≡ Delivery (record { info = getD (S 0) (streamIn N ((turnOf (S 0) + p) % m) + 2 + p / m) 0; mark = mark })) × (mark ≢ Doubtful)
+    delivers-first p h late early full =
+        let f = found-at p 0 h late (λ q e. absurd (omega arith)) (λ few. refl) in
+        let mark = markOf (found rows (registerIn n N infos (S p) (R p))) (registerIn n N infos (S p) (R p)) in (
+          mark,
+          l .decodes p h .answers full
+              ∙ ap (λ (x : ℕ). Delivery (record { info = x; mark = mark }))
+              (ap₂ (λ (x y : ℕ). x ⊕ y % 2 ^ (n - 1)) (oldest-first p h early) (f .0)
+              ∙ ap (λ (y : ℕ). getD (S 0) (streamIn N ((turnOf (S 0) + p) % m) + 2 + p / m) 0 ⊕ y) (zero-mod (2 ^ (n - 1)))
+              ∙ xor-zero-r (getD (S 0) (streamIn N ((turnOf (S 0) + p) % m) + 2 + p / m) 0)),
+          f .1,
+        )
+
   -- the guard makes every stream clean
   pub recovers : ((p q : ℕ) → p < q → q < count → R p ≢ C p → R q ≢ C q → (q < p + m) ⊎ (p + m * (N - 1) < q))
       → ((p : ℕ) → p < 2 * (m * (N - 1)) → p < count → R p ≡ C p) → (p q : ℕ) → p < count → 2 * (m * (N - 1)) ≤ p → q + m * (N - 1) ≡ p
@@ -306,3 +362,15 @@ module _ (n N m : ℕ) (infos : List ℕ) (S M : ℕ → List ℕ) (R B C : ℕ 
       (let below : k ≤ w + w = omega arith in omega (arith, mul-le-mul-right m below))) in
       (g .0, omega arith))
       p q h (omega arith) e
+
+  -- streams that are clean in the first memory are so at their first turn
+  pub clean-first : ((k : ℕ) → k < m → getD (S 0) (streamIn N k + 1) 0 ≡ 0)
+      → ((d : ℕ) → d < m → getD (S 0) (streamIn N ((turnOf (S 0) + d) % m)) 0 ≡ pendingAt (M 0) ((turnOf (M 0) + d) % m))
+      → (r : ℕ) → r < m → r + 0 * m < count → (jt (r + 0 * m) ≡ 0) × (sy (r + 0 * m) ≡ 0)
+  clean-first syndromes pendings r first inside =
+      let here : r ≡ r + 0 * m = omega (arith, zero-mul m) in
+      let h : r < count = omega arith in
+      subst (λ (p : ℕ). (jt p ≡ 0) × (sy p ≡ 0)) here (
+        ap (λ (x : ℕ). x ⊕ pc r) (pd-first r first h ∙ pendings r first ∙ sym (pc-first r first h)) ∙ xor-self (pc r),
+        sy-first r first h ∙ syndromes (turnOf (S r)) (l .decodes r h .turn-lt),
+      )

@@ -1,9 +1,10 @@
--- The streams in turn: a word that only its own turn's step changes is the same m steps later, but for that step. Assumes nothing.
-use mathlib.Core.Path.{_≡_, refl, sym, ap, _∙_}
+-- The streams in turn: a word that only its own turn's step changes is the same m steps later, but for that step, and at the first turn of its
+-- stream it is that of the first memory. Assumes nothing.
+use mathlib.Core.Path.{_≡_, refl, sym, ap, _∙_, subst}
 use mathlib.Core.Bool.{Bool, true, false, cond}
 use mathlib.Core.Logic.{_≢_, _⊎_, inl, inr}
-use Prim.Native.Nat.{ℕ, zero, suc, _+_, _-_, _≤_, _<_}
-use native.Mathlib.Nat.{add-zero}
+use Prim.Native.Nat.{ℕ, zero, suc, _+_, _-_, _%_, _≤_, _<_}
+use native.Mathlib.Nat.{add-zero, zero-add, mod-eq-of-lt, add-mod-right}
 use native.Mathlib.Omega.{arith}
 use borrow.Author.Tests.{eqb-true, eqb-false}
 use lib.Dec.{eqb}
@@ -51,6 +52,14 @@ module _ (m : ℕ) (turn : ℕ → ℕ) (count : ℕ) (T : Turns m turn count) w
       go (inl e) = omega arith
       go (inr e) = omega arith
 
+  -- the first turns
+  pub turn-first : (d : ℕ) → d < m → d < count → turn d ≡ (turn 0 + d) % m
+  turn-first d l h = go (T .inside d h) (subst (λ (x : ℕ). (turn x ≡ turn 0 + d) ⊎ (turn x + m ≡ turn 0 + d)) (zero-add d) (turn-after 0 d (omega arith) (omega arith) (omega arith)))
+    where
+      go : turn d < m → (turn d ≡ turn 0 + d) ⊎ (turn d + m ≡ turn 0 + d) → turn d ≡ (turn 0 + d) % m
+      go b (inl e) = e ∙ sym (mod-eq-of-lt (omega arith))
+      go b (inr e) = sym (mod-eq-of-lt b) ∙ sym (add-mod-right (turn d) m) ∙ ap (λ (x : ℕ). x % m) e
+
   module _ (W : ℕ → ℕ → ℕ) (kept : (p k : ℕ) → p < count → k < m → k ≢ turn p → W (suc p) k ≡ W p k) where
     word-kept : (p d : ℕ) → suc d ≤ m → p + suc d ≤ count → W (suc p + d) (turn p) ≡ W (suc p) (turn p)
     word-kept p zero l h = ap (λ (q : ℕ). W q (turn p)) (add-zero (suc p))
@@ -66,3 +75,15 @@ module _ (m : ℕ) (turn : ℕ → ℕ) (count : ℕ) (T : Turns m turn count) w
         let some = T .some in
         ap (W (p + m)) (turn-again p h) ∙ ap (λ (q : ℕ). W q (turn p)) (let e : p + m ≡ suc p + (m - 1) = omega arith in e)
         ∙ word-kept p (m - 1) (omega arith) (omega arith)
+
+    word-before : (d i : ℕ) → i ≤ d → d < m → d < count → W i (turn d) ≡ W 0 (turn d)
+    word-before d zero l b h = refl
+    word-before d (suc i) l b h =
+        let place : i + (d - i) ≡ d = omega arith in
+        kept i (turn d) (omega arith) (T .inside d h)
+        (λ (e : turn d ≡ turn i). turn-other i (d - i) (omega arith) (omega arith) (omega arith) (omega arith) (sym e ∙ ap turn (sym place)))
+        ∙ word-before d i (omega arith) b h
+
+    -- until the first turn of its stream a word is that of the first memory
+    pub word-first : (d : ℕ) → d < m → d < count → W d (turn d) ≡ W 0 (turn d)
+    word-first d b h = word-before d d (omega arith) b h

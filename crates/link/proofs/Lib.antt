@@ -10,3 +10,4 @@ mod Bursts
 mod Fade
 mod Recovery
 mod Guard
+mod Clean

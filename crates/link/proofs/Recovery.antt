@@ -43,32 +43,42 @@ module _ (t : Table) (coder decoder : List ℕ) (cs ds : List Call) (f : Running
   from-one : (p : ℕ) → suc p - 1 ≡ p
   from-one p = omega arith
 
+  -- what is taken, and what is sent, is so under a table that is the same
+  pub taken-same : (p : ℕ) (h : p < count) → SameTable (taken-entry decoder ds p h .call .table) t
+  taken-same p h =
+      subst (λ (v : Table). SameTable v t)
+      (ap (λ (k : ℕ). taken k .table) (from-one p)
+      ∙ ap (λ (x : Taken). x .table) (taken-entry decoder ds p h .is (record { table = zeroTable; block = 0; answer = NothingYet })))
+      (f .decoder-tables (suc p) (omega arith) (omega arith))
+
+  sent-same : (p : ℕ) (h : p < length (sentBy coder cs)) → SameTable (sent-entry coder cs p h .call .table) t
+  sent-same p h =
+      subst (λ (v : Table). SameTable v t)
+      (ap (λ (k : ℕ). sent k .table) (from-one p)
+      ∙ ap (λ (x : Sent). x .table) (sent-entry coder cs p h .is (record { table = zeroTable; info = 0; block = 0 })))
+      (f .coder-tables (suc p) (omega arith) (omega arith))
+
   decoded : (p : ℕ) → p < count
       → DecoderStep (t .symbols) (t .span) (t .depth) (infoRows t) (decoderBefore decoder ds p) (taken p .block) (taken p .answer) (decoderBefore decoder ds (suc p))
   decoded p h =
       let e = taken-entry decoder ds p h in
       let u = e .call .table in
-      let is = e .is (record { table = zeroTable; block = 0; answer = NothingYet }) in
-      let same : SameTable u t =
-      subst (λ (v : Table). SameTable v t) (ap (λ (k : ℕ). taken k .table) (from-one p) ∙ ap (λ (x : Taken). x .table) is)
-      (f .decoder-tables (suc p) (omega arith) (omega arith)) in
-      same-step (λ n N m infos (x : Taken) after. DecoderStep n N m infos (decoderBefore decoder ds p) (x .block) (x .answer) after) u t same
-      (takenEntry u (decoderBefore decoder ds p) (e .call .block)) (taken p) is (decoderNext u (decoderBefore decoder ds p) (e .call .block))
-      (decoderBefore decoder ds (suc p)) (e .on) (decoder-step u (decoderBefore decoder ds p) (e .call .block) (e .taken))
+      same-step (λ n N m infos (x : Taken) after. DecoderStep n N m infos (decoderBefore decoder ds p) (x .block) (x .answer) after) u t (taken-same p h)
+      (takenEntry u (decoderBefore decoder ds p) (e .call .block)) (taken p) (e .is (record { table = zeroTable; block = 0; answer = NothingYet }))
+      (decoderNext u (decoderBefore decoder ds p) (e .call .block)) (decoderBefore decoder ds (suc p)) (e .on)
+      (decoder-step u (decoderBefore decoder ds p) (e .call .block) (e .taken))
 
   coded : (p : ℕ) → p < count
       → CoderStep (t .symbols) (t .span) (t .depth) (infoRows t) (coderBefore coder cs p) (sent p .info) (sent p .block) (coderBefore coder cs (suc p))
   coded p h =
       let many = f .enough in
-      let e = sent-entry coder cs p (omega arith) in
+      let inside : p < length (sentBy coder cs) = omega arith in
+      let e = sent-entry coder cs p inside in
       let u = e .call .table in
-      let is = e .is (record { table = zeroTable; info = 0; block = 0 }) in
-      let same : SameTable u t =
-      subst (λ (v : Table). SameTable v t) (ap (λ (k : ℕ). sent k .table) (from-one p) ∙ ap (λ (x : Sent). x .table) is)
-      (f .coder-tables (suc p) (omega arith) (omega arith)) in
-      same-step (λ n N m infos (x : Sent) after. CoderStep n N m infos (coderBefore coder cs p) (x .info) (x .block) after) u t same
-      (sentEntry u (coderBefore coder cs p) (e .call .block)) (sent p) is (coderNext u (coderBefore coder cs p) (e .call .block))
-      (coderBefore coder cs (suc p)) (e .on) (coder-step u (coderBefore coder cs p) (e .call .block) (e .taken))
+      same-step (λ n N m infos (x : Sent) after. CoderStep n N m infos (coderBefore coder cs p) (x .info) (x .block) after) u t (sent-same p inside)
+      (sentEntry u (coderBefore coder cs p) (e .call .block)) (sent p) (e .is (record { table = zeroTable; info = 0; block = 0 }))
+      (coderNext u (coderBefore coder cs p) (e .call .block)) (coderBefore coder cs (suc p)) (e .on)
+      (coder-step u (coderBefore coder cs p) (e .call .block) (e .taken))
 
   pub right-at : (p : ℕ) → Right (sentBy coder cs) (takenBy decoder ds) (suc p) → taken p .block ≡ sent p .block
   right-at p e = ap (λ (k : ℕ). taken k .block) (sym (from-one p)) ∙ e ∙ ap (λ (k : ℕ). sent k .block) (from-one p)
@@ -76,7 +86,7 @@ module _ (t : Table) (coder decoder : List ℕ) (cs ds : List Call) (f : Running
   wrong-at : (p : ℕ) → taken p .block ≢ sent p .block → Wrong (sentBy coder cs) (takenBy decoder ds) (suc p)
   wrong-at p ne e = ne (right-at p e)
 
-  separated : Separated (Wrong (sentBy coder cs) (takenBy decoder ds)) (t .depth) (delayOf t) count → (p q : ℕ) → p < q → q < count
+  pub separated : Separated (Wrong (sentBy coder cs) (takenBy decoder ds)) (t .depth) (delayOf t) count → (p q : ℕ) → p < q → q < count
       → taken p .block ≢ sent p .block → taken q .block ≢ sent q .block → (q < p + t .depth) ⊎ (p + t .depth * (t .span - 1) < q)
   separated apart p q l h u v = go (apart (suc p) (suc q) (omega arith) (omega arith) (omega arith) (wrong-at p u) (wrong-at q v))
     where
