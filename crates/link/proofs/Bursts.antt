@@ -1,7 +1,7 @@
 -- Two wrong places lie in one burst, or have the gap between them. Assumes nothing.
 use mathlib.Core.Logic.{_⊎_, inl, inr}
 use mathlib.Core.List.{List, [], _∷_}
-use Prim.Native.Nat.{ℕ, _+_, _≤_, _<_}
+use Prim.Native.Nat.{ℕ, _+_, _<_}
 use native.Mathlib.Omega.{arith}
 use Rattle.link.specs.Recovery.{Stretch, Apart, Chosen, Within, Bursts, Separated}
 

@@ -18,7 +18,7 @@ use Rattle.link.specs.declared.decoder.Mark.the-variants.{Doubtful}
 use Rattle.link.specs.declared.decoder.DecodeAnswer.{DecodeAnswer}
 use Rattle.link.specs.declared.decoder.DecodeAnswer.the-variants.{Delivery, NothingYet}
 use Rattle.link.specs.Start.{started}
-use Rattle.link.specs.Coder.{infoRows, coderWords, turnOf, pendingAt, coderFault, coderNext}
+use Rattle.link.specs.Coder.{coderWords, turnOf, pendingAt, coderFault, coderNext}
 use Rattle.link.specs.Decoder.{decoderWords, fillOf, delayOf, streamAt, pendingOf, delayedOf, decoderFault, decoderNext, delivered, delivery}
 use Rattle.link.specs.Runs.{Call, Taken, sentEntry, takenEntry, sentBy, takenBy}
 use Rattle.link.specs.Recovery.{Wrong, Bursts, Recovered, Running}
@@ -37,7 +37,7 @@ delivery-either t s r = go (ltb (fillOf s) (delayOf t)) refl
     go true e = inl refl
     go false e = inr (ltb-false (fillOf s) (delayOf t) e)
 
-module _ (t : Table) (coder decoder : List ℕ) (cs ds : List Call) (f : Running t coder decoder cs ds) (c : Clean t coder decoder)
+module _ {t : Table} {coder decoder : List ℕ} {cs ds : List Call} (f : Running t coder decoder cs ds) (c : Clean t coder decoder)
     (b : Bursts (Wrong (sentBy coder cs) (takenBy decoder ds)) (t .depth) (delayOf t) (length (takenBy decoder ds))) where
   abbrev count : ℕ
   count = length (takenBy decoder ds)
@@ -58,51 +58,43 @@ module _ (t : Table) (coder decoder : List ℕ) (cs ds : List Call) (f : Running
       ap (λ (s : List ℕ). pendingOf t s ((turnOf s + d) % t .depth)) decoder-first ∙ c .pending d h
       ∙ sym (ap (λ (s : List ℕ). pendingAt s ((turnOf s + d) % t .depth)) coder-first)
 
-  answer-either : (p : ℕ) → p < count → (taken t coder decoder cs ds f p .answer ≡ NothingYet) ⊎ (delayOf t ≤ fillOf (decoderBefore decoder ds p))
+  answer-either : (p : ℕ) → p < count → (taken f p .answer ≡ NothingYet) ⊎ (delayOf t ≤ fillOf (decoderBefore decoder ds p))
   answer-either p h = go (delivery-either (e .call .table) (decoderBefore decoder ds p) (e .call .block))
     where
       e : Entry decoderFault decoderNext takenEntry (takenBy decoder ds) (decoderBefore decoder ds) p
       e = taken-entry decoder ds p h
 
-      is : taken t coder decoder cs ds f p .answer ≡ delivery (e .call .table) (decoderBefore decoder ds p) (e .call .block)
+      is : taken f p .answer ≡ delivery (e .call .table) (decoderBefore decoder ds p) (e .call .block)
       is = ap (λ (x : Taken). x .answer) (e .is (record { table = zeroTable; block = 0; answer = NothingYet }))
 
       delay : delayOf (e .call .table) ≡ delayOf t
       delay =
-          let same = taken-same t coder decoder cs ds f p h in
+          let same = taken-same f p h in
           ap₂ (λ (m N : ℕ). m * (N - 1)) (same .depth) (same .span)
 
       go : (delivery (e .call .table) (decoderBefore decoder ds p) (e .call .block) ≡ NothingYet)
           ⊎ (delayOf (e .call .table) ≤ fillOf (decoderBefore decoder ds p))
-          → (taken t coder decoder cs ds f p .answer ≡ NothingYet) ⊎ (delayOf t ≤ fillOf (decoderBefore decoder ds p))
+          → (taken f p .answer ≡ NothingYet) ⊎ (delayOf t ≤ fillOf (decoderBefore decoder ds p))
       go (inl z) = inl (is ∙ z)
       go (inr z) = inr (let d = delay in omega arith)
 
-  apart : (p q : ℕ) → p < q → q < count → taken t coder decoder cs ds f p .block ≢ sent t coder decoder cs ds f p .block
-      → taken t coder decoder cs ds f q .block ≢ sent t coder decoder cs ds f q .block → (q < p + t .depth) ⊎ (p + t .depth * (t .span - 1) < q)
-  apart = separated t coder decoder cs ds f (bursts-apart (Wrong (sentBy coder cs) (takenBy decoder ds)) (t .depth) (delayOf t) count b)
+  apart : (p q : ℕ) → p < q → q < count → taken f p .block ≢ sent f p .block
+      → taken f q .block ≢ sent f q .block → (q < p + t .depth) ⊎ (p + t .depth * (t .span - 1) < q)
+  apart = separated f (bursts-apart (Wrong (sentBy coder cs) (takenBy decoder ds)) (t .depth) (delayOf t) count b)
 
   -- no block is asked to be right
-  none : (p : ℕ) → p < 0 * t .depth → p < count → taken t coder decoder cs ds f p .block ≡ sent t coder decoder cs ds f p .block
+  none : (p : ℕ) → p < 0 * t .depth → p < count → taken f p .block ≡ sent f p .block
   none p few h = absurd (let z = zero-mul (t .depth) in omega arith)
 
   past : (p : ℕ) → p ≤ count → delayOf t < p → Recovered (sentBy coder cs) (takenBy decoder ds) (delayOf t) p
   past p h late =
       let z = zero-mul (t .depth) in
-      delivers (t .symbols) (t .span) (t .depth) (infoRows t) (decoderBefore decoder ds) (coderBefore coder cs)
-      (λ (q : ℕ). taken t coder decoder cs ds f q .block) (λ (q : ℕ). sent t coder decoder cs ds f q .info)
-      (λ (q : ℕ). sent t coder decoder cs ds f q .block) (λ (q : ℕ). taken t coder decoder cs ds f q .answer) count (linked t coder decoder cs ds f)
-      apart 0 none
-      (clean-first (t .symbols) (t .span) (t .depth) (infoRows t) (decoderBefore decoder ds) (coderBefore coder cs)
-      (λ (q : ℕ). taken t coder decoder cs ds f q .block) (λ (q : ℕ). sent t coder decoder cs ds f q .info)
-      (λ (q : ℕ). sent t coder decoder cs ds f q .block) (λ (q : ℕ). taken t coder decoder cs ds f q .answer) count (linked t coder decoder cs ds f)
-      syndromes pendings)
-      (p - 1) (p - delayOf t - 1) (omega arith) (omega arith) (omega arith)
+      delivers (linked f) apart 0 none (clean-first (linked f) syndromes pendings) (p - 1) (p - delayOf t - 1) (omega arith) (omega arith) (omega arith)
 
   early : (p : ℕ) → 1 ≤ p → p ≤ count → p ≤ delayOf t → Undisturbed t decoder (takenBy decoder ds) p
   early p from h few = go (answer-either (p - 1) (omega arith))
     where
-      go : (taken t coder decoder cs ds f (p - 1) .answer ≡ NothingYet) ⊎ (delayOf t ≤ fillOf (decoderBefore decoder ds (p - 1)))
+      go : (taken f (p - 1) .answer ≡ NothingYet) ⊎ (delayOf t ≤ fillOf (decoderBefore decoder ds (p - 1)))
           → Undisturbed t decoder (takenBy decoder ds) p
       go (inl z) = inl z
       go (inr full) =
@@ -111,21 +103,13 @@ module _ (t : Table) (coder decoder : List ℕ) (cs ds : List Call) (f : Running
           (subst
           (λ (s : List ℕ).
           (mark : Mark)
-          × (taken t coder decoder cs ds f (p - 1) .answer
+          × (taken f (p - 1) .answer
           ≡ Delivery (record { info = delayedOf t s ((turnOf s + (p - 1)) % t .depth) ((p - 1) / t .depth); mark = mark })) × (mark ≢ Doubtful))
           decoder-first
-          (delivers-first (t .symbols) (t .span) (t .depth) (infoRows t) (decoderBefore decoder ds) (coderBefore coder cs)
-          (λ (q : ℕ). taken t coder decoder cs ds f q .block) (λ (q : ℕ). sent t coder decoder cs ds f q .info)
-          (λ (q : ℕ). sent t coder decoder cs ds f q .block) (λ (q : ℕ). taken t coder decoder cs ds f q .answer) count (linked t coder decoder cs ds f)
-          apart 0 none
-          (clean-first (t .symbols) (t .span) (t .depth) (infoRows t) (decoderBefore decoder ds) (coderBefore coder cs)
-          (λ (q : ℕ). taken t coder decoder cs ds f q .block) (λ (q : ℕ). sent t coder decoder cs ds f q .info)
-          (λ (q : ℕ). sent t coder decoder cs ds f q .block) (λ (q : ℕ). taken t coder decoder cs ds f q .answer) count (linked t coder decoder cs ds f)
-          syndromes pendings)
-          (p - 1) (omega arith) (omega arith) (omega arith) full))
+          (delivers-first (linked f) apart 0 none (clean-first (linked f) syndromes pendings) (p - 1) (omega arith) (omega arith) (omega arith) full))
 
 pub clean : CLEAN
-clean t coder decoder cs ds f c b p from h = (past t coder decoder cs ds f c b p h, early t coder decoder cs ds f c b p from h)
+clean t coder decoder cs ds f c b p from h = (past f c b p h, early f c b p from h)
 
 -- ---- started memories
 

@@ -6,7 +6,7 @@ use mathlib.Core.Bool.{Bool, true, false, cond}
 use mathlib.Core.Logic.{_≢_, _⊎_, inl, inr}
 use mathlib.Core.List.{List, [], _∷_, _++_}
 use Prim.Native.Nat.{ℕ, zero, suc, _+_, _-_, _*_, _/_, _%_, _^_, _≤_, _<_}
-use native.Mathlib.Nat.{add-zero, zero-add, add-assoc, zero-mul, zero-mod, add-mod-mod, div-lt-iff-lt-mul, add-mul, suc-mul, one-mul, mul-comm, mul-assoc, mul-le-mul-right, mod-lt, div-add-mod', le-div-iff-mul-le, eq-zero-or-pos}
+use native.Mathlib.Nat.{add-zero, zero-add, add-assoc, zero-mul, zero-mod, add-mod-mod, div-lt-iff-lt-mul, add-mul, suc-mul, one-mul, mul-comm, mul-le-mul-right, mod-lt, div-add-mod', le-div-iff-mul-le, eq-zero-or-pos}
 use native.Mathlib.Omega.{arith}
 use borrow.Author.Tests.{ltb-false}
 use lib.Dec.{ltb}
@@ -36,7 +36,7 @@ pub record Linked (n N m : ℕ) (infos : List ℕ) (S M : ℕ → List ℕ) (R B
   pub decodes : (p : ℕ) → p < count → DecoderStep n N m infos (S p) (R p) (A p) (S (suc p))
   pub codes : (p : ℕ) → p < count → CoderStep n N m infos (M p) (B p) (C p) (M (suc p))
 
-module _ (n N m : ℕ) (infos : List ℕ) (S M : ℕ → List ℕ) (R B C : ℕ → ℕ) (A : ℕ → DecodeAnswer) (count : ℕ) (l : Linked n N m infos S M R B C A count) where
+module _ {n N m : ℕ} {infos : List ℕ} {S M : ℕ → List ℕ} {R B C : ℕ → ℕ} {A : ℕ → DecodeAnswer} {count : ℕ} (l : Linked n N m infos S M R B C A count) where
   abbrev rows : List ℕ
   rows = infos ++ (1 ∷ [])
 
@@ -193,10 +193,8 @@ module _ (n N m : ℕ) (infos : List ℕ) (S M : ℕ → List ℕ) (R B C : ℕ 
     guarded i j whole h right =
         let q = N - 1 + i in
         let quiet : (k : ℕ) → k < q → k < suc q → er (r + k * m) ≡ 0 = (λ k b c. er-right (r + k * m) (right k b)) in (
-          guard-clean n (N - 1) rows (λ (k : ℕ). jt (r + k * m)) (λ (k : ℕ). sy (r + k * m)) (λ (k : ℕ). er (r + k * m)) (suc q) (stream q h) q quiet i
-              (omega arith) (omega arith),
-          guard-syndrome n (N - 1) rows (λ (k : ℕ). jt (r + k * m)) (λ (k : ℕ). sy (r + k * m)) (λ (k : ℕ). er (r + k * m)) (suc q) (stream q h) q quiet i
-              j whole (omega arith) (omega arith),
+          guard-clean (stream q h) q quiet i (omega arith) (omega arith),
+          guard-syndrome (stream q h) q quiet i j whole (omega arith) (omega arith),
         )
 
   -- ---- what is delivered
@@ -305,8 +303,7 @@ module _ (n N m : ℕ) (infos : List ℕ) (S M : ℕ → List ℕ) (R B C : ℕ 
         let from : start ≤ k = le-div-iff-mul-le {k = m} (omega arith) .1 late in
         let begin : r + start * m < count = omega (arith, mul-le-mul-right m from) in
         let z = clean r first begin in
-        let out = stream-judged n w rows (λ (j : ℕ). jt (r + j * m)) (λ (j : ℕ). sy (r + j * m)) (λ (j : ℕ). er (r + j * m)) (suc k) (stream r k inside)
-        (stream-apart r k inside) start (z .0) (z .1)
+        let out = stream-judged (stream r k inside) (stream-apart r k inside) start (z .0) (z .1)
         (λ i d e a b.
         let next : suc i ≤ start = omega arith in
         let room : r + i * m < start * m = omega (arith, mul-le-mul-right m next, suc-mul i m) in

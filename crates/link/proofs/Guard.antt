@@ -10,14 +10,14 @@ use lib.ListN.{length, getD, length-map, List·getD-map}
 use Rattle.tables.specs.declared.table.Table.{Table}
 use Rattle.tables.specs.Table.{zeroTable}
 use Rattle.link.specs.declared.decoder.DecodeAnswer.the-variants.{NothingYet}
-use Rattle.link.specs.Coder.{infoRows, turnOf}
+use Rattle.link.specs.Coder.{turnOf}
 use Rattle.link.specs.Decoder.{syndromeOf, decoderFault, decoderNext}
 use Rattle.link.specs.Runs.{Call, Taken, run, takenEntry, sentBy, takenBy, takenAt}
 use Rattle.link.specs.Recovery.{Right}
 use Rattle.link.specs.Guard.{syndromeEntry, syndromesBy, syndromeAt, GUARD}
-use Rattle.link.proofs.Runs.{before, before-first, Entry, run-entry, coderBefore, decoderBefore, taken-entry}
+use Rattle.link.proofs.Runs.{before, before-first, Entry, run-entry, decoderBefore, taken-entry}
 use Rattle.link.proofs.Fade.{guarded}
-use Rattle.link.proofs.Recovery.{sent, taken, right-at, linked}
+use Rattle.link.proofs.Recovery.{right-at, linked}
 
 -- ---- another list of the same run
 
@@ -107,15 +107,12 @@ guard t coder decoder cs ds f p i few from to right =
     let m = t .depth in
     let r = p - 1 - (w + i) * m in
     let here : r + (w + i) * m ≡ p - 1 = omega arith in
-    let g = guarded (t .symbols) (t .span) m (infoRows t) (decoderBefore decoder ds) (coderBefore coder cs)
-    (λ (q : ℕ). taken t coder decoder cs ds f q .block) (λ (q : ℕ). sent t coder decoder cs ds f q .info)
-    (λ (q : ℕ). sent t coder decoder cs ds f q .block) (λ (q : ℕ). taken t coder decoder cs ds f q .answer)
-    (length (takenBy decoder ds)) (linked t coder decoder cs ds f) r i (w - i) (omega arith) (omega arith)
+    let g = guarded (linked f) r i (w - i) (omega arith) (omega arith)
     (λ k b.
     let back = w + i - k in
     let whole : back + k ≡ w + i = omega arith in
     let place : p - back * m ≡ suc (r + k * m) = omega (arith, ap (λ (x : ℕ). x * m) whole, add-mul back k m) in
-    right-at t coder decoder cs ds f (r + k * m)
+    right-at f (r + k * m)
     (subst (Right (sentBy coder cs) (takenBy decoder ds)) place (right back (omega arith) (omega arith)))) in
     let span : takenAt (takenBy decoder ds) p .table .span ≡ t .span = f .decoder-tables p (omega arith) to .span in
     let s = decoderBefore decoder ds (p - 1) in

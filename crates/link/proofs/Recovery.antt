@@ -11,7 +11,7 @@ use Rattle.link.specs.declared.decoder.DecodeAnswer.the-variants.{Nothin
 use Rattle.link.specs.Coder.{infoRows, coderNext}
 use Rattle.link.specs.Decoder.{delayOf, decoderNext}
 use Rattle.link.specs.Runs.{Call, Sent, Taken, sentEntry, takenEntry, sentBy, takenBy}
-use Rattle.link.specs.Recovery.{SameTable, Right, Wrong, Fades, RECOVERY, Running, Separated, RECOVERY-ANY-MEMORY}
+use Rattle.link.specs.Recovery.{SameTable, Right, Wrong, RECOVERY, Running, Separated, RECOVERY-ANY-MEMORY}
 use Rattle.link.proofs.Origin.{origin-coding}
 use Rattle.link.proofs.Runs.{coderBefore, decoderBefore, sent-entry, taken-entry}
 use Rattle.link.proofs.Memory.{CoderStep, coder-step, DecoderStep, decoder-step}
@@ -29,7 +29,7 @@ same-step P u t same x y is a b on h =
     let entry = subst (λ v. P (t .symbols) (t .span) (t .depth) (infoRows t) v a) (sym is) m in
     subst (P (t .symbols) (t .span) (t .depth) (infoRows t) y) (sym on) entry
 
-module _ (t : Table) (coder decoder : List ℕ) (cs ds : List Call) (f : Running t coder decoder cs ds) where
+module _ {t : Table} {coder decoder : List ℕ} {cs ds : List Call} (f : Running t coder decoder cs ds) where
   abbrev pub sent : ℕ → Sent
   sent p = getD (sentBy coder cs) p (record { table = zeroTable; info = 0; block = 0 })
 
@@ -110,11 +110,8 @@ module _ (t : Table) (coder decoder : List ℕ) (cs ds : List Call) (f : Running
 
 pub recovery-any-memory : RECOVERY-ANY-MEMORY
 recovery-any-memory t coder decoder cs ds f guard apart p late h =
-    recovers (t .symbols) (t .span) (t .depth) (infoRows t) (decoderBefore decoder ds) (coderBefore coder cs)
-    (λ (q : ℕ). taken t coder decoder cs ds f q .block) (λ (q : ℕ). sent t coder decoder cs ds f q .info)
-    (λ (q : ℕ). sent t coder decoder cs ds f q .block) (λ (q : ℕ). taken t coder decoder cs ds f q .answer)
-    (length (takenBy decoder ds)) (linked t coder decoder cs ds f) (separated t coder decoder cs ds f apart)
-    (λ q early inside. right-at t coder decoder cs ds f q (guard (suc q) (omega arith) (omega arith) (omega arith)))
+    recovers (linked f) (separated f apart)
+    (λ q early inside. right-at f q (guard (suc q) (omega arith) (omega arith) (omega arith)))
     (p - 1) (p - delayOf t - 1) (omega arith) (omega arith) (omega arith)
 
 -- well-formed memories are not needed, and chosen bursts keep the wrong places apart

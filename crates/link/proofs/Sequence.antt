@@ -2,11 +2,11 @@
 -- syndrome word, e the error. Right blocks make both words 0: that is the guard. From a block at which they are 0 on, each error is alone among
 -- the blocks of the stream that are still delayed, is found as it leaves, and nothing is found before. Assumes nothing.
 use mathlib.Core.Path.{_≡_, sym, ap, _∙_, subst}
-use mathlib.Core.Bool.{Bool, true, false}
+use mathlib.Core.Bool.{Bool, false}
 use mathlib.Core.Logic.{_≢_, _⊎_, inl, inr}
 use mathlib.Core.List.{List}
 use Prim.Native.Nat.{ℕ, zero, suc, _+_, _-_, _*_, _/_, _%_, _^_, _≤_, _<_}
-use native.Mathlib.Nat.{add-zero, zero-mul, one-mul, div-one, mod-one, zero-mod, zero-div, eq-zero-or-pos}
+use native.Mathlib.Nat.{add-zero, zero-mul, div-one, mod-one, zero-mod, zero-div, eq-zero-or-pos}
 use native.Mathlib.Decide.{decLt}
 use native.Mathlib.Omega.{arith}
 use lib.Pow.{pow-pos}
@@ -40,7 +40,7 @@ kept-lt : (f : Least) (x j : ℕ) → x < 2 ^ suc j → keptOf f x < 2 ^ j
 kept-lt (Found e) x j h = pow-pos j
 kept-lt Missing x j h = omega arith
 
-module _ (n w : ℕ) (rows : List ℕ) (D s e : ℕ → ℕ) (count : ℕ) (S : Stream n w rows D s e count) where
+module _ {n w : ℕ} {rows : List ℕ} {D s e : ℕ → ℕ} {count : ℕ} (S : Stream n w rows D s e count) where
   -- a right block adds nothing
   joint-right : (k : ℕ) → e k ≡ 0 → joint rows D e k ≡ D k
   joint-right k h = ap (λ (x : ℕ). D k ⊕ combination rows x) h ∙ ap (λ (x : ℕ). D k ⊕ x) (combination-zero rows) ∙ xor-zero-r (D k)

@@ -1,4 +1,4 @@
--- `link`: coder and decoder on lent memory, runs of their steps, and recovery after a fade.
+-- `link`: coder and decoder on lent memory, runs of their steps, recovery after a fade, the guard, and the clean start.
 pub mod Stream
 pub mod Start
 pub mod Coder
