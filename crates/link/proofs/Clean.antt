@@ -1,7 +1,7 @@
 -- From a clean memory: its streams are clean at their first turns, so that `Fade` begins at block 0. Assumes nothing.
 use mathlib.Core.Path.{_≡_, refl, sym, ap, ap₂, _∙_, subst}
 use mathlib.Core.Bool.{Bool, true, false}
-use mathlib.Core.Logic.{_≢_, _⊎_, inl, inr}
+use mathlib.Core.Logic.{_⊎_, inl, inr}
 use mathlib.Core.List.{List}
 use Prim.Native.Nat.{ℕ, _+_, _-_, _*_, _/_, _%_, _≤_, _<_}
 use native.Mathlib.Nat.{zero-mul}
@@ -13,8 +13,6 @@ use lib.ListN.{length, getD, length-replicate, getD-replicate, List·getD-eq-def
 use Rattle.tables.specs.declared.table.Table.{Table}
 use Rattle.tables.specs.Table.{zeroTable}
 use Rattle.tables.proofs.Bounds.{fit-facts}
-use Rattle.link.specs.declared.decoder.Mark.{Mark}
-use Rattle.link.specs.declared.decoder.Mark.the-variants.{Doubtful}
 use Rattle.link.specs.declared.decoder.DecodeAnswer.{DecodeAnswer}
 use Rattle.link.specs.declared.decoder.DecodeAnswer.the-variants.{Delivery, NothingYet}
 use Rattle.link.specs.Start.{started}
@@ -25,7 +23,7 @@ use Rattle.link.specs.Recovery.{Wrong, Bursts, Recovered, Running}
 use Rattle.link.specs.Clean.{Clean, Undisturbed, CLEAN, STARTED-CLEAN}
 use Rattle.link.proofs.Runs.{Entry, before-first, coderBefore, decoderBefore, taken-entry}
 use Rattle.link.proofs.Bursts.{bursts-apart}
-use Rattle.link.proofs.Fade.{delivers, delivers-first, clean-first}
+use Rattle.link.proofs.Fade.{WrongApart, Sure, delivers, delivers-first, clean-first}
 use Rattle.link.proofs.Recovery.{sent, taken, taken-same, separated, linked}
 
 delivery-either : (t : Table) (s : List ℕ) (r : ℕ) → (delivery t s r ≡ NothingYet) ⊎ (delayOf t ≤ fillOf s)
@@ -78,8 +76,7 @@ module _ {t : Table} {coder decoder : List ℕ} {cs ds : List Call} (f : Running
       go (inl z) = inl (is ∙ z)
       go (inr z) = inr (let d = delay in omega arith)
 
-  apart : (p q : ℕ) → p < q → q < count → taken f p .block ≢ sent f p .block
-      → taken f q .block ≢ sent f q .block → (q < p + t .depth) ⊎ (p + t .depth * (t .span - 1) < q)
+  apart : WrongApart (λ (p : ℕ). taken f p .block) (λ (p : ℕ). sent f p .block) (t .depth) (delayOf t) count
   apart = separated f (bursts-apart (Wrong (sentBy coder cs) (takenBy decoder ds)) (t .depth) (delayOf t) count b)
 
   -- no block is asked to be right
@@ -100,11 +97,7 @@ module _ {t : Table} {coder decoder : List ℕ} {cs ds : List Call} (f : Running
       go (inr full) =
           let z = zero-mul (t .depth) in
           inr
-          (subst
-          (λ (s : List ℕ).
-          (mark : Mark)
-          × (taken f (p - 1) .answer
-          ≡ Delivery (record { info = delayedOf t s ((turnOf s + (p - 1)) % t .depth) ((p - 1) / t .depth); mark = mark })) × (mark ≢ Doubtful))
+          (subst (λ (s : List ℕ). Sure (taken f (p - 1) .answer) (delayedOf t s ((turnOf s + (p - 1)) % t .depth) ((p - 1) / t .depth)))
           decoder-first
           (delivers-first (linked f) apart 0 none (clean-first (linked f) syndromes pendings) (p - 1) (omega arith) (omega arith) (omega arith) full))
 

@@ -36,6 +36,14 @@ pub record Linked (n N m : ℕ) (infos : List ℕ) (S M : ℕ → List ℕ) (R B
   pub decodes : (p : ℕ) → p < count → DecoderStep n N m infos (S p) (R p) (A p) (S (suc p))
   pub codes : (p : ℕ) → p < count → CoderStep n N m infos (M p) (B p) (C p) (M (suc p))
 
+-- two wrong places lie in one burst, or far apart
+abbrev pub WrongApart : (ℕ → ℕ) → (ℕ → ℕ) → ℕ → ℕ → ℕ → Type 0
+WrongApart R C long gap count = (p q : ℕ) → p < q → q < count → R p ≢ C p → R q ≢ C q → (q < p + long) ⊎ (p + gap < q)
+
+-- that information is delivered, with a mark that is not doubtful
+abbrev pub Sure : DecodeAnswer → ℕ → Type 0
+Sure answer info = (mark : Mark) × (answer ≡ Delivery (record { info = info; mark = mark })) × (mark ≢ Doubtful)
+
 module _ {n N m : ℕ} {infos : List ℕ} {S M : ℕ → List ℕ} {R B C : ℕ → ℕ} {A : ℕ → DecodeAnswer} {count : ℕ} (l : Linked n N m infos S M R B C A count) where
   abbrev rows : List ℕ
   rows = infos ++ (1 ∷ [])
@@ -255,8 +263,8 @@ module _ {n N m : ℕ} {infos : List ℕ} {S M : ℕ → List ℕ} {R B C : ℕ 
 
   -- ---- what is found
 
-  -- Two wrong places lie in one burst, or far apart. The first `start` blocks of each stream are right, and then both its words are 0.
-  module _ (apart : (p q : ℕ) → p < q → q < count → R p ≢ C p → R q ≢ C q → (q < p + m) ⊎ (p + m * (N - 1) < q)) (start : ℕ)
+  -- The first `start` blocks of each stream are right, and then both its words are 0.
+  module _ (apart : WrongApart R C m (m * (N - 1)) count) (start : ℕ)
       (right : (p : ℕ) → p < start * m → p < count → R p ≡ C p)
       (clean : (r : ℕ) → r < m → r + start * m < count → (jt (r + start * m) ≡ 0) × (sy (r + start * m) ≡ 0)) where
     stream-apart : (r last : ℕ) → r + last * m < count → (i d : ℕ) → 1 ≤ d → d ≤ N - 1 → i + d < suc last
@@ -317,7 +325,7 @@ module _ {n N m : ℕ} {infos : List ℕ} {S M : ℕ → List ℕ} {R B C : ℕ 
         )
 
     pub delivers : (p q : ℕ) → p < count → start * m ≤ p → q + m * (N - 1) ≡ p
-        → (mark : Mark) × (A p ≡ Delivery (record { info = B q; mark = mark })) × (mark ≢ Doubtful)
+        → Sure (A p) (B q)
     delivers p q h late e =
         let f = found-at p (er q) h late (λ i d. ap er (let same : i ≡ q = omega arith in same)) (λ few. absurd (omega arith)) in
         let mark = markOf (found rows (registerIn n N infos (S p) (R p))) (registerIn n N infos (S p) (R p)) in (
@@ -330,8 +338,7 @@ module _ {n N m : ℕ} {infos : List ℕ} {S M : ℕ → List ℕ} {R B C : ℕ 
 
     -- a block of the first memory leaves as it is
     pub delivers-first : (p : ℕ) → p < count → start * m ≤ p → p < m * (N - 1) → m * (N - 1) ≤ fillOf (S p)
-        → (mark : Mark)
-        × (A p ≡ Delivery (record { info = getD (S 0) (streamIn N ((turnOf (S 0) + p) % m) + 2 + p / m) 0; mark = mark })) × (mark ≢ Doubtful)
+        → Sure (A p) (getD (S 0) (streamIn N ((turnOf (S 0) + p) % m) + 2 + p / m) 0)
     delivers-first p h late early full =
         let f = found-at p 0 h late (λ q e. absurd (omega arith)) (λ few. refl) in
         let mark = markOf (found rows (registerIn n N infos (S p) (R p))) (registerIn n N infos (S p) (R p)) in (
@@ -345,9 +352,9 @@ module _ {n N m : ℕ} {infos : List ℕ} {S M : ℕ → List ℕ} {R B C : ℕ 
         )
 
   -- the guard makes every stream clean
-  pub recovers : ((p q : ℕ) → p < q → q < count → R p ≢ C p → R q ≢ C q → (q < p + m) ⊎ (p + m * (N - 1) < q))
+  pub recovers : WrongApart R C m (m * (N - 1)) count
       → ((p : ℕ) → p < 2 * (m * (N - 1)) → p < count → R p ≡ C p) → (p q : ℕ) → p < count → 2 * (m * (N - 1)) ≤ p → q + m * (N - 1) ≡ p
-      → (mark : Mark) × (A p ≡ Delivery (record { info = B q; mark = mark })) × (mark ≢ Doubtful)
+      → Sure (A p) (B q)
   recovers apart guard p q h late e =
       let w = N - 1 in
       let long : (w + w) * m ≡ 2 * (m * w) = omega (arith, add-mul w w m, mul-comm m w) in

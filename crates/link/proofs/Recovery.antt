@@ -16,7 +16,7 @@ use Rattle.link.proofs.Origin.{origin-coding}
 use Rattle.link.proofs.Runs.{coderBefore, decoderBefore, sent-entry, taken-entry}
 use Rattle.link.proofs.Memory.{CoderStep, coder-step, DecoderStep, decoder-step}
 use Rattle.link.proofs.Bursts.{bursts-apart}
-use Rattle.link.proofs.Fade.{Linked, recovers}
+use Rattle.link.proofs.Fade.{Linked, WrongApart, recovers}
 
 -- a step under a table is one under any that is the same, of equal entries and equal memories after it
 same-step : {X : Type 0} (P : ℕ → ℕ → ℕ → List ℕ → X → List ℕ → Type 0) (u t : Table) → SameTable u t → (x y : X) → y ≡ x → (a b : List ℕ) → b ≡ a
@@ -86,8 +86,8 @@ module _ {t : Table} {coder decoder : List ℕ} {cs ds : List Call} (f : Running
   wrong-at : (p : ℕ) → taken p .block ≢ sent p .block → Wrong (sentBy coder cs) (takenBy decoder ds) (suc p)
   wrong-at p ne e = ne (right-at p e)
 
-  pub separated : Separated (Wrong (sentBy coder cs) (takenBy decoder ds)) (t .depth) (delayOf t) count → (p q : ℕ) → p < q → q < count
-      → taken p .block ≢ sent p .block → taken q .block ≢ sent q .block → (q < p + t .depth) ⊎ (p + t .depth * (t .span - 1) < q)
+  pub separated : Separated (Wrong (sentBy coder cs) (takenBy decoder ds)) (t .depth) (delayOf t) count
+      → WrongApart (λ (p : ℕ). taken p .block) (λ (p : ℕ). sent p .block) (t .depth) (delayOf t) count
   separated apart p q l h u v = go (apart (suc p) (suc q) (omega arith) (omega arith) (omega arith) (wrong-at p u) (wrong-at q v))
     where
       go : (suc q < suc p + t .depth) ⊎ (suc p + t .depth * (t .span - 1) < suc q) → (q < p + t .depth) ⊎ (p + t .depth * (t .span - 1) < q)
