@@ -1,5 +1,5 @@
--- From a clean memory no guard is needed: bursts from place 1 on are all corrected, and no mark is doubtful. (000, II.B: a burst that has left
--- "completely clears the decoder of erroneous symbols and the decoder is ready to accept the beginning of a new burst".)
+-- From a clean memory no guard is needed: bursts from place 1 on are all corrected, and no mark is doubtful. (000, III.B: correction of a burst's
+-- last block "completely clears the decoder of erroneous symbols and the decoder is ready to accept the beginning of a new burst".)
 --
 --   Clean t coder decoder   no stream's syndrome word has a one, and coder and decoder have the same pending words, stream by stream in turn
 --   Undisturbed t decoder taken p   the answer at a place too early for a block that was taken: a block of the first memory leaves as it was
