@@ -2,6 +2,7 @@
 mod Words
 mod Parts
 mod Faults
+mod Started
 mod Suitable
 mod Origin
 mod Step
@@ -13,11 +14,13 @@ mod Runs
 mod Memory
 mod Answers
 mod Streams
-mod OneTable
 mod Turn
+mod OneTable
+mod Massey
 mod Bursts
 mod Fade
 mod Recovery
-mod Massey
+mod Guard
+mod Clean
 mod Examples
 mod StepExamples

@@ -8,11 +8,9 @@ use mathlib.Core.Bool.{Bool, false, cond, xor}
 use mathlib.Core.Logic.{_⊎_, inl, inr}
 use mathlib.Core.List.{List, [], _∷_, _++_}
 use Prim.Native.Nat.{ℕ, zero, suc, _+_, _-_, _*_, _/_, _%_, _^_, _≤_, _<_}
-use native.Mathlib.Nat.{zero-mul, mul-le-mul-right}
-use native.Mathlib.Decide.{decLt}
 use native.Mathlib.Omega.{arith}
 use lib.Dec.{leb}
-use lib.ListN.{length, getD, length-append, length-take, getD-replicate, List·getD-eq-default, length-replicate}
+use lib.ListN.{length, getD, length-append, length-take}
 use lib.Seq.{length-take-le}
 use Rattle.span.specs.declared.eliminate.Least.{Least}
 use Rattle.span.specs.declared.eliminate.Least.the-variants.{Found, Missing}
@@ -26,26 +24,20 @@ use Rattle.link.specs.Stream.{joining, keptOf}
 use Rattle.link.specs.Start.{started}
 use Rattle.link.specs.Coder.{infoRows, coderWords, turnOf, pendingAt, coderFault, coderNext}
 use Rattle.link.specs.Decoder.{decoderWords, decoderFault, decoderNext}
-use Rattle.link.specs.Runs.{Call, Sent, Taken, sentBy, takenBy, takenAt}
-use Rattle.link.specs.Massey.{convolution, stream, infoSent, blockSent, blockTaken, rawAt, registerAt, foundAt, CoderTables, DecoderTables, PARITY, SYNDROME, SYNDROME-ERRORS, REGISTER}
+use Rattle.link.specs.Runs.{Call, sentBy, takenBy}
+use Rattle.link.specs.Massey.{convolution, stream, blockSent, blockTaken, rawAt, registerAt, foundAt, PARITY, SYNDROME, SYNDROME-ERRORS, REGISTER}
 use Rattle.link.proofs.Origin.{below-snoc}
 use Rattle.link.proofs.Step.{topped-low, topped-bit, joined-half, joined-odd, coder-half, coder-even}
-use Rattle.link.proofs.Interleaving.{place-next}
+use Rattle.link.proofs.Started.{started-word}
+use Rattle.link.proofs.Interleaving.{place-first, place-next, place-earlier}
 use Rattle.link.proofs.Runs.{coderBefore, decoderBefore, before-first}
-use Rattle.link.proofs.Memory.{Fits, CoderStep, Verdict, streamIn}
+use Rattle.link.proofs.Memory.{Fits, CoderStep, Verdict, streamIn, pendingIn, syndromeIn}
 use Rattle.link.proofs.OneTable.{coded, decoded, verdict}
 use Rattle.link.proofs.Turn.{CoderRun, DecoderRun, coder-again, coder-first, pending-again, pending-first, syndrome-again, syndrome-first}
 use Rattle.link.proofs.Convolution.{convolution-xor, stream-convolution}
 use Rattle.link.proofs.Register.{register-lt, register-bit}
 
--- ---- places of a stream, images
-
--- blocks of a stream up to one that is there are there
-earlier : (m r b k count : ℕ) → r + b * m < count → k ≤ b → r + k * m < count
-earlier m r b k count h l = omega (arith, mul-le-mul-right m l)
-
-place-first : (m r : ℕ) → r + 0 * m ≡ r
-place-first m r = omega (arith, zero-mul m)
+-- ---- images with the parity's row
 
 all-images : (n N : ℕ) (infos : List ℕ) → Fits n N infos → (c : ℕ) → combination (infos ++ (1 ∷ [])) c < 2 ^ N
 all-images n N infos f c =
@@ -62,17 +54,17 @@ module _ {n N m : ℕ} {infos : List ℕ} {M : ℕ → List ℕ} {B C : ℕ → 
   pending k = pendingAt (M (r + k * m)) (turnOf (M (r + k * m)))
 
   step : (k : ℕ) → k ≤ b → CoderStep n N m infos (M (r + k * m)) (B (r + k * m)) (C (r + k * m)) (M (suc (r + k * m)))
-  step k h = l .codes (r + k * m) (earlier m r b k count inside h)
+  step k h = l .codes (r + k * m) (place-earlier m r b k count inside h)
 
   pending-start : pending 0 ≡ 0
   pending-start =
-      let z = earlier m r b 0 count inside (omega arith) in
+      let z = place-earlier m r b 0 count inside (omega arith) in
       let p = place-first m r in
-      ap (λ (q : ℕ). pendingAt (M q) (turnOf (M q))) p ∙ coder-first l (zeros 0) r low (omega arith) ∙ zeros (1 + r)
+      ap (λ (q : ℕ). pendingAt (M q) (turnOf (M q))) p ∙ coder-first l r low (omega arith) ∙ zeros (1 + (turnOf (M 0) + r) % m)
 
   pending-on : (k : ℕ) → k < b → pending (suc k) ≡ joining infos (pending k) (B (r + k * m)) / 2
   pending-on k h =
-      let z = earlier m r b (suc k) count inside h in
+      let z = place-earlier m r b (suc k) count inside h in
       let p = place-next m r k in
       ap (λ (q : ℕ). pendingAt (M q) (turnOf (M q))) p ∙ coder-again l (r + k * m) (omega arith)
 
@@ -111,25 +103,25 @@ module _ {n N m : ℕ} {infos : List ℕ} {S : ℕ → List ℕ} {R : ℕ → �
     (judges : (p : ℕ) → p < count → Verdict n N infos (S p) (R p) (raw p) (register p) (error p))
     (zeros : (i : ℕ) → getD (S 0) i 0 ≡ 0) (r b : ℕ) (low : r < m) (inside : r + b * m < count) where
   abbrev joins : ℕ → ℕ
-  joins k = getD (S (r + k * m)) (streamIn N (turnOf (S (r + k * m)))) 0
+  joins k = pendingIn N (S (r + k * m))
 
   abbrev syndrome : ℕ → ℕ
-  syndrome k = getD (S (r + k * m)) (streamIn N (turnOf (S (r + k * m))) + 1) 0
+  syndrome k = syndromeIn N (S (r + k * m))
 
   judged : (k : ℕ) → k ≤ b → Verdict n N infos (S (r + k * m)) (R (r + k * m)) (raw (r + k * m)) (register (r + k * m)) (error (r + k * m))
-  judged k h = judges (r + k * m) (earlier m r b k count inside h)
+  judged k h = judges (r + k * m) (place-earlier m r b k count inside h)
 
   joins-start : joins 0 ≡ 0
   joins-start =
-      let z = earlier m r b 0 count inside (omega arith) in
+      let z = place-earlier m r b 0 count inside (omega arith) in
       let p = place-first m r in
-      ap (λ (q : ℕ). getD (S q) (streamIn N (turnOf (S q))) 0) p ∙ pending-first l (zeros 0) r low (omega arith) ∙ zeros (streamIn N r)
+      ap (λ (q : ℕ). pendingIn N (S q)) p ∙ pending-first l r low (omega arith) ∙ zeros (streamIn N ((turnOf (S 0) + r) % m))
 
   joins-on : (k : ℕ) → k < b → joins (suc k) ≡ joining infos (joins k) (R (r + k * m) % 2 ^ (n - 1)) / 2
   joins-on k h =
-      let z = earlier m r b (suc k) count inside h in
+      let z = place-earlier m r b (suc k) count inside h in
       let p = place-next m r k in
-      ap (λ (q : ℕ). getD (S q) (streamIn N (turnOf (S q))) 0) p ∙ pending-again l (r + k * m) (omega arith)
+      ap (λ (q : ℕ). pendingIn N (S q)) p ∙ pending-again l (r + k * m) (omega arith)
 
   pub decoder-raw : length infos ≡ n - 1 → stream m r raw b ≡ convolution n N (infos ++ (1 ∷ [])) (stream m r R) b
   decoder-raw size =
@@ -140,16 +132,16 @@ module _ {n N m : ℕ} {infos : List ℕ} {S : ℕ → List ℕ} {R : ℕ → �
 
   syndrome-start : syndrome 0 ≡ 0
   syndrome-start =
-      let z = earlier m r b 0 count inside (omega arith) in
+      let z = place-earlier m r b 0 count inside (omega arith) in
       let p = place-first m r in
-      ap (λ (q : ℕ). getD (S q) (streamIn N (turnOf (S q)) + 1) 0) p ∙ syndrome-first l (zeros 0) r low (omega arith) ∙ zeros (streamIn N r + 1)
+      ap (λ (q : ℕ). syndromeIn N (S q)) p ∙ syndrome-first l r low (omega arith) ∙ zeros (streamIn N ((turnOf (S 0) + r) % m) + 1)
 
   syndrome-on : (k : ℕ) → k < b → syndrome (suc k) ≡ keptOf (stream m r error k) (stream m r register k)
   syndrome-on k h =
-      let z = earlier m r b (suc k) count inside h in
+      let z = place-earlier m r b (suc k) count inside h in
       let p = place-next m r k in
       let v = judged k (omega arith) in
-      ap (λ (q : ℕ). getD (S q) (streamIn N (turnOf (S q)) + 1) 0) p ∙ syndrome-again l (r + k * m) (omega arith)
+      ap (λ (q : ℕ). syndromeIn N (S q)) p ∙ syndrome-again l (r + k * m) (omega arith)
       ∙ sym (ap₂ keptOf (v .found-is) (v .register-is))
 
   register-joins : (k : ℕ) → k ≤ b → stream m r register k ≡ syndrome k + digit (stream m r raw k) * 2 ^ (N - 1)
@@ -169,7 +161,7 @@ module _ {n N m : ℕ} {infos : List ℕ} {S : ℕ → List ℕ} {R : ℕ → �
       → (stream m r register b < 2 ^ N)
       × ((k : ℕ) → k < N → bit (N - 1 - k) (stream m r register b) ≡ cond (leb (c + k) b) (stream m r raw (b - k)) false)
   decoder-register c from clear none =
-      let N-from = l .N-from in
+      let N-from = l .decodes (r + b * m) inside .fits .N-from in
       let w = N - 1 in
       let halves : (d : ℕ) → c ≤ d → d < b → syndrome (suc d) ≡ stream m r register d / 2 =
       (λ d f h. syndrome-on d h ∙ ap (λ (f : Least). keptOf f (stream m r register d)) (none d f h)) in (
@@ -182,51 +174,25 @@ module _ {n N m : ℕ} {infos : List ℕ} {S : ℕ → List ℕ} {R : ℕ → �
 
 -- ---- runs from started memories
 
-started-word : (words i : ℕ) → getD (started words) i 0 ≡ 0
-started-word words i = go (decLt i words)
-  where
-    go : Dec (i < words) → getD (started words) i 0 ≡ 0
-    go (yes h) = getD-replicate words i 0 0 h
-    go (no h) = List·getD-eq-default (started words) 0 (let z = length-replicate {A = ℕ} words 0 in omega arith)
-
 info-size : (t : Table) → t .symbols - 1 ≤ length (t .rows) → length (infoRows t) ≡ t .symbols - 1
 info-size t room = length-take-le (t .symbols - 1) (t .rows) room
 
-module _ (t : Table) (cs : List Call) (tables : CoderTables t (started (coderWords t)) cs) (some : 1 ≤ t .depth) where
-  abbrev sent : List Sent
-  sent = sentBy (started (coderWords t)) cs
+coder-zeros : (t : Table) (cs : List Call) (i : ℕ) → getD (coderBefore (started (coderWords t)) cs 0) i 0 ≡ 0
+coder-zeros t cs i =
+    ap (λ (s : List ℕ). getD s i 0) (before-first coderFault coderNext (started (coderWords t)) cs) ∙ started-word (coderWords t) i
 
-  coder-run : CoderRun (t .symbols) (t .span) (t .depth) (infoRows t) (coderBefore (started (coderWords t)) cs) (infoSent sent) (blockSent sent) (length sent)
-  coder-run = record { m-from = some; codes = coded t (started (coderWords t)) cs tables }
-
-  coder-zeros : (i : ℕ) → getD (coderBefore (started (coderWords t)) cs 0) i 0 ≡ 0
-  coder-zeros i =
-      ap (λ (s : List ℕ). getD s i 0) (before-first coderFault coderNext (started (coderWords t)) cs) ∙ started-word (coderWords t) i
-
-module _ (t : Table) (ds : List Call) (tables : DecoderTables t (started (decoderWords t)) ds) (p : ℕ)
-    (inside : p < length (takenBy (started (decoderWords t)) ds)) where
-  abbrev taken : List Taken
-  taken = takenBy (started (decoderWords t)) ds
-
-  decoder-run : DecoderRun (t .symbols) (t .span) (t .depth) (infoRows t) (decoderBefore (started (decoderWords t)) ds) (blockTaken taken)
-      (λ (q : ℕ). takenAt taken (suc q) .answer) (length taken)
-  decoder-run =
-      let d = decoded t (started (decoderWords t)) ds tables p inside in
-      let turn = d .turn-lt in
-      record { N-from = d .fits .N-from; m-from = omega arith; decodes = decoded t (started (decoderWords t)) ds tables }
-
-  decoder-zeros : (i : ℕ) → getD (decoderBefore (started (decoderWords t)) ds 0) i 0 ≡ 0
-  decoder-zeros i =
-      ap (λ (s : List ℕ). getD s i 0) (before-first decoderFault decoderNext (started (decoderWords t)) ds) ∙ started-word (decoderWords t) i
+decoder-zeros : (t : Table) (ds : List Call) (i : ℕ) → getD (decoderBefore (started (decoderWords t)) ds 0) i 0 ≡ 0
+decoder-zeros t ds i =
+    ap (λ (s : List ℕ). getD s i 0) (before-first decoderFault decoderNext (started (decoderWords t)) ds) ∙ started-word (decoderWords t) i
 
 pub parity : PARITY
 parity t cs tables r b low inside =
-    coder-parity (coder-run t cs tables (omega arith)) (coder-zeros t cs tables (omega arith)) r b low inside (simp length-take (omega arith))
+    coder-parity (coded t (started (coderWords t)) cs tables) (coder-zeros t cs) r b low inside (simp length-take (omega arith))
 
 pub syndromes : SYNDROME
 syndromes t ds room tables r b low inside =
-    decoder-raw (decoder-run t ds tables (r + b * t .depth) inside) (rawAt (started (decoderWords t)) ds) (registerAt (started (decoderWords t)) ds)
-    (foundAt (started (decoderWords t)) ds) (verdict t (started (decoderWords t)) ds tables) (decoder-zeros t ds tables (r + b * t .depth) inside) r b low
+    decoder-raw (decoded t (started (decoderWords t)) ds tables) (rawAt (started (decoderWords t)) ds) (registerAt (started (decoderWords t)) ds)
+    (foundAt (started (decoderWords t)) ds) (verdict t (started (decoderWords t)) ds tables) (decoder-zeros t ds) r b low
     inside (info-size t room)
 
 pub syndrome-errors : SYNDROME-ERRORS
@@ -237,11 +203,11 @@ syndrome-errors t cs ds room coder decoder enough r b low inside =
     syndromes t ds room decoder r b low inside
     ∙ sym (convolution-xor (t .symbols) (t .span) (rowsOf t) received sent b
     ∙ ap (xor (all received b))
-    (coder-zero (coder-run t cs coder (omega arith)) (coder-zeros t cs coder (omega arith)) r b low (omega arith) (info-size t room))
+    (coder-zero (coded t (started (coderWords t)) cs coder) (coder-zeros t cs) r b low (omega arith) (info-size t room))
     ∙ xor-false-r (all received b))
 
 pub registers : REGISTER
 registers t ds tables r b c low inside =
-    decoder-register (decoder-run t ds tables (r + b * t .depth) inside) (rawAt (started (decoderWords t)) ds) (registerAt (started (decoderWords t)) ds)
-    (foundAt (started (decoderWords t)) ds) (verdict t (started (decoderWords t)) ds tables) (decoder-zeros t ds tables (r + b * t .depth) inside) r b low
+    decoder-register (decoded t (started (decoderWords t)) ds tables) (rawAt (started (decoderWords t)) ds) (registerAt (started (decoderWords t)) ds)
+    (foundAt (started (decoderWords t)) ds) (verdict t (started (decoderWords t)) ds tables) (decoder-zeros t ds) r b low
     inside c

@@ -8,7 +8,6 @@
 --   stream m r at                     stream r of m, of what stands at the places of a run
 --   infoSent, blockSent, blockTaken   information and block sent at a place, and block taken
 --   rawAt, registerAt, foundAt        raw term, register and what was found there
---   CoderTables, DecoderTables        each step that is not refused uses a table that is the same as t
 --   PARITY                            000, eq. 1
 --   SYNDROME                          the raw terms, whatever was received
 --   SYNDROME-ERRORS                   000, eq. 3
@@ -30,7 +29,7 @@ use Rattle.link.specs.Start.{started}
 use Rattle.link.specs.Coder.{infoRows, coderWords}
 use Rattle.link.specs.Decoder.{decoderWords, decoderFault, decoderNext, decoderJoining, decoderRegister, decoderFound}
 use Rattle.link.specs.Runs.{Call, Sent, Taken, run, sentBy, takenBy, sentAt, takenAt}
-use Rattle.link.specs.Recovery.{SameTable}
+use Rattle.link.specs.Recovery.{CoderTables, DecoderTables}
 
 -- ---- the convolution of one stream
 
@@ -79,13 +78,6 @@ registerAt s ds p = getD (run decoderFault decoderNext decoderRegister s ds) p 0
 
 abbrev pub foundAt : List ℕ → List Call → ℕ → Least
 foundAt s ds p = getD (run decoderFault decoderNext decoderFound s ds) p Missing
-
--- "each step that is not refused uses the decoder's table"
-abbrev pub CoderTables : Table → List ℕ → List Call → Type 0
-CoderTables t s cs = (p : ℕ) → 1 ≤ p → p ≤ length (sentBy s cs) → SameTable (sentAt (sentBy s cs) p .table) t
-
-abbrev pub DecoderTables : Table → List ℕ → List Call → Type 0
-DecoderTables t s ds = (p : ℕ) → 1 ≤ p → p ≤ length (takenBy s ds) → SameTable (takenAt (takenBy s ds) p .table) t
 
 -- ---- the theorems, of every list of calls, refused ones anywhere in it
 
