@@ -16,30 +16,10 @@ use lib.ListN.{length, getD}
 use lib.Pow.{pow-pos}
 use Rattle.span.specs.Word.{_⊕_, odd, bit, sel}
 use Rattle.span.specs.Combination.{combination}
-use Rattle.span.proofs.Laws.{xor-false-l, xor-zero-l, xor-lt, bit-zero, bit-suc, bit-xor, bit-none, combination-zero, combination-append, combination-last, combination-low}
+use Rattle.span.proofs.Laws.{xor-false-l, xor-comm-bool, xor-swap-bool, xor-zero-l, xor-lt, bit-zero, bit-suc, bit-xor, bit-none, combination-zero, combination-append, combination-last, combination-low}
 use Rattle.link.specs.Massey.{sumOver, rowOf, symbol, ago, convolution}
 
 -- ---- exclusive or of two, and over a range
-
-xor-swap : (a b c d : Bool) → xor (xor a b) (xor c d) ≡ xor (xor a c) (xor b d)
-unfolding xor
-xor-swap a true true d = refl
-xor-swap a false false d = refl
-xor-swap true true false true = refl
-xor-swap true true false false = refl
-xor-swap true false true true = refl
-xor-swap true false true false = refl
-xor-swap false true false true = refl
-xor-swap false true false false = refl
-xor-swap false false true true = refl
-xor-swap false false true false = refl
-
-xor-comm : (a b : Bool) → xor a b ≡ xor b a
-unfolding xor
-xor-comm true true = refl
-xor-comm true false = refl
-xor-comm false true = refl
-xor-comm false false = refl
 
 and-xor : (a b c : Bool) → a && xor b c ≡ xor (a && b) (a && c)
 and-xor true b c = refl
@@ -73,7 +53,7 @@ unfolding sumOver
 sum-xor from zero f g = sym (xor-false-l false)
 sum-xor from (suc count) f g =
     ap (xor (xor (f from) (g from))) (sum-xor (suc from) count f g)
-    ∙ xor-swap (f from) (g from) (sumOver (suc from) count f) (sumOver (suc from) count g)
+    ∙ xor-swap-bool (f from) (g from) (sumOver (suc from) count f) (sumOver (suc from) count g)
 
 sum-swap : (a m b n : ℕ) (f : ℕ → ℕ → Bool) → sumOver a m (λ i. sumOver b n (f i)) ≡ sumOver b n (λ k. sumOver a m (λ i. f i k))
 unfolding sumOver
@@ -177,7 +157,7 @@ module _ (n N : ℕ) (rows : List ℕ) (x P : ℕ → ℕ) (count : ℕ) (size :
 
   put-now : (t i M : ℕ) → bit i (P t) ≡ sumOver 0 M (λ k. put t i (suc k)) → bit i (P t ⊕ combination rows (x t)) ≡ sumOver 0 (suc M) (put t i)
   put-now t i M rest =
-      bit-xor i (P t) (combination rows (x t)) ∙ xor-comm (bit i (P t)) (bit i (combination rows (x t)))
+      bit-xor i (P t) (combination rows (x t)) ∙ xor-comm-bool (bit i (P t)) (bit i (combination rows (x t)))
       ∙ ap₂ xor (ap₂ (λ (p c : ℕ). bit p (combination rows c)) (sym (add-zero i)) (sym (ago-now x t))) (rest ∙ sym (sum-shift 0 M (put t i)))
       ∙ sum-head 0 M (put t i)
 

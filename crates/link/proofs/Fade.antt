@@ -1,6 +1,13 @@
 -- Recovery over sequences: coder and decoder in step, each with a turn of its own; S and M are the memories before each place, R the blocks
 -- taken, A the answers, B the information sent and C the blocks sent. Nothing is asked of the memories: a step that is taken has passed the tests
 -- of its own stream. Assumes nothing.
+--
+--   Linked, WrongApart     coder and decoder in step, and how wrong places lie
+--   Sure                   what is claimed of an answer
+--   guarded                the words of a stream after right blocks
+--   delivers, delivers-first   the claim where streams are clean: of a block taken, and of one of the first memory
+--   recovers               the claim past the guard
+--   clean-first            streams that are clean in the first memory
 use mathlib.Core.Path.{_≡_, refl, sym, ap, ap₂, _∙_, subst}
 use mathlib.Core.Bool.{Bool, true, false, cond}
 use mathlib.Core.Logic.{_≢_, _⊎_, inl, inr}
@@ -250,32 +257,28 @@ module _ {n N m : ℕ} {infos : List ℕ} {S M : ℕ → List ℕ} {R B C : ℕ 
           subst (λ (y : ℕ). markOf (found rows y) y ≢ Doubtful) same (out .1),
         )
 
-    pub delivers : (p q : ℕ) → p < count → start * m ≤ p → q + m * (N - 1) ≡ p
-        → Sure (A p) (B q)
-    delivers p q h late e =
-        let f = found-at p (er q) h late (λ i d. ap er (let same : i ≡ q = omega arith in same)) (λ few. absurd (omega arith)) in
+    sure : (p x y : ℕ) → p < count → start * m ≤ p → ((q : ℕ) → q + m * (N - 1) ≡ p → er q ≡ x) → (p < m * (N - 1) → x ≡ 0)
+        → m * (N - 1) ≤ fillOf (S p) → dl 0 p ⊕ x % 2 ^ (n - 1) ≡ y → Sure (A p) y
+    sure p x y h late leaves none full is =
+        let f = found-at p x h late leaves none in
         let mark = markOf (found rows (registerIn n N infos (S p) (R p))) (registerIn n N infos (S p) (R p)) in (
           mark,
-          l .decoding .decodes p h .answers (fill-complete p h (omega arith))
-              ∙ ap (λ (x : ℕ). Delivery (record { info = x; mark = mark }))
-              (ap₂ (λ (x y : ℕ). x ⊕ y % 2 ^ (n - 1)) (oldest p q h e) (f .0) ∙ corrected q (omega arith)),
+          l .decoding .decodes p h .answers full
+              ∙ ap (λ (z : ℕ). Delivery (record { info = z; mark = mark })) (ap (λ (e : ℕ). dl 0 p ⊕ e % 2 ^ (n - 1)) (f .0) ∙ is),
           f .1,
         )
+
+    pub delivers : (p q : ℕ) → p < count → start * m ≤ p → q + m * (N - 1) ≡ p → Sure (A p) (B q)
+    delivers p q h late e =
+        sure p (er q) (B q) h late (λ i d. ap er (let same : i ≡ q = omega arith in same)) (λ few. absurd (omega arith)) (fill-complete p h (omega arith))
+        (ap (λ (x : ℕ). x ⊕ er q % 2 ^ (n - 1)) (oldest p q h e) ∙ corrected q (omega arith))
 
     -- a block of the first memory leaves as it is
     pub delivers-first : (p : ℕ) → p < count → start * m ≤ p → p < m * (N - 1) → m * (N - 1) ≤ fillOf (S p)
         → Sure (A p) (getD (S 0) (streamIn N ((turnOf (S 0) + p) % m) + 2 + p / m) 0)
     delivers-first p h late early full =
-        let f = found-at p 0 h late (λ q e. absurd (omega arith)) (λ few. refl) in
-        let mark = markOf (found rows (registerIn n N infos (S p) (R p))) (registerIn n N infos (S p) (R p)) in (
-          mark,
-          l .decoding .decodes p h .answers full
-              ∙ ap (λ (x : ℕ). Delivery (record { info = x; mark = mark }))
-              (ap₂ (λ (x y : ℕ). x ⊕ y % 2 ^ (n - 1)) (oldest-first p h early) (f .0)
-              ∙ ap (λ (y : ℕ). getD (S 0) (streamIn N ((turnOf (S 0) + p) % m) + 2 + p / m) 0 ⊕ y) (zero-mod (2 ^ (n - 1)))
-              ∙ xor-zero-r (getD (S 0) (streamIn N ((turnOf (S 0) + p) % m) + 2 + p / m) 0)),
-          f .1,
-        )
+        sure p 0 (getD (S 0) (streamIn N ((turnOf (S 0) + p) % m) + 2 + p / m) 0) h late (λ q e. absurd (omega arith)) (λ few. refl) full
+        (ap (λ (y : ℕ). dl 0 p ⊕ y) (zero-mod (2 ^ (n - 1))) ∙ xor-zero-r (dl 0 p) ∙ oldest-first p h early)
 
   -- the guard makes every stream clean
   pub recovers : WrongApart R C m (m * (N - 1)) count

@@ -18,7 +18,7 @@ use Rattle.span.specs.declared.eliminate.Least.the-variants.{Found, Missing}
 use Rattle.span.specs.Word.{_⊕_, odd, bit, sel, digit, shifted}
 use Rattle.span.specs.Combination.{combination}
 use Rattle.span.specs.Relation.{leastCoefficients}
-use Rattle.span.proofs.Laws.{xor-assoc, xor-swap, xor-zero-r, xor-half, odd-xor, odd-digit, odd-mod, odd-of, xor-false-r, bit-odd, combination-last, combination-low, combination-xor, shifted-mod, shifted-inside}
+use Rattle.span.proofs.Laws.{xor-self-bool, xor-assoc, xor-swap, xor-zero-r, xor-half, odd-xor, odd-digit, odd-mod, odd-of, xor-false-r, bit-odd, combination-last, combination-low, combination-xor, shifted-mod, shifted-inside}
 use Rattle.link.specs.declared.decoder.Mark.the-variants.{Clean, Corrected, Doubtful, Held}
 use Rattle.link.specs.Stream.{joining, found, errorOf, keptOf, markOf}
 use Rattle.link.proofs.Words.{bit-most}
@@ -27,11 +27,6 @@ use Rattle.link.proofs.Suitable.{Corrects}
 digit-half : (s : Bool) → digit s / 2 ≡ 0
 digit-half true = refl
 digit-half false = refl
-
-xor-same : (s : Bool) → xor s s ≡ false
-unfolding xor
-xor-same true = refl
-xor-same false = refl
 
 -- a number below 2^ν with s as bit ν: a coded block, its parity above the information, and a register, its raw term above the syndrome word
 module _ (ν b : ℕ) (s : Bool) (h : b < 2 ^ ν) where
@@ -78,7 +73,7 @@ module _ (infos : List ℕ) (ν : ℕ) (size : length infos ≡ ν) where
     coder-even =
         joined-odd pc c
         ∙ ap₂ xor (ap (λ (x : ℕ). odd (joining infos pc x)) coder-info) (ap (bit ν) coded ∙ topped-bit ν b (odd (joining infos pc b)) h)
-        ∙ xor-same (odd (joining infos pc b))
+        ∙ xor-self-bool (odd (joining infos pc b))
 
     both : pd ⊕ pc ⊕ combination (infos ++ (1 ∷ [])) (r ⊕ c)
         ≡ pd ⊕ combination (infos ++ (1 ∷ [])) r ⊕ (pc ⊕ combination (infos ++ (1 ∷ [])) c)
