@@ -1,19 +1,26 @@
 -- Recovery over sequences: coder and decoder in step, each with a turn of its own; S and M are the memories before each place, R the blocks
 -- taken, A the answers, B the information sent and C the blocks sent. Nothing is asked of the memories: a step that is taken has passed the tests
 -- of its own stream. Assumes nothing.
+--
+--   Linked, WrongApart     coder and decoder in step, and how wrong places lie
+--   Sure                   what is claimed of an answer
+--   guarded                the words of a stream after right blocks
+--   delivers, delivers-first   the claim where streams are clean: of a block taken, and of one of the first memory
+--   recovers               the claim past the guard
+--   clean-first            streams that are clean in the first memory
 use mathlib.Core.Path.{_≡_, refl, sym, ap, ap₂, _∙_, subst}
 use mathlib.Core.Bool.{Bool, true, false, cond}
 use mathlib.Core.Logic.{_≢_, _⊎_, inl, inr}
 use mathlib.Core.List.{List, [], _∷_, _++_}
 use Prim.Native.Nat.{ℕ, zero, suc, _+_, _-_, _*_, _/_, _%_, _^_, _≤_, _<_}
-use native.Mathlib.Nat.{add-zero, add-assoc, add-mul, suc-mul, one-mul, mul-comm, mul-assoc, mul-le-mul-right, mod-lt, div-add-mod', le-div-iff-mul-le, eq-zero-or-pos}
+use native.Mathlib.Nat.{add-zero, zero-add, zero-mod, add-mod-mod, div-lt-iff-lt-mul, add-mul, suc-mul, one-mul, mul-comm, mul-le-mul-right, mod-lt, div-add-mod', le-div-iff-mul-le, eq-zero-or-pos}
 use native.Mathlib.Omega.{arith}
 use borrow.Author.Tests.{ltb-false}
 use lib.Dec.{ltb}
 use lib.ListN.{length, getD}
 use Rattle.span.specs.Word.{_⊕_, odd, digit}
 use Rattle.span.specs.Combination.{combination}
-use Rattle.span.proofs.Laws.{xor-lt, xor-mod, xor-self, xor-twice}
+use Rattle.span.proofs.Laws.{xor-zero-r, xor-lt, xor-mod, xor-self, xor-twice}
 use Rattle.link.specs.declared.decoder.Mark.{Mark}
 use Rattle.link.specs.declared.decoder.Mark.the-variants.{Doubtful}
 use Rattle.link.specs.declared.decoder.DecodeAnswer.{DecodeAnswer}
@@ -22,10 +29,11 @@ use Rattle.link.specs.Stream.{joining, found, errorOf, keptOf, markOf}
 use Rattle.link.specs.Coder.{turnOf, pendingAt}
 use Rattle.link.specs.Decoder.{fillOf}
 use Rattle.link.proofs.Suitable.{Corrects}
-use Rattle.link.proofs.Step.{both-half, both-odd, coder-info, coded-lt}
-use Rattle.link.proofs.Sequence.{Stream, stream-judged}
-use Rattle.link.proofs.Interleaving.{Turns, word-again}
-use Rattle.link.proofs.Memory.{CoderStep, DecoderStep, streamIn, registerIn}
+use Rattle.link.proofs.Step.{both-half, both-odd, coder-info, topped-lt}
+use Rattle.link.proofs.Sequence.{Stream, guard-clean, guard-syndrome, stream-judged}
+use Rattle.link.proofs.Interleaving.{place-first, place-next, place-earlier}
+use Rattle.link.proofs.Memory.{streamIn, pendingIn, syndromeIn, delayedIn, registerIn}
+use Rattle.link.proofs.Turn.{CoderRun, DecoderRun, coder-again, coder-first, pending-again, pending-first, syndrome-again, syndrome-first, delayed-again, delayed-first}
 
 pub record Linked (n N m : ℕ) (infos : List ℕ) (S M : ℕ → List ℕ) (R B C : ℕ → ℕ) (A : ℕ → DecodeAnswer) (count : ℕ) : Type 0 where
   pub n-from : 2 ≤ n
@@ -33,25 +41,30 @@ pub record Linked (n N m : ℕ) (infos : List ℕ) (S M : ℕ → List ℕ) (R B
   pub m-from : 1 ≤ m
   pub size : length infos ≡ n - 1
   pub code : Corrects n (N - 1) (infos ++ (1 ∷ []))
-  pub decodes : (p : ℕ) → p < count → DecoderStep n N m infos (S p) (R p) (A p) (S (suc p))
-  pub codes : (p : ℕ) → p < count → CoderStep n N m infos (M p) (B p) (C p) (M (suc p))
-  pub guard : (p : ℕ) → p < count → p < 2 * (m * (N - 1)) → R p ≡ C p
-  -- two wrong places lie in one burst, or far apart
-  pub apart : (p q : ℕ) → p < q → q < count → R p ≢ C p → R q ≢ C q → (q < p + m) ⊎ (p + m * (N - 1) < q)
+  pub decoding : DecoderRun n N m infos S R A count
+  pub coding : CoderRun n N m infos M B C count
 
-module _ (n N m : ℕ) (infos : List ℕ) (S M : ℕ → List ℕ) (R B C : ℕ → ℕ) (A : ℕ → DecodeAnswer) (count : ℕ) (l : Linked n N m infos S M R B C A count) where
+-- two wrong places lie in one burst, or far apart
+abbrev pub WrongApart : (ℕ → ℕ) → (ℕ → ℕ) → ℕ → ℕ → ℕ → Type 0
+WrongApart R C long gap count = (p q : ℕ) → p < q → q < count → R p ≢ C p → R q ≢ C q → (q < p + long) ⊎ (p + gap < q)
+
+-- that information is delivered, with a mark that is not doubtful
+abbrev pub Sure : DecodeAnswer → ℕ → Type 0
+Sure answer info = (mark : Mark) × (answer ≡ Delivery (record { info = info; mark = mark })) × (mark ≢ Doubtful)
+
+module _ {n N m : ℕ} {infos : List ℕ} {S M : ℕ → List ℕ} {R B C : ℕ → ℕ} {A : ℕ → DecodeAnswer} {count : ℕ} (l : Linked n N m infos S M R B C A count) where
   abbrev rows : List ℕ
   rows = infos ++ (1 ∷ [])
 
   -- the words of the turn's stream
   abbrev pd : ℕ → ℕ
-  pd p = getD (S p) (streamIn N (turnOf (S p))) 0
+  pd p = pendingIn N (S p)
 
   abbrev sy : ℕ → ℕ
-  sy p = getD (S p) (streamIn N (turnOf (S p)) + 1) 0
+  sy p = syndromeIn N (S p)
 
   abbrev dl : ℕ → ℕ → ℕ
-  dl i p = getD (S p) (streamIn N (turnOf (S p)) + 2 + i) 0
+  dl i p = delayedIn N (S p) i
 
   abbrev pc : ℕ → ℕ
   pc p = pendingAt (M p) (turnOf (M p))
@@ -62,70 +75,28 @@ module _ (n N m : ℕ) (infos : List ℕ) (S M : ℕ → List ℕ) (R B C : ℕ 
   abbrev er : ℕ → ℕ
   er p = R p ⊕ C p
 
-  -- ---- the streams in turn
-
-  decoder-turns : Turns m (λ (p : ℕ). turnOf (S p)) count
-  decoder-turns = record {
-    some = l .m-from;
-    inside = λ p h. l .decodes p h .turn-lt;
-    next = λ p h. l .decodes p h .turn-on;
-  }
-
-  coder-turns : Turns m (λ (p : ℕ). turnOf (M p)) count
-  coder-turns = record {
-    some = l .m-from;
-    inside = λ p h. l .codes p h .turn-lt;
-    next = λ p h. l .codes p h .turn-on;
-  }
-
-  pd-again : (p : ℕ) → p + m < count → pd (p + m) ≡ joining infos (pd p) (R p % 2 ^ (n - 1)) / 2
-  pd-again p h =
-      word-again m (λ (q : ℕ). turnOf (S q)) count decoder-turns (λ (q k : ℕ). getD (S q) (streamIn N k) 0)
-      (λ q k a b ne. ap (λ (i : ℕ). getD (S (suc q)) i 0) (sym (add-zero (streamIn N k))) ∙ l .decodes q a .others k 0 b (omega arith) ne
-      ∙ ap (λ (i : ℕ). getD (S q) i 0) (add-zero (streamIn N k))) p h
-      ∙ l .decodes p (omega arith) .pending-on
-
-  sy-again : (p : ℕ) → p + m < count
-      → sy (p + m) ≡ keptOf (found rows (registerIn n N infos (S p) (R p))) (registerIn n N infos (S p) (R p))
-  sy-again p h =
-      let from = l .N-from in
-      word-again m (λ (q : ℕ). turnOf (S q)) count decoder-turns (λ (q k : ℕ). getD (S q) (streamIn N k + 1) 0)
-      (λ q k a b ne. l .decodes q a .others k 1 b (omega arith) ne) p h
-      ∙ l .decodes p (omega arith) .syndrome-on
-
-  dl-again : (i p : ℕ) → i < N - 1 → p + m < count → dl i (p + m) ≡ getD (S (suc p)) (streamIn N (turnOf (S p)) + 2 + i) 0
-  dl-again i p b h =
-      word-again m (λ (q : ℕ). turnOf (S q)) count decoder-turns (λ (q k : ℕ). getD (S q) (streamIn N k + 2 + i) 0)
-      (λ q k a c ne. ap (λ (j : ℕ). getD (S (suc q)) j 0) (add-assoc (streamIn N k) 2 i) ∙ l .decodes q a .others k (2 + i) c (omega arith) ne
-      ∙ ap (λ (j : ℕ). getD (S q) j 0) (sym (add-assoc (streamIn N k) 2 i))) p h
-
-  pc-again : (p : ℕ) → p + m < count → pc (p + m) ≡ joining infos (pc p) (B p) / 2
-  pc-again p h =
-      word-again m (λ (q : ℕ). turnOf (M q)) count coder-turns (λ (q k : ℕ). pendingAt (M q) k)
-      (λ q k a b ne. l .codes q a .others k b ne) p h
-      ∙ l .codes p (omega arith) .own
-
   -- ---- coder and decoder together
 
   jt-again : (p : ℕ) → p + m < count → jt (p + m) ≡ (jt p ⊕ combination rows (er p)) / 2
   jt-again p h =
-      let c = l .codes p (omega arith) in
-      ap₂ _⊕_ (pd-again p h) (pc-again p h) ∙ sym (both-half infos (n - 1) (l .size) (pc p) (pd p) (B p) (C p) (R p) (c .info-lt) (c .coded))
+      let c = l .coding .codes p (omega arith) in
+      ap₂ _⊕_ (pending-again (l .decoding) p h) (coder-again (l .coding) p h)
+      ∙ sym (both-half infos (n - 1) (l .size) (pc p) (pd p) (B p) (C p) (R p) (c .info-lt) (c .coded))
 
   register-is : (p : ℕ) → p < count → registerIn n N infos (S p) (R p) ≡ sy p + digit (odd (jt p ⊕ combination rows (er p))) * 2 ^ (N - 1)
   register-is p h =
-      let c = l .codes p h in
+      let c = l .coding .codes p h in
       ap (λ (b : Bool). sy p + digit b * 2 ^ (N - 1))
       (sym (both-odd infos (n - 1) (l .size) (pc p) (pd p) (B p) (C p) (R p) (c .info-lt) (c .coded)))
 
   er-lt : (p : ℕ) → p < count → er p < 2 ^ n
   er-lt p h =
-      let c = l .codes p h in
+      let c = l .coding .codes p h in
       let from = l .n-from in
-      xor-lt n (R p) (C p) (l .decodes p h .block-lt)
+      xor-lt n (R p) (C p) (l .decoding .decodes p h .block-lt)
       (subst (λ (x : ℕ). x < 2 ^ n) (sym (c .coded))
       (subst (λ (k : ℕ). B p + digit (odd (joining infos (pc p) (B p))) * 2 ^ (n - 1) < 2 ^ k) (let e : suc (n - 1) ≡ n = omega arith in e)
-      (coded-lt infos (n - 1) (l .size) (B p) (odd (joining infos (pc p) (B p))) (c .info-lt))))
+      (topped-lt (n - 1) (B p) (odd (joining infos (pc p) (B p))) (c .info-lt))))
 
   er-right : (p : ℕ) → R p ≡ C p → er p ≡ 0
   er-right p e = ap (λ (x : ℕ). x ⊕ C p) e ∙ xor-self (C p)
@@ -135,12 +106,103 @@ module _ (n N m : ℕ) (infos : List ℕ) (S M : ℕ → List ℕ) (R B C : ℕ 
 
   -- ---- one stream: the places r + k × m
 
-  module _ (r blocks : ℕ) (first : r < m) (inside : (k : ℕ) → k < blocks → r + k * m < count) where
-    place-next : (k : ℕ) → r + suc k * m ≡ r + k * m + m
-    place-next k = omega (arith, suc-mul k m)
+  module _ (r : ℕ) where
+    -- from place r on, to that of its block number `last`
+    stream : (last : ℕ) → r + last * m < count
+        → Stream n (N - 1) rows (λ (k : ℕ). jt (r + k * m)) (λ (k : ℕ). sy (r + k * m)) (λ (k : ℕ). er (r + k * m)) (suc last)
+    stream last h = record {
+      code = l .code;
+      some = let from = l .N-from in omega arith;
+      error-lt = λ k b. er-lt (r + k * m) (place-earlier m r last k count h (omega arith));
+      joint-next = λ k b.
+          let e = place-next m r k in
+          ap jt (place-next m r k) ∙ jt-again (r + k * m) (omega (arith, place-earlier m r last (suc k) count h (omega arith)));
+      syndrome-next = λ k b.
+          let e = place-next m r k in
+          let z = place-earlier m r last (suc k) count h (omega arith) in
+          ap sy (place-next m r k) ∙ syndrome-again (l .decoding) (r + k * m) (omega arith)
+          ∙ ap (λ (x : ℕ). keptOf (found rows x) x) (register-is (r + k * m) (omega arith));
+      joint-lt =
+          let z = place-earlier m r last 0 count h (omega arith) in
+          xor-lt (N - 1) (pd (r + 0 * m)) (pc (r + 0 * m)) (l .decoding .decodes (r + 0 * m) z .pending-lt) (l .coding .codes (r + 0 * m) z .pending-lt);
+      syndrome-lt = λ k b. l .decoding .decodes (r + k * m) (place-earlier m r last k count h (omega arith)) .syndrome-lt;
+    }
 
-    stream-apart : (i d : ℕ) → 1 ≤ d → d ≤ N - 1 → i + d < blocks → (er (r + i * m) ≡ 0) ⊎ (er (r + (i + d) * m) ≡ 0)
-    stream-apart i d from to h = go (eq-zero-or-pos (er (r + i * m))) (eq-zero-or-pos (er (r + (i + d) * m)))
+    -- N − 1 + i right blocks from place r on: no pending word differs, and the syndrome word is short
+    pub guarded : (i j : ℕ) → i + j ≡ N - 1 → r + (N - 1 + i) * m < count → ((k : ℕ) → k < N - 1 + i → R (r + k * m) ≡ C (r + k * m))
+        → (jt (r + (N - 1 + i) * m) ≡ 0) × (sy (r + (N - 1 + i) * m) < 2 ^ j)
+    guarded i j whole h right =
+        let q = N - 1 + i in
+        let quiet : (k : ℕ) → k < q → k < suc q → er (r + k * m) ≡ 0 = (λ k b c. er-right (r + k * m) (right k b)) in (
+          guard-clean (stream q h) q quiet i (omega arith) (omega arith),
+          guard-syndrome (stream q h) q quiet i j whole (omega arith) (omega arith),
+        )
+
+  -- ---- what is delivered
+
+  fill-grows : (p : ℕ) → p ≤ count → (p ≤ fillOf (S p)) ⊎ (m * (N - 1) ≤ fillOf (S p))
+  fill-grows zero h = inl (omega arith)
+  fill-grows (suc p) h = go (ltb (fillOf (S p)) (m * (N - 1))) refl (l .decoding .decodes p (omega arith) .fill-on) (fill-grows p (omega arith))
+    where
+      go : (b : Bool) → ltb (fillOf (S p)) (m * (N - 1)) ≡ b → fillOf (S (suc p)) ≡ cond b (fillOf (S p) + 1) (fillOf (S p))
+          → (p ≤ fillOf (S p)) ⊎ (m * (N - 1) ≤ fillOf (S p)) → (suc p ≤ fillOf (S (suc p))) ⊎ (m * (N - 1) ≤ fillOf (S (suc p)))
+      go true q e (inl z) = inl (omega arith)
+      go true q e (inr z) = inr (omega arith)
+      go false q e z = inr (let y = ltb-false (fillOf (S p)) (m * (N - 1)) q in omega arith)
+
+  fill-complete : (p : ℕ) → p < count → m * (N - 1) ≤ p → m * (N - 1) ≤ fillOf (S p)
+  fill-complete p h full = go (fill-grows p (omega arith))
+    where
+      go : (p ≤ fillOf (S p)) ⊎ (m * (N - 1) ≤ fillOf (S p)) → m * (N - 1) ≤ fillOf (S p)
+      go (inl z) = omega arith
+      go (inr z) = z
+
+  -- a delayed block, k blocks of its stream before
+  delayed-before : (q k i : ℕ) → i + k < N - 1 → q + k * m < count → dl i (q + k * m) ≡ dl (i + k) q
+  delayed-before q zero i b h =
+      ap₂ dl (sym (add-zero i)) (place-first m q)
+  delayed-before q (suc k) i b h =
+      let step = place-next m q k in
+      ap (dl i) (place-next m q k) ∙ delayed-again (l .decoding) i (q + k * m) (omega arith) (omega arith) ∙ l .decoding .decodes (q + k * m) (omega arith) .delayed-on i (omega arith)
+      ∙ delayed-before q k (suc i) (omega arith) (omega arith) ∙ ap (λ (j : ℕ). dl j q) (let e : suc i + k ≡ i + suc k = omega arith in e)
+
+  -- the oldest is the information received m × (N − 1) places before
+  oldest : (p q : ℕ) → p < count → q + m * (N - 1) ≡ p → dl 0 p ≡ R q % 2 ^ (n - 1)
+  oldest p q h e =
+      let from = l .N-from in
+      let many : suc (N - 2) ≡ N - 1 = omega arith in
+      let place : p ≡ q + m + (N - 2) * m = omega (arith, ap (λ (k : ℕ). k * m) many, suc-mul (N - 2) m, mul-comm m (N - 1)) in
+      ap (dl 0) place ∙ delayed-before (q + m) (N - 2) 0 (omega arith) (omega arith) ∙ delayed-again (l .decoding) (0 + (N - 2)) q (omega arith) (omega arith)
+      ∙ l .decoding .decodes q (omega arith) .youngest (0 + (N - 2)) (omega arith)
+
+  -- where there is no such place it is a block of the first memory
+  oldest-first : (p : ℕ) → p < count → p < m * (N - 1) → dl 0 p ≡ getD (S 0) (streamIn N ((turnOf (S 0) + p) % m) + 2 + p / m) 0
+  oldest-first p h early =
+      let some = l .m-from in
+      let r = p % m in
+      let k = p / m in
+      let first : r < m = mod-lt p (omega arith) in
+      let whole = div-add-mod' p m in
+      let here : p ≡ r + k * m = omega arith in
+      let few : k < N - 1 = div-lt-iff-lt-mul {k = m} (omega arith) .1 (omega (arith, mul-comm m (N - 1))) in
+      ap (dl 0) here ∙ delayed-before r k 0 (omega arith) (omega arith) ∙ ap (λ (i : ℕ). dl i r) (zero-add k) ∙ delayed-first (l .decoding) k r few first (omega arith)
+      ∙ ap (λ (j : ℕ). getD (S 0) (streamIn N j + 2 + k) 0) (add-mod-mod (turnOf (S 0)) p m)
+
+  corrected : (q : ℕ) → q < count → R q % 2 ^ (n - 1) ⊕ er q % 2 ^ (n - 1) ≡ B q
+  corrected q h =
+      let c = l .coding .codes q h in
+      ap (λ (x : ℕ). R q % 2 ^ (n - 1) ⊕ x) (xor-mod (R q) (C q) (n - 1)) ∙ xor-twice (R q % 2 ^ (n - 1)) (C q % 2 ^ (n - 1))
+      ∙ coder-info infos (n - 1) (l .size) (pc q) (pd q) (B q) (C q) (R q) (c .info-lt) (c .coded)
+
+  -- ---- what is found
+
+  -- The first `start` blocks of each stream are right, and then both its words are 0.
+  module _ (apart : WrongApart R C m (m * (N - 1)) count) (start : ℕ)
+      (right : (p : ℕ) → p < start * m → p < count → R p ≡ C p)
+      (clean : (r : ℕ) → r < m → r + start * m < count → (jt (r + start * m) ≡ 0) × (sy (r + start * m) ≡ 0)) where
+    stream-apart : (r last : ℕ) → r + last * m < count → (i d : ℕ) → 1 ≤ d → d ≤ N - 1 → i + d < suc last
+        → (er (r + i * m) ≡ 0) ⊎ (er (r + (i + d) * m) ≡ 0)
+    stream-apart r last inside i d from to h = go (eq-zero-or-pos (er (r + i * m))) (eq-zero-or-pos (er (r + (i + d) * m)))
       where
         long : r + (i + d) * m ≡ r + i * m + d * m
         long = omega (arith, add-mul i d m)
@@ -163,106 +225,86 @@ module _ (n N m : ℕ) (infos : List ℕ) (S M : ℕ → List ℕ) (R B C : ℕ 
             let some = l .m-from in
             let a = long in
             let b = least in
-            absurd (never (l .apart (r + i * m) (r + (i + d) * m) (omega arith) (inside (i + d) h) (er-wrong (r + i * m) z) (er-wrong (r + (i + d) * m) y)))
+            absurd (never (apart (r + i * m) (r + (i + d) * m) (omega arith) (place-earlier m r last (i + d) count inside (omega arith)) (er-wrong (r + i * m) z)
+            (er-wrong (r + (i + d) * m) y)))
 
-    stream : 0 < blocks → Stream n (N - 1) rows (λ (k : ℕ). jt (r + k * m)) (λ (k : ℕ). sy (r + k * m)) (λ (k : ℕ). er (r + k * m)) blocks
-    stream some = record {
-      code = l .code;
-      some = let from = l .N-from in omega arith;
-      error-lt = λ k h. er-lt (r + k * m) (inside k h);
-      joint-next = λ k h.
-          let e = place-next k in
-          ap jt (place-next k) ∙ jt-again (r + k * m) (omega (arith, inside (suc k) h));
-      syndrome-next = λ k h.
-          let e = place-next k in
-          let z = inside (suc k) h in
-          ap sy (place-next k) ∙ sy-again (r + k * m) (omega arith)
-          ∙ ap (λ (x : ℕ). keptOf (found rows x) x) (register-is (r + k * m) (omega arith));
-      joint-lt = xor-lt (N - 1) (pd (r + 0 * m)) (pc (r + 0 * m)) (l .decodes (r + 0 * m) (inside 0 some) .pending-lt) (l .codes (r + 0 * m) (inside 0 some) .pending-lt);
-      syndrome-lt = l .decodes (r + 0 * m) (inside 0 some) .syndrome-lt;
-      guard = λ k below h.
-          er-right (r + k * m) (l .guard (r + k * m) (inside k h)
-          (omega (arith, mul-le-mul-right m below, suc-mul k m, mul-assoc 2 (N - 1) m, mul-comm m (N - 1))));
-      apart = stream-apart;
-    }
+    -- at place p the error of the place m × (N − 1) before is found, or 0 if there is no such place
+    found-at : (p x : ℕ) → p < count → start * m ≤ p → ((q : ℕ) → q + m * (N - 1) ≡ p → er q ≡ x) → (p < m * (N - 1) → x ≡ 0)
+        → (errorOf (found rows (registerIn n N infos (S p) (R p))) ≡ x)
+        × (markOf (found rows (registerIn n N infos (S p) (R p))) (registerIn n N infos (S p) (R p)) ≢ Doubtful)
+    found-at p x h late leaves none =
+        let some = l .m-from in
+        let r = p % m in
+        let k = p / m in
+        let w = N - 1 in
+        let first : r < m = mod-lt p (omega arith) in
+        let whole = div-add-mod' p m in
+        let here : r + k * m ≡ p = omega arith in
+        let inside : r + k * m < count = omega arith in
+        let from : start ≤ k = le-div-iff-mul-le {k = m} (omega arith) .1 late in
+        let begin : r + start * m < count = omega (arith, mul-le-mul-right m from) in
+        let z = clean r first begin in
+        let out = stream-judged (stream r k inside) (stream-apart r k inside) start (z .0) (z .1)
+        (λ i d e a b.
+        let next : suc i ≤ start = omega arith in
+        let room : r + i * m < start * m = omega (arith, mul-le-mul-right m next, suc-mul i m) in
+        er-right (r + i * m) (right (r + i * m) room (omega arith)))
+        k x from (omega arith) (λ i e. leaves (r + i * m) (omega (arith, ap (λ (y : ℕ). y * m) e, add-mul i w m, mul-comm m w)))
+        (λ few. none (omega (arith, mul-le-mul-right m few, suc-mul k m, mul-comm m w))) in
+        let same : sy (r + k * m) + digit (odd (jt (r + k * m) ⊕ combination rows (er (r + k * m)))) * 2 ^ w ≡ registerIn n N infos (S p) (R p) =
+        sym (register-is (r + k * m) inside) ∙ ap (λ (y : ℕ). registerIn n N infos (S y) (R y)) here in (
+          ap (λ (y : ℕ). errorOf (found rows y)) (sym same) ∙ out .0,
+          subst (λ (y : ℕ). markOf (found rows y) y ≢ Doubtful) same (out .1),
+        )
 
-  -- ---- what is delivered
+    sure : (p x y : ℕ) → p < count → start * m ≤ p → ((q : ℕ) → q + m * (N - 1) ≡ p → er q ≡ x) → (p < m * (N - 1) → x ≡ 0)
+        → m * (N - 1) ≤ fillOf (S p) → dl 0 p ⊕ x % 2 ^ (n - 1) ≡ y → Sure (A p) y
+    sure p x y h late leaves none full is =
+        let f = found-at p x h late leaves none in
+        let mark = markOf (found rows (registerIn n N infos (S p) (R p))) (registerIn n N infos (S p) (R p)) in (
+          mark,
+          l .decoding .decodes p h .answers full
+              ∙ ap (λ (z : ℕ). Delivery (record { info = z; mark = mark })) (ap (λ (e : ℕ). dl 0 p ⊕ e % 2 ^ (n - 1)) (f .0) ∙ is),
+          f .1,
+        )
 
-  fill-grows : (p : ℕ) → p ≤ count → (p ≤ fillOf (S p)) ⊎ (m * (N - 1) ≤ fillOf (S p))
-  fill-grows zero h = inl (omega arith)
-  fill-grows (suc p) h = go (ltb (fillOf (S p)) (m * (N - 1))) refl (l .decodes p (omega arith) .fill-on) (fill-grows p (omega arith))
-    where
-      go : (b : Bool) → ltb (fillOf (S p)) (m * (N - 1)) ≡ b → fillOf (S (suc p)) ≡ cond b (fillOf (S p) + 1) (fillOf (S p))
-          → (p ≤ fillOf (S p)) ⊎ (m * (N - 1) ≤ fillOf (S p)) → (suc p ≤ fillOf (S (suc p))) ⊎ (m * (N - 1) ≤ fillOf (S (suc p)))
-      go true q e (inl z) = inl (omega arith)
-      go true q e (inr z) = inr (omega arith)
-      go false q e z = inr (let y = ltb-false (fillOf (S p)) (m * (N - 1)) q in omega arith)
+    pub delivers : (p q : ℕ) → p < count → start * m ≤ p → q + m * (N - 1) ≡ p → Sure (A p) (B q)
+    delivers p q h late e =
+        sure p (er q) (B q) h late (λ i d. ap er (let same : i ≡ q = omega arith in same)) (λ few. absurd (omega arith)) (fill-complete p h (omega arith))
+        (ap (λ (x : ℕ). x ⊕ er q % 2 ^ (n - 1)) (oldest p q h e) ∙ corrected q (omega arith))
 
-  fill-complete : (p : ℕ) → p < count → m * (N - 1) ≤ p → m * (N - 1) ≤ fillOf (S p)
-  fill-complete p h full = go (fill-grows p (omega arith))
-    where
-      go : (p ≤ fillOf (S p)) ⊎ (m * (N - 1) ≤ fillOf (S p)) → m * (N - 1) ≤ fillOf (S p)
-      go (inl z) = omega arith
-      go (inr z) = z
+    -- a block of the first memory leaves as it is
+    pub delivers-first : (p : ℕ) → p < count → start * m ≤ p → p < m * (N - 1) → m * (N - 1) ≤ fillOf (S p)
+        → Sure (A p) (getD (S 0) (streamIn N ((turnOf (S 0) + p) % m) + 2 + p / m) 0)
+    delivers-first p h late early full =
+        sure p 0 (getD (S 0) (streamIn N ((turnOf (S 0) + p) % m) + 2 + p / m) 0) h late (λ q e. absurd (omega arith)) (λ few. refl) full
+        (ap (λ (y : ℕ). dl 0 p ⊕ y) (zero-mod (2 ^ (n - 1))) ∙ xor-zero-r (dl 0 p) ∙ oldest-first p h early)
 
-  -- the information received at place q, j + 1 blocks of its stream later
-  delayed-at : (q j i : ℕ) → i + suc j ≡ N - 1 → q + suc j * m < count → dl i (q + suc j * m) ≡ R q % 2 ^ (n - 1)
-  delayed-at q zero i e h =
-      let one : q + 1 * m ≡ q + m = omega (arith, one-mul m) in
-      ap (dl i) one ∙ dl-again i q (omega arith) (omega arith) ∙ l .decodes q (omega arith) .youngest i (omega arith)
-  delayed-at q (suc j) i e h =
-      let step : q + suc (suc j) * m ≡ q + suc j * m + m = omega (arith, suc-mul (suc j) m) in
-      ap (dl i) step ∙ dl-again i (q + suc j * m) (omega arith) (omega arith)
-      ∙ l .decodes (q + suc j * m) (omega arith) .delayed-on i (omega arith)
-      ∙ delayed-at q j (suc i) (omega arith) (omega arith)
-
-  oldest : (p q : ℕ) → p < count → q + m * (N - 1) ≡ p → dl 0 p ≡ R q % 2 ^ (n - 1)
-  oldest p q h e =
-      let from = l .N-from in
-      let many : suc (N - 2) ≡ N - 1 = omega arith in
-      let place : p ≡ q + suc (N - 2) * m = sym e ∙ ap (λ (x : ℕ). q + x) (mul-comm m (N - 1) ∙ ap (λ (k : ℕ). k * m) (sym many)) in
-      ap (dl 0) place ∙ delayed-at q (N - 2) 0 (omega arith) (omega arith)
-
-  -- the error of place q is found at place p
-  found-at : (p q : ℕ) → p < count → 2 * (m * (N - 1)) ≤ p → q + m * (N - 1) ≡ p
-      → (errorOf (found rows (registerIn n N infos (S p) (R p))) ≡ er q)
-      × (markOf (found rows (registerIn n N infos (S p) (R p))) (registerIn n N infos (S p) (R p)) ≢ Doubtful)
-  found-at p q h late e =
-      let some = l .m-from in
-      let r = p % m in
-      let k = p / m in
+  -- the guard makes every stream clean
+  pub recovers : WrongApart R C m (m * (N - 1)) count
+      → ((p : ℕ) → p < 2 * (m * (N - 1)) → p < count → R p ≡ C p) → (p q : ℕ) → p < count → 2 * (m * (N - 1)) ≤ p → q + m * (N - 1) ≡ p
+      → Sure (A p) (B q)
+  recovers apart guard p q h late e =
       let w = N - 1 in
-      let i = k - w in
-      let first : r < m = mod-lt p (omega arith) in
-      let whole = div-add-mod' p m in
-      let inside : (j : ℕ) → j < suc k → r + j * m < count =
-      (λ j b. let below : j ≤ k = omega arith in omega (arith, mul-le-mul-right m below)) in
-      let from : 2 * w ≤ k = le-div-iff-mul-le {k = m} (omega arith) .1 (omega (arith, mul-assoc 2 w m, mul-comm m w)) in
-      let back : i + w ≡ k = omega arith in
-      let here : r + k * m ≡ p = omega arith in
-      let there : r + i * m ≡ q = omega (arith, ap (λ (x : ℕ). x * m) back, add-mul i w m, mul-comm m w) in
-      let out = stream-judged n w rows (λ (j : ℕ). jt (r + j * m)) (λ (j : ℕ). sy (r + j * m)) (λ (j : ℕ). er (r + j * m)) (suc k)
-      (stream r (suc k) first inside (omega arith)) k i (omega arith) from back in
-      let same : sy (r + k * m) + digit (odd (jt (r + k * m) ⊕ combination rows (er (r + k * m)))) * 2 ^ w ≡ registerIn n N infos (S p) (R p) =
-      sym (register-is (r + k * m) (omega arith)) ∙ ap (λ (x : ℕ). registerIn n N infos (S x) (R x)) here in (
-        ap (λ (x : ℕ). errorOf (found rows x)) (sym same) ∙ out .0 ∙ ap er there,
-        subst (λ (x : ℕ). markOf (found rows x) x ≢ Doubtful) same (out .1),
-      )
+      let long : (w + w) * m ≡ 2 * (m * w) = omega (arith, add-mul w w m, mul-comm m w) in
+      let right : (i : ℕ) → i < (w + w) * m → i < count → R i ≡ C i = (λ i a b. guard i (omega arith) b) in
+      delivers apart (w + w) right
+      (λ r first inside.
+      let g = guarded r w 0 (omega arith) inside
+      (λ k b. right (r + k * m) (omega (arith, mul-le-mul-right m b, suc-mul k m))
+      (let below : k ≤ w + w = omega arith in omega (arith, mul-le-mul-right m below))) in
+      (g .0, omega arith))
+      p q h (omega arith) e
 
-  corrected : (q : ℕ) → q < count → R q % 2 ^ (n - 1) ⊕ er q % 2 ^ (n - 1) ≡ B q
-  corrected q h =
-      let c = l .codes q h in
-      ap (λ (x : ℕ). R q % 2 ^ (n - 1) ⊕ x) (xor-mod (R q) (C q) (n - 1)) ∙ xor-twice (R q % 2 ^ (n - 1)) (C q % 2 ^ (n - 1))
-      ∙ coder-info infos (n - 1) (l .size) (pc q) (pd q) (B q) (C q) (R q) (c .info-lt) (c .coded)
-
-  pub recovers : (p q : ℕ) → p < count → 2 * (m * (N - 1)) ≤ p → q + m * (N - 1) ≡ p
-      → (mark : Mark) × (A p ≡ Delivery (record { info = B q; mark = mark })) × (mark ≢ Doubtful)
-  recovers p q h late e =
-      let f = found-at p q h late e in
-      let mark = markOf (found rows (registerIn n N infos (S p) (R p))) (registerIn n N infos (S p) (R p)) in (
-        mark,
-        l .decodes p h .answers (fill-complete p h (omega arith))
-            ∙ ap (λ (x : ℕ). Delivery (record { info = x; mark = mark }))
-            (ap₂ (λ (x y : ℕ). x ⊕ y % 2 ^ (n - 1)) (oldest p q h e) (f .0) ∙ corrected q (omega arith)),
-        f .1,
+  -- streams that are clean in the first memory are so at their first turn
+  pub clean-first : ((k : ℕ) → k < m → getD (S 0) (streamIn N k + 1) 0 ≡ 0)
+      → ((d : ℕ) → d < m → getD (S 0) (streamIn N ((turnOf (S 0) + d) % m)) 0 ≡ pendingAt (M 0) ((turnOf (M 0) + d) % m))
+      → (r : ℕ) → r < m → r + 0 * m < count → (jt (r + 0 * m) ≡ 0) × (sy (r + 0 * m) ≡ 0)
+  clean-first syndromes pendings r first inside =
+      let some = l .m-from in
+      let here = place-first m r in
+      let h : r < count = omega arith in
+      subst (λ (p : ℕ). (jt p ≡ 0) × (sy p ≡ 0)) (sym here) (
+        ap (λ (x : ℕ). x ⊕ pc r) (pending-first (l .decoding) r first h ∙ pendings r first ∙ sym (coder-first (l .coding) r first h)) ∙ xor-self (pc r),
+        syndrome-first (l .decoding) r first h ∙ syndromes ((turnOf (S 0) + r) % m) (mod-lt (turnOf (S 0) + r) (omega arith)),
       )

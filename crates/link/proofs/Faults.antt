@@ -1,6 +1,7 @@
 -- The first refusal that applies to a start or a step, as a chain of tests; and what follows of answer and memory. Assumes nothing.
 --
 --   start-fault, coder-fault, decoder-fault   the chains
+--   picked, passed                            a pick by a test that is decided
 --   start-refuses, starts                     a start that is refused, and one that is not
 --   code-refuses, codes                       the same of a coder step
 --   decode-refuses, decodes                   and of a decoder step
@@ -49,11 +50,11 @@ unfolding decoderFault
 decoder-fault t s r = four-first (not (fit t)) (not (eqb (length s) (decoderWords t))) (decoderMalformed t s) (leb (2 ^ t .symbols) r)
 
 -- a pick by a test that is decided
-picked : {X : Type 0} (b : Bool) (x y : X) → b ≡ true → x ≡ elim b [ true ↦ x | false ↦ y ]
+pub picked : {X : Type 0} (b : Bool) (x y : X) → b ≡ true → x ≡ elim b [ true ↦ x | false ↦ y ]
 picked true x y e = refl
 picked false x y e = let z : _≡_ {A = ℕ} 0 1 = cc in absurd (omega arith)
 
-passed : {X : Type 0} (b : Bool) (x y : X) → b ≡ false → y ≡ elim b [ true ↦ x | false ↦ y ]
+pub passed : {X : Type 0} (b : Bool) (x y : X) → b ≡ false → y ≡ elim b [ true ↦ x | false ↦ y ]
 passed true x y e = let z : _≡_ {A = ℕ} 0 1 = cc in absurd (omega arith)
 passed false x y e = refl
 

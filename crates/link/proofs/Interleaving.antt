@@ -1,13 +1,32 @@
--- The streams in turn: a word that only its own turn's step changes is the same m steps later, but for that step. Assumes nothing.
-use mathlib.Core.Path.{_≡_, refl, sym, ap, _∙_}
+-- The streams in turn: a word that only its own turn's step changes is the same m steps later, but for that step, and at the first turn of its
+-- stream it is that of the first memory. Assumes nothing.
+--
+--   place-first, place-next, place-earlier   the places r + k × m of a stream
+--   Turns                     turns of `count` steps, each the next of the one before
+--   word-again, word-first    the two laws
+use mathlib.Core.Path.{_≡_, refl, sym, ap, _∙_, subst}
 use mathlib.Core.Bool.{Bool, true, false, cond}
 use mathlib.Core.Logic.{_≢_, _⊎_, inl, inr}
-use Prim.Native.Nat.{ℕ, zero, suc, _+_, _-_, _≤_, _<_}
-use native.Mathlib.Nat.{add-zero}
+use Prim.Native.Nat.{ℕ, zero, suc, _+_, _-_, _*_, _%_, _≤_, _<_}
+use native.Mathlib.Nat.{add-zero, zero-add, zero-mul, suc-mul, mul-le-mul-right, mod-eq-of-lt, add-mod-right}
 use native.Mathlib.Omega.{arith}
 use borrow.Author.Tests.{eqb-true, eqb-false}
 use lib.Dec.{eqb}
 use Rattle.link.specs.Stream.{nextTurn}
+
+-- ---- the places of a stream
+
+pub place-first : (m r : ℕ) → r + 0 * m ≡ r
+place-first m r = omega (arith, zero-mul m)
+
+pub place-next : (m r k : ℕ) → r + suc k * m ≡ r + k * m + m
+place-next m r k = omega (arith, suc-mul k m)
+
+-- up to a block that is there all are there
+pub place-earlier : (m r b k count : ℕ) → r + b * m < count → k ≤ b → r + k * m < count
+place-earlier m r b k count h l = omega (arith, mul-le-mul-right m l)
+
+-- ---- the turns
 
 turn-next : (m x : ℕ) → ((suc x ≡ m) × (nextTurn m x ≡ 0)) ⊎ ((suc x ≢ m) × (nextTurn m x ≡ suc x))
 turn-next m x = go (eqb (suc x) m) refl
@@ -17,11 +36,10 @@ turn-next m x = go (eqb (suc x) m) refl
     go false q = inr (eqb-false (suc x) m q, refl)
 
 pub record Turns (m : ℕ) (turn : ℕ → ℕ) (count : ℕ) : Type 0 where
-  pub some : 1 ≤ m
   pub inside : (p : ℕ) → p < count → turn p < m
   pub next : (p : ℕ) → p < count → turn (suc p) ≡ nextTurn m (turn p)
 
-module _ (m : ℕ) (turn : ℕ → ℕ) (count : ℕ) (T : Turns m turn count) where
+module _ {m : ℕ} {turn : ℕ → ℕ} {count : ℕ} (T : Turns m turn count) where
   turn-step : (p i x : ℕ) → turn p < m → suc i ≤ m → (turn (p + i) ≡ turn p + i) ⊎ (turn (p + i) + m ≡ turn p + i) → x ≡ nextTurn m (turn (p + i))
       → ((suc (turn (p + i)) ≡ m) × (nextTurn m (turn (p + i)) ≡ 0)) ⊎ ((suc (turn (p + i)) ≢ m) × (nextTurn m (turn (p + i)) ≡ suc (turn (p + i))))
       → (x ≡ turn p + suc i) ⊎ (x + m ≡ turn p + suc i)
@@ -51,6 +69,14 @@ module _ (m : ℕ) (turn : ℕ → ℕ) (count : ℕ) (T : Turns m turn count) w
       go (inl e) = omega arith
       go (inr e) = omega arith
 
+  -- the first turns
+  turn-first : (d : ℕ) → d < m → d < count → turn d ≡ (turn 0 + d) % m
+  turn-first d l h = go (T .inside d h) (subst (λ (x : ℕ). (turn x ≡ turn 0 + d) ⊎ (turn x + m ≡ turn 0 + d)) (zero-add d) (turn-after 0 d (omega arith) (omega arith) (omega arith)))
+    where
+      go : turn d < m → (turn d ≡ turn 0 + d) ⊎ (turn d + m ≡ turn 0 + d) → turn d ≡ (turn 0 + d) % m
+      go b (inl e) = e ∙ sym (mod-eq-of-lt (omega arith))
+      go b (inr e) = sym (mod-eq-of-lt b) ∙ sym (add-mod-right (turn d) m) ∙ ap (λ (x : ℕ). x % m) e
+
   module _ (W : ℕ → ℕ → ℕ) (kept : (p k : ℕ) → p < count → k < m → k ≢ turn p → W (suc p) k ≡ W p k) where
     word-kept : (p d : ℕ) → suc d ≤ m → p + suc d ≤ count → W (suc p + d) (turn p) ≡ W (suc p) (turn p)
     word-kept p zero l h = ap (λ (q : ℕ). W q (turn p)) (add-zero (suc p))
@@ -63,6 +89,18 @@ module _ (m : ℕ) (turn : ℕ → ℕ) (count : ℕ) (T : Turns m turn count) w
 
     pub word-again : (p : ℕ) → p + m < count → W (p + m) (turn (p + m)) ≡ W (suc p) (turn p)
     word-again p h =
-        let some = T .some in
+        let some = T .inside p (omega arith) in
         ap (W (p + m)) (turn-again p h) ∙ ap (λ (q : ℕ). W q (turn p)) (let e : p + m ≡ suc p + (m - 1) = omega arith in e)
         ∙ word-kept p (m - 1) (omega arith) (omega arith)
+
+    word-before : (d i : ℕ) → i ≤ d → d < m → d < count → W i (turn d) ≡ W 0 (turn d)
+    word-before d zero l b h = refl
+    word-before d (suc i) l b h =
+        let place : i + (d - i) ≡ d = omega arith in
+        kept i (turn d) (omega arith) (T .inside d h)
+        (λ (e : turn d ≡ turn i). turn-other i (d - i) (omega arith) (omega arith) (omega arith) (omega arith) (sym e ∙ ap turn (sym place)))
+        ∙ word-before d i (omega arith) b h
+
+    -- until the first turn of its stream a word is that of the first memory
+    pub word-first : (d : ℕ) → d < m → d < count → W d (turn d) ≡ W 0 ((turn 0 + d) % m)
+    word-first d b h = word-before d d (omega arith) b h ∙ ap (W 0) (turn-first d b h)

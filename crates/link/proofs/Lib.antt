@@ -3,10 +3,13 @@ mod Words
 mod Parts
 mod Error
 mod Faults
+mod Started
 mod Suitable
 mod Origin
 mod Step
 mod Sequence
+mod Convolution
+mod Register
 mod Interleaving
 mod Runs
 mod Memory
@@ -14,8 +17,13 @@ mod Room
 mod Lent
 mod Answers
 mod Streams
+mod Turn
+mod OneTable
+mod Massey
 mod Bursts
 mod Fade
 mod Recovery
+mod Guard
+mod Clean
 mod Examples
 mod StepExamples

@@ -1,12 +1,15 @@
 -- What a step that is taken does to each word, as records over n, N, m and the information's rows: nothing else of a table counts. Assumes
 -- nothing.
 --
+--   Fits                           the sizes and rows of a table that 12 does not refuse
 --   CoderTaken, coder-taken        what the tests of a coder step that is taken say
 --   CoderStep, coder-step          what the step does
 --   DecoderTaken, decoder-taken    the same of the decoder
+--   pendingIn, syndromeIn, delayedIn, registerIn   words of the turn's stream, and the register
 --   DecoderStep, decoder-step
 --   coder-length, decoder-length   the length stays
 --   coded-fits                     a coded block has 16 bits at most
+--   Verdict, decoder-verdict       what the decoder judges by: raw term, register and the error found
 use mathlib.Core.Path.{_≡_, refl, sym, ap, ap₂, _∙_}
 use mathlib.Core.Bool.{Bool, true, false, cond, not, xor, _||_}
 use mathlib.Core.Logic.{_≢_}
@@ -15,24 +18,26 @@ use Prim.Native.Nat.{ℕ, suc, _+_, _-_, _*_, _/_, _%_, _^_, _≤_, _<_}
 use native.Mathlib.Nat.{add-zero, mul-le-mul-right, suc-mul}
 use native.Mathlib.Decide.{decLt}
 use native.Mathlib.Omega.{arith}
-use borrow.Author.Tests.{not-false, eqb-true, leb-false, ltb-false, le-ltb}
+use borrow.Author.Tests.{not-false, eqb-true, leb-false, ltb-false, lt-ltb, le-ltb}
 use lib.Dec.{leb, ltb, eqb}
 use lib.ListN.{length, getD, set, take, drop, length-append, length-set, length-drop, List·getD-append}
 use lib.Seq.{getD-set-same, getD-set-other, length-take-le, getD-append-add, getD-take, getD-drop, getD-at}
 use lib.Pow.{pow-mono}
+use Rattle.span.specs.declared.eliminate.Least.{Least}
 use Rattle.span.specs.Word.{_⊕_, odd, bit, digit}
+use Rattle.span.specs.Combination.{Below}
 use Rattle.tables.specs.declared.table.Table.{Table}
 use Rattle.tables.specs.Table.{fit}
 use Rattle.tables.specs.Format.{firstOf}
 use Rattle.tables.proofs.Laws.{first-none}
 use Rattle.tables.proofs.Bounds.{Fitting, fit-facts}
-use Rattle.link.specs.declared.decoder.Delivered.{Delivered}
 use Rattle.link.specs.declared.decoder.DecodeAnswer.{DecodeAnswer}
 use Rattle.link.specs.declared.decoder.DecodeAnswer.the-variants.{Delivery, NothingYet}
-use Rattle.link.specs.Stream.{joining, found, errorOf, keptOf, markOf, nextTurn}
-use Rattle.link.proofs.Words.{bit-most}
+use Rattle.link.specs.Stream.{joining, rawTerm, found, errorOf, keptOf, markOf, nextTurn}
 use Rattle.link.specs.Coder.{infoRows, coderWords, turnOf, pendingAt, coderMalformed, coderFault, coderJoining, codedBlock, coderNext}
 use Rattle.link.specs.Decoder.{decoderWords, fillOf, delayOf, pendingOf, syndromeOf, delayedOut, decoderMalformed, decoderFault, decoderJoining, decoderRegister, decoderFound, partNext, fillNext, decoderNext, delivered, delivery}
+use Rattle.link.proofs.Faults.{picked, passed}
+use Rattle.link.proofs.Step.{topped-lt}
 
 -- ---- no refusal applies
 
@@ -47,6 +52,15 @@ four-none a b c d e =
     let r = first-none 14 c (d ∷ []) (omega arith) (q .1) in
     let s = first-none 15 d [] (omega arith) (r .1) in
     (p .0, q .0, r .0, s .0)
+
+-- the sizes and rows of a table that 12 does not refuse
+pub record Fits (n N : ℕ) (infos : List ℕ) : Type 0 where
+  pub n-from : 2 ≤ n
+  pub N-from : 2 ≤ N
+  pub below : Below N infos
+
+table-fits : (t : Table) → Fitting t → Fits (t .symbols) (t .span) (infoRows t)
+table-fits t z = record { n-from = z .n-from; N-from = z .N-from; below = z .below }
 
 -- ---- the coder
 
@@ -72,6 +86,7 @@ coder-taken t s b e =
     }
 
 pub record CoderStep (n N m : ℕ) (infos : List ℕ) (s : List ℕ) (b c : ℕ) (after : List ℕ) : Type 0 where
+  pub fits : Fits n N infos
   pub turn-lt : turnOf s < m
   pub pending-lt : pendingAt s (turnOf s) < 2 ^ (N - 1)
   pub info-lt : b < 2 ^ (n - 1)
@@ -90,6 +105,7 @@ coder-step t s b e =
     let w = joining (infoRows t) (pendingAt s (turnOf s)) b / 2 in
     let to = nextTurn (t .depth) (turnOf s) in
     record {
+      fits = table-fits t (k .sizes);
       turn-lt = turn;
       pending-lt = k .pending;
       info-lt = k .info;
@@ -108,10 +124,9 @@ pub coded-fits : (t : Table) (s : List ℕ) (b : ℕ) → coderFault t s b ≡ 0
 unfolding codedBlock
 coded-fits t s b e =
     let k = coder-taken t s b e in
-    let l = bit-most (odd (coderJoining t s b)) (t .symbols - 1) in
+    let l = topped-lt (t .symbols - 1) b (odd (coderJoining t s b)) (k .info) in
     let n : suc (t .symbols - 1) ≤ 16 = omega arith in
     let most = pow-mono n in
-    let i = k .info in
     omega arith
 
 pub coder-length : (t : Table) (s : List ℕ) (b : ℕ) → length (coderNext t s b) ≡ length s
@@ -123,28 +138,39 @@ coder-length t s b = simp length-set
 abbrev pub streamIn : ℕ → ℕ → ℕ
 streamIn N k = 2 + k * (N + 1)
 
--- the register of a step on that memory
+-- the words of the turn's stream, and the register of a step on that memory
+abbrev pub pendingIn : ℕ → List ℕ → ℕ
+pendingIn N s = getD s (streamIn N (turnOf s)) 0
+
+abbrev pub syndromeIn : ℕ → List ℕ → ℕ
+syndromeIn N s = getD s (streamIn N (turnOf s) + 1) 0
+
+abbrev pub delayedIn : ℕ → List ℕ → ℕ → ℕ
+delayedIn N s i = getD s (streamIn N (turnOf s) + 2 + i) 0
+
 abbrev pub registerIn : ℕ → ℕ → List ℕ → List ℕ → ℕ → ℕ
 registerIn n N infos s r =
-    getD s (streamIn N (turnOf s) + 1) 0
-    + digit (xor (odd (joining infos (getD s (streamIn N (turnOf s)) 0) (r % 2 ^ (n - 1)))) (bit (n - 1) r)) * 2 ^ (N - 1)
+    syndromeIn N s
+    + digit (xor (odd (joining infos (pendingIn N s) (r % 2 ^ (n - 1)))) (bit (n - 1) r)) * 2 ^ (N - 1)
 
 pub record DecoderStep (n N m : ℕ) (infos : List ℕ) (s : List ℕ) (r : ℕ) (answer : DecodeAnswer) (after : List ℕ) : Type 0 where
+  pub fits : Fits n N infos
   pub turn-lt : turnOf s < m
-  pub pending-lt : getD s (streamIn N (turnOf s)) 0 < 2 ^ (N - 1)
-  pub syndrome-lt : getD s (streamIn N (turnOf s) + 1) 0 < 2 ^ (N - 1)
+  pub pending-lt : pendingIn N s < 2 ^ (N - 1)
+  pub syndrome-lt : syndromeIn N s < 2 ^ (N - 1)
   pub block-lt : r < 2 ^ n
   pub turn-on : turnOf after ≡ nextTurn m (turnOf s)
   pub fill-on : fillOf after ≡ cond (ltb (fillOf s) (m * (N - 1))) (fillOf s + 1) (fillOf s)
-  pub pending-on : getD after (streamIn N (turnOf s)) 0 ≡ joining infos (getD s (streamIn N (turnOf s)) 0) (r % 2 ^ (n - 1)) / 2
+  pub pending-on : getD after (streamIn N (turnOf s)) 0 ≡ joining infos (pendingIn N s) (r % 2 ^ (n - 1)) / 2
   pub syndrome-on : getD after (streamIn N (turnOf s) + 1) 0
       ≡ keptOf (found (infos ++ (1 ∷ [])) (registerIn n N infos s r)) (registerIn n N infos s r)
-  pub delayed-on : (i : ℕ) → suc i < N - 1 → getD after (streamIn N (turnOf s) + 2 + i) 0 ≡ getD s (streamIn N (turnOf s) + 2 + suc i) 0
+  pub delayed-on : (i : ℕ) → suc i < N - 1 → getD after (streamIn N (turnOf s) + 2 + i) 0 ≡ delayedIn N s (suc i)
   pub youngest : (i : ℕ) → suc i ≡ N - 1 → getD after (streamIn N (turnOf s) + 2 + i) 0 ≡ r % 2 ^ (n - 1)
   pub others : (k j : ℕ) → k < m → j < N + 1 → k ≢ turnOf s → getD after (streamIn N k + j) 0 ≡ getD s (streamIn N k + j) 0
+  pub waits : fillOf s < m * (N - 1) → answer ≡ NothingYet
   pub answers : m * (N - 1) ≤ fillOf s → answer
       ≡ Delivery (record {
-        info = getD s (streamIn N (turnOf s) + 2 + 0) 0 ⊕ errorOf (found (infos ++ (1 ∷ [])) (registerIn n N infos s r)) % 2 ^ (n - 1);
+        info = delayedIn N s 0 ⊕ errorOf (found (infos ++ (1 ∷ [])) (registerIn n N infos s r)) % 2 ^ (n - 1);
         mark = markOf (found (infos ++ (1 ∷ [])) (registerIn n N infos s r)) (registerIn n N infos s r);
       })
 
@@ -302,14 +328,11 @@ decoder-taken t s r e =
       block = leb-false (2 ^ t .symbols) r (f .3);
     }
 
-complete : (b : Bool) (d : Delivered) → b ≡ false → _≡_ {A = DecodeAnswer} (elim b [ true ↦ NothingYet | false ↦ Delivery d ]) (Delivery d)
-complete true d e = let z : _≡_ {A = ℕ} 0 1 = cc in absurd (omega arith)
-complete false d e = refl
-
 pub decoder-step : (t : Table) (s : List ℕ) (r : ℕ) → decoderFault t s r ≡ 0
     → DecoderStep (t .symbols) (t .span) (t .depth) (infoRows t) s r (delivery t s r) (decoderNext t s r)
 unfolding decoderNext partNext delivery delivered decoderFound decoderRegister decoderJoining
 decoder-step t s r e = record {
+  fits = table-fits t (k .sizes);
   turn-lt = k .turn;
   pending-lt = k .pending;
   syndrome-lt = k .syndrome;
@@ -323,7 +346,8 @@ decoder-step t s r e = record {
   delayed-on = after-moved N (t .depth) s pending syndrome young fill to (k .sizes .N-from) (k .size) (k .turn);
   youngest = after-young N (t .depth) s pending syndrome young fill to (k .sizes .N-from) (k .size) (k .turn);
   others = after-others N (t .depth) s pending syndrome young fill to (k .sizes .N-from) (k .size) (k .turn);
-  answers = λ h. complete (ltb (fillOf s) (delayOf t)) (delivered t s r) (le-ltb (fillOf s) (delayOf t) h);
+  waits = λ h. sym (picked (ltb (fillOf s) (delayOf t)) NothingYet (Delivery (delivered t s r)) (lt-ltb (fillOf s) (delayOf t) h));
+  answers = λ h. sym (passed (ltb (fillOf s) (delayOf t)) NothingYet (Delivery (delivered t s r)) (le-ltb (fillOf s) (delayOf t) h));
 }
   where
     k : DecoderTaken t s r
@@ -354,3 +378,13 @@ decoder-length t s r e =
     simp length-set
     (body-length (t .span) (t .depth) s (decoderJoining t s r / 2) (keptOf (decoderFound t s r) (decoderRegister t s r)) (r % 2 ^ (t .symbols - 1))
     (fillNext t (fillOf s)) (nextTurn (t .depth) (turnOf s)) (k .sizes .N-from) (k .size) (k .turn))
+
+pub record Verdict (n N : ℕ) (infos : List ℕ) (s : List ℕ) (r : ℕ) (raw : Bool) (register : ℕ) (error : Least) : Type 0 where
+  pub raw-is : raw ≡ xor (odd (joining infos (pendingIn N s) (r % 2 ^ (n - 1)))) (bit (n - 1) r)
+  pub register-is : register ≡ registerIn n N infos s r
+  pub found-is : error ≡ found (infos ++ (1 ∷ [])) (registerIn n N infos s r)
+
+pub decoder-verdict : (t : Table) (s : List ℕ) (r : ℕ)
+    → Verdict (t .symbols) (t .span) (infoRows t) s r (rawTerm (decoderJoining t s r) (t .symbols) r) (decoderRegister t s r) (decoderFound t s r)
+unfolding decoderFound decoderRegister decoderJoining
+decoder-verdict t s r = record { raw-is = refl; register-is = refl; found-is = refl }

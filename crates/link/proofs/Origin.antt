@@ -38,7 +38,7 @@ pub record Coding (t : Table) : Type 0 where
   pub infos : length (infoRows t) ≡ t .symbols - 1
   pub corrects : Corrects (t .symbols) (t .span - 1) (infoRows t ++ (1 ∷ []))
 
-below-snoc : (N : ℕ) (ws : List ℕ) → 1 ≤ N → Below N ws → Below N (ws ++ (1 ∷ []))
+pub below-snoc : (N : ℕ) (ws : List ℕ) → 1 ≤ N → Below N ws → Below N (ws ++ (1 ∷ []))
 below-snoc N ws h below i l = go (decLt i (length ws))
   where
     go : Dec (i < length ws) → getD (ws ++ (1 ∷ [])) i 0 < 2 ^ N

@@ -1,93 +1,47 @@
 -- Demand 3: the runs of coder and decoder as sequences, and 01's premises as those of `Fade`. Assumes nothing.
-use mathlib.Core.Path.{_≡_, sym, ap, _∙_, subst}
-use mathlib.Core.Logic.{_≢_, _⊎_, inl, inr}
+--
+--   separated, linked    the premises
+--   recovered            the claim
+--   recovery-any-memory, recovery   the theorems
+use mathlib.Core.Path.{_≡_, subst}
+use mathlib.Core.Logic.{_⊎_, inl, inr}
 use mathlib.Core.List.{List}
-use Prim.Native.Nat.{ℕ, suc, _+_, _-_, _*_, _<_}
+use Prim.Native.Nat.{ℕ, zero, suc, _+_, _-_, _*_, _≤_, _<_}
 use native.Mathlib.Omega.{arith}
-use lib.ListN.{length, getD, take}
+use lib.ListN.{length}
 use Rattle.tables.specs.declared.table.Table.{Table}
-use Rattle.tables.specs.Table.{zeroTable}
-use Rattle.link.specs.declared.decoder.DecodeAnswer.the-variants.{NothingYet}
-use Rattle.link.specs.Coder.{infoRows, coderNext}
-use Rattle.link.specs.Decoder.{delayOf, decoderNext}
-use Rattle.link.specs.Runs.{Call, Sent, Taken, sentEntry, takenEntry, sentBy, takenBy, sentAt, takenAt}
-use Rattle.link.specs.Recovery.{SameTable, Wrong, Fades, RECOVERY}
+use Rattle.link.specs.declared.decoder.DecodeAnswer.{DecodeAnswer}
+use Rattle.link.specs.Coder.{infoRows}
+use Rattle.link.specs.Decoder.{delayOf}
+use Rattle.link.specs.Runs.{Call, Sent, Taken, sentBy, takenBy, sentAt, takenAt}
+use Rattle.link.specs.Recovery.{Wrong, Recovered, RECOVERY, Running, Separated, RECOVERY-ANY-MEMORY}
+use Rattle.link.specs.Massey.{infoSent, blockSent, blockTaken}
 use Rattle.link.proofs.Origin.{origin-coding}
-use Rattle.link.proofs.Runs.{coderBefore, decoderBefore, sent-entry, taken-entry}
-use Rattle.link.proofs.Memory.{CoderStep, coder-step, DecoderStep, decoder-step}
+use Rattle.link.proofs.Runs.{coderBefore, decoderBefore}
+use Rattle.link.proofs.OneTable.{coded, decoded}
 use Rattle.link.proofs.Bursts.{bursts-apart}
-use Rattle.link.proofs.Fade.{Linked, recovers}
+use Rattle.link.proofs.Fade.{Linked, WrongApart, Sure, recovers}
 
--- a step under a table is one under any that is the same, of equal entries and equal memories after it
-same-step : {X : Type 0} (P : ℕ → ℕ → ℕ → List ℕ → X → List ℕ → Type 0) (u t : Table) → SameTable u t → (x y : X) → y ≡ x → (a b : List ℕ) → b ≡ a
-    → P (u .symbols) (u .span) (u .depth) (infoRows u) x a → P (t .symbols) (t .span) (t .depth) (infoRows t) y b
-same-step P u t same x y is a b on h =
-    let rows = subst (λ (r : List ℕ). P (u .symbols) (u .span) (u .depth) r x a) (ap (λ (k : ℕ). take (k - 1) (u .rows)) (same .symbols) ∙ same .rows) h in
-    let n = subst (λ (k : ℕ). P k (u .span) (u .depth) (infoRows t) x a) (same .symbols) rows in
-    let N = subst (λ (k : ℕ). P (t .symbols) k (u .depth) (infoRows t) x a) (same .span) n in
-    let m = subst (λ (k : ℕ). P (t .symbols) (t .span) k (infoRows t) x a) (same .depth) N in
-    let entry = subst (λ v. P (t .symbols) (t .span) (t .depth) (infoRows t) v a) (sym is) m in
-    subst (P (t .symbols) (t .span) (t .depth) (infoRows t) y) (sym on) entry
+module _ {t : Table} {coder decoder : List ℕ} {cs ds : List Call} (f : Running t coder decoder cs ds) where
+  abbrev sent : List Sent
+  sent = sentBy coder cs
 
-module _ (t : Table) (coder decoder : List ℕ) (cs ds : List Call) (f : Fades t coder decoder cs ds) where
-  abbrev sent : ℕ → Sent
-  sent p = getD (sentBy coder cs) p (record { table = zeroTable; info = 0; block = 0 })
+  abbrev taken : List Taken
+  taken = takenBy decoder ds
 
-  abbrev taken : ℕ → Taken
-  taken p = getD (takenBy decoder ds) p (record { table = zeroTable; block = 0; answer = NothingYet })
+  abbrev pub answer : ℕ → DecodeAnswer
+  answer p = takenAt taken (suc p) .answer
 
-  abbrev count : ℕ
-  count = length (takenBy decoder ds)
-
-  -- places count from 1, sequences from 0
-  from-one : (p : ℕ) → suc p - 1 ≡ p
-  from-one p = omega arith
-
-  decoded : (p : ℕ) → p < count
-      → DecoderStep (t .symbols) (t .span) (t .depth) (infoRows t) (decoderBefore decoder ds p) (taken p .block) (taken p .answer) (decoderBefore decoder ds (suc p))
-  decoded p h =
-      let e = taken-entry decoder ds p h in
-      let u = e .call .table in
-      let is = e .is (record { table = zeroTable; block = 0; answer = NothingYet }) in
-      let same : SameTable u t =
-      subst (λ (v : Table). SameTable v t) (ap (λ (k : ℕ). taken k .table) (from-one p) ∙ ap (λ (x : Taken). x .table) is)
-      (f .decoder-tables (suc p) (omega arith) (omega arith)) in
-      same-step (λ n N m infos (x : Taken) after. DecoderStep n N m infos (decoderBefore decoder ds p) (x .block) (x .answer) after) u t same
-      (takenEntry u (decoderBefore decoder ds p) (e .call .block)) (taken p) is (decoderNext u (decoderBefore decoder ds p) (e .call .block))
-      (decoderBefore decoder ds (suc p)) (e .on) (decoder-step u (decoderBefore decoder ds p) (e .call .block) (e .taken))
-
-  coded : (p : ℕ) → p < count
-      → CoderStep (t .symbols) (t .span) (t .depth) (infoRows t) (coderBefore coder cs p) (sent p .info) (sent p .block) (coderBefore coder cs (suc p))
-  coded p h =
-      let many = f .enough in
-      let e = sent-entry coder cs p (omega arith) in
-      let u = e .call .table in
-      let is = e .is (record { table = zeroTable; info = 0; block = 0 }) in
-      let same : SameTable u t =
-      subst (λ (v : Table). SameTable v t) (ap (λ (k : ℕ). sent k .table) (from-one p) ∙ ap (λ (x : Sent). x .table) is)
-      (f .coder-tables (suc p) (omega arith) (omega arith)) in
-      same-step (λ n N m infos (x : Sent) after. CoderStep n N m infos (coderBefore coder cs p) (x .info) (x .block) after) u t same
-      (sentEntry u (coderBefore coder cs p) (e .call .block)) (sent p) is (coderNext u (coderBefore coder cs p) (e .call .block))
-      (coderBefore coder cs (suc p)) (e .on) (coder-step u (coderBefore coder cs p) (e .call .block) (e .taken))
-
-  right-at : (p : ℕ) → takenAt (takenBy decoder ds) (suc p) .block ≡ sentAt (sentBy coder cs) (suc p) .block → taken p .block ≡ sent p .block
-  right-at p e = ap (λ (k : ℕ). taken k .block) (sym (from-one p)) ∙ e ∙ ap (λ (k : ℕ). sent k .block) (from-one p)
-
-  wrong-at : (p : ℕ) → taken p .block ≢ sent p .block → Wrong (sentBy coder cs) (takenBy decoder ds) (suc p)
-  wrong-at p ne e = ne (right-at p e)
-
-  wrong-apart : (p q : ℕ) → p < q → q < count → taken p .block ≢ sent p .block → taken q .block ≢ sent q .block
-      → (q < p + t .depth) ⊎ (p + t .depth * (t .span - 1) < q)
-  wrong-apart p q l h u v =
-      go (bursts-apart (Wrong (sentBy coder cs) (takenBy decoder ds)) (t .depth) (delayOf t) count (f .bursts) (suc p) (suc q) (omega arith) (omega arith)
-      (omega arith) (wrong-at p u) (wrong-at q v))
+  pub separated : Separated (Wrong sent taken) (t .depth) (delayOf t) (length taken)
+      → WrongApart (blockTaken taken) (blockSent sent) (t .depth) (delayOf t) (length taken)
+  separated apart p q l h u v = go (apart (suc p) (suc q) (omega arith) (omega arith) (omega arith) u v)
     where
       go : (suc q < suc p + t .depth) ⊎ (suc p + t .depth * (t .span - 1) < suc q) → (q < p + t .depth) ⊎ (p + t .depth * (t .span - 1) < q)
       go (inl z) = inl (omega arith)
       go (inr z) = inr (omega arith)
 
-  linked : Linked (t .symbols) (t .span) (t .depth) (infoRows t) (decoderBefore decoder ds) (coderBefore coder cs) (λ (p : ℕ). taken p .block)
-      (λ (p : ℕ). sent p .info) (λ (p : ℕ). sent p .block) (λ (p : ℕ). taken p .answer) count
+  pub linked : Linked (t .symbols) (t .span) (t .depth) (infoRows t) (decoderBefore decoder ds) (coderBefore coder cs) (blockTaken taken)
+      (infoSent sent) (blockSent sent) answer (length taken)
   linked =
       let c = origin-coding t (f .origin) in
       record {
@@ -96,15 +50,26 @@ module _ (t : Table) (coder decoder : List ℕ) (cs ds : List Call) (f : Fades t
         m-from = c .sizes .m-from;
         size = c .infos;
         code = c .corrects;
-        decodes = decoded;
-        codes = coded;
-        guard = λ p h early. right-at p (f .guard (suc p) (omega arith) (omega arith) (omega arith));
-        apart = wrong-apart;
+        decoding = decoded t decoder ds (f .decoder-tables);
+        coding = record { codes = λ p h. let many = f .enough in coded t coder cs (f .coder-tables) .codes p (omega arith) };
       }
 
+  pub recovered : (p : ℕ) → delayOf t ≤ p → ((q : ℕ) → q + delayOf t ≡ p → Sure (answer p) (infoSent sent q))
+      → Recovered sent taken (delayOf t) (suc p)
+  recovered p late sure =
+      subst (λ (x : ℕ). Sure (answer p) (sentAt sent x .info)) (let e : suc (p - delayOf t) ≡ suc p - delayOf t = omega arith in e)
+      (sure (p - delayOf t) (omega arith))
+
+pub recovery-any-memory : RECOVERY-ANY-MEMORY
+recovery-any-memory t coder decoder cs ds f guard apart zero late h = absurd (omega arith)
+recovery-any-memory t coder decoder cs ds f guard apart (suc p) late h =
+    recovered f p (omega arith)
+    (λ q e.
+    recovers (linked f) (separated f apart) (λ i early inside. guard (suc i) (omega arith) (omega arith) (omega arith)) p q (omega arith) (omega arith) e)
+
+-- well-formed memories are not needed, and chosen bursts keep the wrong places apart
 pub recovery : RECOVERY
-recovery t coder decoder cs ds f p late h =
-    recovers (t .symbols) (t .span) (t .depth) (infoRows t) (decoderBefore decoder ds) (coderBefore coder cs)
-    (λ (q : ℕ). taken t coder decoder cs ds f q .block) (λ (q : ℕ). sent t coder decoder cs ds f q .info)
-    (λ (q : ℕ). sent t coder decoder cs ds f q .block) (λ (q : ℕ). taken t coder decoder cs ds f q .answer)
-    (length (takenBy decoder ds)) (linked t coder decoder cs ds f) (p - 1) (p - delayOf t - 1) (omega arith) (omega arith) (omega arith)
+recovery t coder decoder cs ds f =
+    recovery-any-memory t coder decoder cs ds
+    (record { origin = f .origin; coder-tables = f .coder-tables; decoder-tables = f .decoder-tables; enough = f .enough }) (f .guard)
+    (bursts-apart (Wrong (sentBy coder cs) (takenBy decoder ds)) (t .depth) (delayOf t) (length (takenBy decoder ds)) (f .bursts))

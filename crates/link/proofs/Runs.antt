@@ -13,7 +13,7 @@ use Rattle.link.specs.Coder.{coderFault, coderNext}
 use Rattle.link.specs.Decoder.{decoderFault, decoderNext}
 use Rattle.link.specs.Runs.{Call, run, sentEntry, takenEntry, sentBy, takenBy}
 
-module _ {X : Type 0} (fault : Table → List ℕ → ℕ → ℕ) (next : Table → List ℕ → ℕ → List ℕ) (entry : Table → List ℕ → ℕ → X) where
+module _ (fault : Table → List ℕ → ℕ → ℕ) (next : Table → List ℕ → ℕ → List ℕ) where
   later : List ℕ → (ℕ → List ℕ) → ℕ → List ℕ
   later s f zero = s
   later s f (suc p) = f p
@@ -27,7 +27,7 @@ module _ {X : Type 0} (fault : Table → List ℕ → ℕ → ℕ) (next : Table
         | false ↦ before s cs p
       ]
 
-  before-first : (s : List ℕ) (cs : List Call) → before s cs 0 ≡ s
+  pub before-first : (s : List ℕ) (cs : List Call) → before s cs 0 ≡ s
   unfolding before later
   before-first s [] = refl
   before-first s (c ∷ cs) = go (eqb (fault (c .table) s (c .block)) 0) (before-first s cs)
@@ -37,55 +37,58 @@ module _ {X : Type 0} (fault : Table → List ℕ → ℕ → ℕ) (next : Table
       go true h = refl
       go false h = h
 
-  -- the entry at a place is that of a call which is taken there
-  pub record Entry (xs : List X) (memory : ℕ → List ℕ) (p : ℕ) : Type 0 where
+  -- At a place a call is taken, on the memory there. Whatever is kept of the calls, that of this call stands at the place.
+  pub record Place (kept : (X : Type 0) → (Table → List ℕ → ℕ → X) → List X) (memory : ℕ → List ℕ) (p : ℕ) : Type 1 where
     pub call : Call
     pub taken : fault (call .table) (memory p) (call .block) ≡ 0
-    pub is : (d : X) → getD xs p d ≡ entry (call .table) (memory p) (call .block)
+    pub is : {X : Type 0} (entry : Table → List ℕ → ℕ → X) (d : X) → getD (kept X entry) p d ≡ entry (call .table) (memory p) (call .block)
     pub on : memory (suc p) ≡ next (call .table) (memory p) (call .block)
 
-  entry-later : (c : Call) (s : List ℕ) (cs : List Call) → fault (c .table) s (c .block) ≡ 0
-      → ((q : ℕ) → q < length (run fault next entry (next (c .table) s (c .block)) cs)
-      → Entry (run fault next entry (next (c .table) s (c .block)) cs) (before (next (c .table) s (c .block)) cs) q)
-      → (p : ℕ) → p < suc (length (run fault next entry (next (c .table) s (c .block)) cs))
-      → Entry (entry (c .table) s (c .block) ∷ run fault next entry (next (c .table) s (c .block)) cs) (later s (before (next (c .table) s (c .block)) cs)) p
+  place-later : (count : ℕ) (c : Call) (s : List ℕ) (cs : List Call) → fault (c .table) s (c .block) ≡ 0
+      → ((q : ℕ) → q < count → Place (λ X entry. run fault next entry (next (c .table) s (c .block)) cs) (before (next (c .table) s (c .block)) cs) q)
+      → (p : ℕ) → p < suc count
+      → Place (λ X entry. entry (c .table) s (c .block) ∷ run fault next entry (next (c .table) s (c .block)) cs) (later s (before (next (c .table) s (c .block)) cs)) p
   unfolding later
-  entry-later c s cs free more zero h = record {
+  place-later count c s cs free more zero h = record {
     call = c;
     taken = free;
-    is = λ d. refl;
+    is = λ entry d. refl;
     on = before-first (next (c .table) s (c .block)) cs;
   }
-  entry-later c s cs free more (suc p) h =
+  place-later count c s cs free more (suc p) h =
       let e = more p (omega arith) in
-      record { call = e .call; taken = e .taken; is = e .is; on = e .on }
+      record { call = e .call; taken = e .taken; is = λ entry d. e .is entry d; on = e .on }
 
-  run-entry : (s : List ℕ) (cs : List Call) (p : ℕ) → p < length (run fault next entry s cs) → Entry (run fault next entry s cs) (before s cs) p
+  pub run-place : {X : Type 0} (entry : Table → List ℕ → ℕ → X) (s : List ℕ) (cs : List Call) (p : ℕ) → p < length (run fault next entry s cs)
+      → Place (λ Y other. run fault next other s cs) (before s cs) p
   unfolding run before
-  run-entry s [] p h = absurd (omega arith)
-  run-entry s (c ∷ cs) p h = go (eqb (fault (c .table) s (c .block)) 0) refl (run-entry (next (c .table) s (c .block)) cs) (run-entry s cs p) h
+  run-place entry s [] p h = absurd (omega arith)
+  run-place {X} entry s (c ∷ cs) p h =
+      go (eqb (fault (c .table) s (c .block)) 0) refl (run-place entry (next (c .table) s (c .block)) cs) (run-place entry s cs p) h
     where
       go : (b : Bool) → eqb (fault (c .table) s (c .block)) 0 ≡ b
           → ((q : ℕ) → q < length (run fault next entry (next (c .table) s (c .block)) cs)
-          → Entry (run fault next entry (next (c .table) s (c .block)) cs) (before (next (c .table) s (c .block)) cs) q)
-          → (p < length (run fault next entry s cs) → Entry (run fault next entry s cs) (before s cs) p)
+          → Place (λ Y other. run fault next other (next (c .table) s (c .block)) cs) (before (next (c .table) s (c .block)) cs) q)
+          → (p < length (run fault next entry s cs) → Place (λ Y other. run fault next other s cs) (before s cs) p)
           → p < length {A = X} (elim b [ true ↦ entry (c .table) s (c .block) ∷ run fault next entry (next (c .table) s (c .block)) cs | false ↦ run fault next entry s cs ])
-          → Entry (elim b [ true ↦ entry (c .table) s (c .block) ∷ run fault next entry (next (c .table) s (c .block)) cs | false ↦ run fault next entry s cs ])
+          → Place (λ Y other. elim b [ true ↦ other (c .table) s (c .block) ∷ run fault next other (next (c .table) s (c .block)) cs | false ↦ run fault next other s cs ])
           (λ (q : ℕ). elim b [ true ↦ later s (before (next (c .table) s (c .block)) cs) q | false ↦ before s cs q ]) p
-      go true free more same l = entry-later c s cs (eqb-true (fault (c .table) s (c .block)) 0 free) more p l
+      go true free more same l =
+          place-later (length (run fault next entry (next (c .table) s (c .block)) cs)) c s cs (eqb-true (fault (c .table) s (c .block)) 0 free) more p l
       go false refused more same l = same l
 
 -- ---- coder and decoder
 
 abbrev pub coderBefore : List ℕ → List Call → ℕ → List ℕ
-coderBefore = before coderFault coderNext sentEntry
+coderBefore = before coderFault coderNext
 
 abbrev pub decoderBefore : List ℕ → List Call → ℕ → List ℕ
-decoderBefore = before decoderFault decoderNext takenEntry
+decoderBefore = before decoderFault decoderNext
 
-pub sent-entry : (s : List ℕ) (cs : List Call) (p : ℕ) → p < length (sentBy s cs) → Entry coderFault coderNext sentEntry (sentBy s cs) (coderBefore s cs) p
-sent-entry = run-entry coderFault coderNext sentEntry
+pub sent-place : (s : List ℕ) (cs : List Call) (p : ℕ) → p < length (sentBy s cs)
+    → Place coderFault coderNext (λ X entry. run coderFault coderNext entry s cs) (coderBefore s cs) p
+sent-place = run-place coderFault coderNext sentEntry
 
-pub taken-entry : (s : List ℕ) (ds : List Call) (p : ℕ) → p < length (takenBy s ds)
-    → Entry decoderFault decoderNext takenEntry (takenBy s ds) (decoderBefore s ds) p
-taken-entry = run-entry decoderFault decoderNext takenEntry
+pub taken-place : (s : List ℕ) (ds : List Call) (p : ℕ) → p < length (takenBy s ds)
+    → Place decoderFault decoderNext (λ X entry. run decoderFault decoderNext entry s ds) (decoderBefore s ds) p
+taken-place = run-place decoderFault decoderNext takenEntry

@@ -1,12 +1,13 @@
--- One stream as sequences, its blocks counted from 0: D is the exclusive or of both pending words, s the syndrome word, e the error. The guard
--- makes both words 0, and then each error is alone among the blocks of the stream that are still delayed, is found as it leaves, and nothing is
--- found before. Assumes nothing.
+-- One stream as sequences, its blocks counted from 0, from any block of the stream on: D is the exclusive or of both pending words, s the
+-- syndrome word, e the error. Right blocks make both words 0: that is the guard. From a block at which they are 0 on, each error is alone among
+-- the blocks of the stream that are still delayed, is found as it leaves, and nothing is found before. Assumes nothing.
 use mathlib.Core.Path.{_≡_, sym, ap, _∙_, subst}
-use mathlib.Core.Bool.{Bool, true, false}
+use mathlib.Core.Bool.{Bool, false}
 use mathlib.Core.Logic.{_≢_, _⊎_, inl, inr}
 use mathlib.Core.List.{List}
 use Prim.Native.Nat.{ℕ, zero, suc, _+_, _-_, _*_, _/_, _%_, _^_, _≤_, _<_}
-use native.Mathlib.Nat.{add-zero, zero-mul, one-mul, div-one, mod-one, zero-mod, zero-div, eq-zero-or-pos}
+use native.Mathlib.Nat.{add-zero, zero-mul, div-one, mod-one, zero-mod, zero-div, eq-zero-or-pos}
+use native.Mathlib.Decide.{decLt}
 use native.Mathlib.Omega.{arith}
 use lib.Pow.{pow-pos}
 use Rattle.span.specs.declared.eliminate.Least.{Least}
@@ -33,66 +34,53 @@ pub record Stream (n w : ℕ) (rows : List ℕ) (D s e : ℕ → ℕ) (count : �
   pub joint-next : (k : ℕ) → suc k < count → D (suc k) ≡ joint rows D e k / 2
   pub syndrome-next : (k : ℕ) → suc k < count → s (suc k) ≡ keptOf (found rows (registered w rows D e s k)) (registered w rows D e s k)
   pub joint-lt : D 0 < 2 ^ w
-  pub syndrome-lt : s 0 < 2 ^ w
-  pub guard : (k : ℕ) → k < 2 * w → k < count → e k ≡ 0
-  -- of two blocks of the stream, at most w apart, one is right
-  pub apart : (i d : ℕ) → 1 ≤ d → d ≤ w → i + d < count → (e i ≡ 0) ⊎ (e (i + d) ≡ 0)
+  pub syndrome-lt : (k : ℕ) → k < count → s k < 2 ^ w
 
 kept-lt : (f : Least) (x j : ℕ) → x < 2 ^ suc j → keptOf f x < 2 ^ j
 kept-lt (Found e) x j h = pow-pos j
 kept-lt Missing x j h = omega arith
 
-digit-add-lt : (b : Bool) (x w : ℕ) → x < 2 ^ w → x + digit b * 2 ^ w < 2 ^ suc w
-digit-add-lt true x w h = let e = one-mul (2 ^ w) in omega arith
-digit-add-lt false x w h = let e = zero-mul (2 ^ w) in omega arith
-
-module _ (n w : ℕ) (rows : List ℕ) (D s e : ℕ → ℕ) (count : ℕ) (S : Stream n w rows D s e count) where
+module _ {n w : ℕ} {rows : List ℕ} {D s e : ℕ → ℕ} {count : ℕ} (S : Stream n w rows D s e count) where
   -- a right block adds nothing
   joint-right : (k : ℕ) → e k ≡ 0 → joint rows D e k ≡ D k
   joint-right k h = ap (λ (x : ℕ). D k ⊕ combination rows x) h ∙ ap (λ (x : ℕ). D k ⊕ x) (combination-zero rows) ∙ xor-zero-r (D k)
 
-  -- ---- the guard
+  -- ---- the guard: the first `quiet` blocks are right
 
-  guard-joint : (i j : ℕ) → i + j ≡ w → i < count → D i < 2 ^ j
-  guard-joint zero j h l = subst (λ (k : ℕ). D 0 < 2 ^ k) (omega arith) (S .joint-lt)
-  guard-joint (suc i) j h l =
-      let before = guard-joint i (suc j) (omega arith) (omega arith) in
-      let next = S .joint-next i l in
-      let same = joint-right i (S .guard i (omega arith) (omega arith)) in
-      let e1 : D (suc i) ≡ D i / 2 = next ∙ ap (λ (x : ℕ). x / 2) same in
-      omega arith
+  module _ (quiet : ℕ) (right : (k : ℕ) → k < quiet → k < count → e k ≡ 0) where
+    guard-joint : (i j : ℕ) → i + j ≡ w → i ≤ quiet → i < count → D i < 2 ^ j
+    guard-joint zero j h q l = subst (λ (k : ℕ). D 0 < 2 ^ k) (omega arith) (S .joint-lt)
+    guard-joint (suc i) j h q l =
+        let before = guard-joint i (suc j) (omega arith) (omega arith) (omega arith) in
+        let next = S .joint-next i l in
+        let same = joint-right i (right i (omega arith) (omega arith)) in
+        let e1 : D (suc i) ≡ D i / 2 = next ∙ ap (λ (x : ℕ). x / 2) same in
+        omega arith
 
-  guard-clean : (i : ℕ) → i ≤ w → w + i < count → D (w + i) ≡ 0
-  guard-clean zero h l =
-      let z = guard-joint w 0 (omega arith) (omega arith) in
-      ap D (add-zero w) ∙ omega arith
-  guard-clean (suc i) h l =
-      let before = guard-clean i (omega arith) (omega arith) in
-      let place : w + suc i ≡ suc (w + i) = omega arith in
-      let same = joint-right (w + i) (S .guard (w + i) (omega arith) (omega arith)) in
-      ap D place ∙ S .joint-next (w + i) (omega arith) ∙ ap (λ (x : ℕ). x / 2) (same ∙ before)
+    pub guard-clean : (i : ℕ) → w + i ≤ quiet → w + i < count → D (w + i) ≡ 0
+    guard-clean zero q l =
+        let z = guard-joint w 0 (omega arith) (omega arith) (omega arith) in
+        ap D (add-zero w) ∙ omega arith
+    guard-clean (suc i) q l =
+        let before = guard-clean i (omega arith) (omega arith) in
+        let place : w + suc i ≡ suc (w + i) = omega arith in
+        let same = joint-right (w + i) (right (w + i) (omega arith) (omega arith)) in
+        ap D place ∙ S .joint-next (w + i) (omega arith) ∙ ap (λ (x : ℕ). x / 2) (same ∙ before)
 
-  syndrome-below : (k : ℕ) → k < count → s k < 2 ^ w
-  syndrome-below zero h = S .syndrome-lt
-  syndrome-below (suc k) h =
-      rw (S .syndrome-next k h)
-      (kept-lt (found rows (registered w rows D e s k)) (registered w rows D e s k) w
-      (digit-add-lt (odd (joint rows D e k)) (s k) w (syndrome-below k (omega arith))))
+    pub guard-syndrome : (i j : ℕ) → i + j ≡ w → w + i ≤ quiet → w + i < count → s (w + i) < 2 ^ j
+    guard-syndrome zero j h q l = subst (λ (k : ℕ). s (w + 0) < 2 ^ k) (omega arith) (S .syndrome-lt (w + 0) l)
+    guard-syndrome (suc i) j h q l =
+        let before = guard-syndrome i (suc j) (omega arith) (omega arith) (omega arith) in
+        let place : w + suc i ≡ suc (w + i) = omega arith in
+        let zero-joint : joint rows D e (w + i) ≡ 0 =
+        joint-right (w + i) (right (w + i) (omega arith) (omega arith)) ∙ guard-clean i (omega arith) (omega arith) in
+        let even : odd (joint rows D e (w + i)) ≡ false = odd-of false (joint rows D e (w + i)) (ap (λ (x : ℕ). x % 2) zero-joint) in
+        let same : registered w rows D e s (w + i) ≡ s (w + i) =
+        ap (λ (b : Bool). s (w + i) + digit b * 2 ^ w) even ∙ ap (λ (x : ℕ). s (w + i) + x) (zero-mul (2 ^ w)) ∙ add-zero (s (w + i)) in
+        subst (λ (x : ℕ). x < 2 ^ j) (sym (ap s place ∙ S .syndrome-next (w + i) (omega arith)))
+        (kept-lt (found rows (registered w rows D e s (w + i))) (registered w rows D e s (w + i)) j (rw same before))
 
-  guard-syndrome : (i j : ℕ) → i + j ≡ w → w + i < count → s (w + i) < 2 ^ j
-  guard-syndrome zero j h l = subst (λ (k : ℕ). s (w + 0) < 2 ^ k) (omega arith) (syndrome-below (w + 0) l)
-  guard-syndrome (suc i) j h l =
-      let before = guard-syndrome i (suc j) (omega arith) (omega arith) in
-      let place : w + suc i ≡ suc (w + i) = omega arith in
-      let zero-joint : joint rows D e (w + i) ≡ 0 =
-      joint-right (w + i) (S .guard (w + i) (omega arith) (omega arith)) ∙ guard-clean i (omega arith) (omega arith) in
-      let even : odd (joint rows D e (w + i)) ≡ false = odd-of false (joint rows D e (w + i)) (ap (λ (x : ℕ). x % 2) zero-joint) in
-      let same : registered w rows D e s (w + i) ≡ s (w + i) =
-      ap (λ (b : Bool). s (w + i) + digit b * 2 ^ w) even ∙ ap (λ (x : ℕ). s (w + i) + x) (zero-mul (2 ^ w)) ∙ add-zero (s (w + i)) in
-      subst (λ (x : ℕ). x < 2 ^ j) (sym (ap s place ∙ S .syndrome-next (w + i) (omega arith)))
-      (kept-lt (found rows (registered w rows D e s (w + i))) (registered w rows D e s (w + i)) j (rw same before))
-
-  -- ---- after it
+  -- ---- errors
 
   -- Before block k is judged, with its error joined: all errors of the last w blocks and this one are 0 but that of block j.
   record Mid (k : ℕ) : Type 0 where
@@ -118,12 +106,6 @@ module _ (n w : ℕ) (rows : List ℕ) (D s e : ℕ → ℕ) (count : ℕ) (S : 
     others = others;
   }
 
-  mid-first : 2 * w < count → Mid (w + w)
-  mid-first h =
-      let z = guard-syndrome w 0 (omega arith) (omega arith) in
-      mid-clean (w + w) (guard-clean w (omega arith) (omega arith)) (omega arith)
-      (λ i d p l ne. S .guard i (omega arith) (omega arith))
-
   -- what is known of the blocks that stay, one block later
   others-later : (k j : ℕ) → ((i d : ℕ) → i + d ≡ k → d ≤ w → i ≢ j → e i ≡ 0) → (i d : ℕ) → i + d ≡ suc k → d ≤ w → i ≢ suc k → i ≢ j → e i ≡ 0
   others-later k j others i d p q ne other = others i (d - 1) (omega arith) (omega arith) other
@@ -135,71 +117,81 @@ module _ (n w : ℕ) (rows : List ℕ) (D s e : ℕ → ℕ) (count : ℕ) (S : 
       mid-clean (suc k) (S .joint-next k h ∙ out .1) (S .syndrome-next k h ∙ out .0 .kept-is)
       (λ i d p q ne. others-later k j others i d p q ne (λ (same : i ≡ j). omega arith))
 
-  mid-stayed : (k j a l : ℕ) → suc k < count → a + suc l ≡ w → j + a ≡ k → D (suc k) ≡ combination rows (e j) / 2 ^ suc a
-      → s (suc k) ≡ combination rows (e j) % 2 ^ suc a * 2 ^ l → ((i d : ℕ) → i + d ≡ k → d ≤ w → i ≢ j → e i ≡ 0)
-      → ((e (suc k) ≡ 0) ⊎ (0 < e (suc k))) → Mid (suc k)
-  mid-stayed k j a l h whole place rest lower others (inl right) = record {
-    j = j;
-    a = suc a;
-    l = l;
-    whole = omega arith;
-    place = omega arith;
-    rest = joint-right (suc k) right ∙ rest;
-    lower = lower;
-    others = λ i d p q ne. right-or-later i d p q ne (eq-zero-or-pos d);
-  }
-    where
-      right-or-later : (i d : ℕ) → i + d ≡ suc k → d ≤ w → i ≢ j → ((d ≡ 0) ⊎ (0 < d)) → e i ≡ 0
-      right-or-later i d p q ne (inl z) = ap e (let same : i ≡ suc k = omega arith in same) ∙ right
-      right-or-later i d p q ne (inr z) = others-later k j others i d p q (λ (same : i ≡ suc k). omega arith) ne
-  mid-stayed k j a l h whole place rest lower others (inr wrong) =
-      mid-clean (suc k)
-      (rest ∙ ap (λ (x : ℕ). combination rows x / 2 ^ suc a) none ∙ ap (λ (x : ℕ). x / 2 ^ suc a) (combination-zero rows) ∙ zero-div (2 ^ suc a))
-      (lower ∙ ap (λ (x : ℕ). combination rows x % 2 ^ suc a * 2 ^ l) none ∙ ap (λ (x : ℕ). x % 2 ^ suc a * 2 ^ l) (combination-zero rows)
-      ∙ ap (λ (x : ℕ). x * 2 ^ l) (zero-mod (2 ^ suc a)) ∙ zero-mul (2 ^ l))
-      (λ i d p q ne. alone i d (omega arith) q p (S .apart i d (omega arith) q (omega arith)))
-    where
-      alone : (i d : ℕ) → 1 ≤ d → d ≤ w → i + d ≡ suc k → (e i ≡ 0) ⊎ (e (i + d) ≡ 0) → e i ≡ 0
-      alone i d from to p (inl z) = z
-      alone i d from to p (inr z) = let y : e (suc k) ≡ 0 = ap e (sym p) ∙ z in absurd (omega arith)
-
-      none : e j ≡ 0
-      none = alone j (suc a) (omega arith) (omega arith) (omega arith) (S .apart j (suc a) (omega arith) (omega arith) (omega arith))
-
-  mid-step : (k j a l : ℕ) → suc k < count → a + l ≡ w → j + a ≡ k → joint rows D e k ≡ combination rows (e j) / 2 ^ a
-      → s k ≡ combination rows (e j) % 2 ^ a * 2 ^ l → ((i d : ℕ) → i + d ≡ k → d ≤ w → i ≢ j → e i ≡ 0) → Mid (suc k)
-  mid-step k j a zero h whole place rest lower others =
-      let all : a ≡ w = omega arith in
-      mid-left k j h (omega arith) (subst (λ (x : ℕ). joint rows D e k ≡ combination rows (e j) / 2 ^ x) all rest)
-      (subst (λ (x : ℕ). s k ≡ combination rows (e j) % 2 ^ x * 2 ^ 0) all lower) others
-  mid-step k j a (suc l) h whole place rest lower others =
-      let out = staying n w rows (S .code) (e j) (joint rows D e k) (s k) a l (S .error-lt j (omega arith)) whole rest lower in
-      mid-stayed k j a l h whole place (S .joint-next k h ∙ out .1) (S .syndrome-next k h ∙ out .0 .kept-is) others (eq-zero-or-pos (e (suc k)))
-
-  mid : (d : ℕ) → w + w + d < count → Mid (w + w + d)
-  mid zero h = subst Mid (omega arith) (mid-first (omega arith))
-  mid (suc d) h =
-      let m = mid d (omega arith) in
-      subst Mid (omega arith)
-      (mid-step (w + w + d) (m .j) (m .a) (m .l) (omega arith) (m .whole) (m .place) (m .rest) (m .lower) (m .others))
-
-  judged : (k i j a l : ℕ) → k < count → i + w ≡ k → a + l ≡ w → j + a ≡ k → joint rows D e k ≡ combination rows (e j) / 2 ^ a
-      → s k ≡ combination rows (e j) % 2 ^ a * 2 ^ l → ((i d : ℕ) → i + d ≡ k → d ≤ w → i ≢ j → e i ≡ 0)
-      → (errorOf (found rows (registered w rows D e s k)) ≡ e i) × (markOf (found rows (registered w rows D e s k)) (registered w rows D e s k) ≢ Doubtful)
-  judged k i j a zero h from whole place rest lower others =
+  judged : (k x j a l : ℕ) → k < count → ((i : ℕ) → i + w ≡ k → e i ≡ x) → (k < w → x ≡ 0) → a + l ≡ w → j + a ≡ k
+      → joint rows D e k ≡ combination rows (e j) / 2 ^ a → s k ≡ combination rows (e j) % 2 ^ a * 2 ^ l
+      → ((i d : ℕ) → i + d ≡ k → d ≤ w → i ≢ j → e i ≡ 0)
+      → (errorOf (found rows (registered w rows D e s k)) ≡ x) × (markOf (found rows (registered w rows D e s k)) (registered w rows D e s k) ≢ Doubtful)
+  judged k x j a zero h leaves none whole place rest lower others =
       let all : a ≡ w = omega arith in
       let out = leaving n w rows (S .code) (e j) (joint rows D e k) (s k) (S .error-lt j (omega arith))
-      (subst (λ (x : ℕ). joint rows D e k ≡ combination rows (e j) / 2 ^ x) all rest)
-      (subst (λ (x : ℕ). s k ≡ combination rows (e j) % 2 ^ x * 2 ^ 0) all lower) in
-      (out .0 .error-is ∙ ap e (let same : j ≡ i = omega arith in same), out .0 .sure)
-  judged k i j a (suc l) h from whole place rest lower others =
+      (subst (λ (y : ℕ). joint rows D e k ≡ combination rows (e j) / 2 ^ y) all rest)
+      (subst (λ (y : ℕ). s k ≡ combination rows (e j) % 2 ^ y * 2 ^ 0) all lower) in
+      (out .0 .error-is ∙ leaves j (omega arith), out .0 .sure)
+  judged k x j a (suc l) h leaves none whole place rest lower others =
       let out = staying n w rows (S .code) (e j) (joint rows D e k) (s k) a l (S .error-lt j (omega arith)) whole rest lower in
-      (out .0 .error-is ∙ sym (others i w from (omega arith) (λ (same : i ≡ j). omega arith)), out .0 .sure)
+      (out .0 .error-is ∙ sym (go (decLt k w)), out .0 .sure)
+    where
+      go : Dec (k < w) → x ≡ 0
+      go (yes b) = none b
+      go (no b) =
+          sym (leaves (k - w) (omega arith)) ∙ others (k - w) w (omega arith) (omega arith) (λ (same : k - w ≡ j). omega arith)
 
-  -- when block k is judged, the error of block k − w is found, and the mark is not doubtful
-  pub stream-judged : (k i : ℕ) → k < count → 2 * w ≤ k → i + w ≡ k
-      → (errorOf (found rows (registered w rows D e s k)) ≡ e i) × (markOf (found rows (registered w rows D e s k)) (registered w rows D e s k) ≢ Doubtful)
-  stream-judged k i h from place =
-      let at : w + w + (k - 2 * w) ≡ k = omega arith in
-      let m = subst Mid at (mid (k - 2 * w) (omega arith)) in
-      judged k i (m .j) (m .a) (m .l) h place (m .whole) (m .place) (m .rest) (m .lower) (m .others)
+  -- of two blocks of the stream, at most w apart, one is right
+  module _ (apart : (i d : ℕ) → 1 ≤ d → d ≤ w → i + d < count → (e i ≡ 0) ⊎ (e (i + d) ≡ 0)) where
+    mid-stayed : (k j a l : ℕ) → suc k < count → a + suc l ≡ w → j + a ≡ k → D (suc k) ≡ combination rows (e j) / 2 ^ suc a
+        → s (suc k) ≡ combination rows (e j) % 2 ^ suc a * 2 ^ l → ((i d : ℕ) → i + d ≡ k → d ≤ w → i ≢ j → e i ≡ 0)
+        → ((e (suc k) ≡ 0) ⊎ (0 < e (suc k))) → Mid (suc k)
+    mid-stayed k j a l h whole place rest lower others (inl right) = record {
+      j = j;
+      a = suc a;
+      l = l;
+      whole = omega arith;
+      place = omega arith;
+      rest = joint-right (suc k) right ∙ rest;
+      lower = lower;
+      others = λ i d p q ne. right-or-later i d p q ne (eq-zero-or-pos d);
+    }
+      where
+        right-or-later : (i d : ℕ) → i + d ≡ suc k → d ≤ w → i ≢ j → ((d ≡ 0) ⊎ (0 < d)) → e i ≡ 0
+        right-or-later i d p q ne (inl z) = ap e (let same : i ≡ suc k = omega arith in same) ∙ right
+        right-or-later i d p q ne (inr z) = others-later k j others i d p q (λ (same : i ≡ suc k). omega arith) ne
+    mid-stayed k j a l h whole place rest lower others (inr wrong) =
+        mid-clean (suc k)
+        (rest ∙ ap (λ (x : ℕ). combination rows x / 2 ^ suc a) none ∙ ap (λ (x : ℕ). x / 2 ^ suc a) (combination-zero rows) ∙ zero-div (2 ^ suc a))
+        (lower ∙ ap (λ (x : ℕ). combination rows x % 2 ^ suc a * 2 ^ l) none ∙ ap (λ (x : ℕ). x % 2 ^ suc a * 2 ^ l) (combination-zero rows)
+        ∙ ap (λ (x : ℕ). x * 2 ^ l) (zero-mod (2 ^ suc a)) ∙ zero-mul (2 ^ l))
+        (λ i d p q ne. alone i d (omega arith) q p (apart i d (omega arith) q (omega arith)))
+      where
+        alone : (i d : ℕ) → 1 ≤ d → d ≤ w → i + d ≡ suc k → (e i ≡ 0) ⊎ (e (i + d) ≡ 0) → e i ≡ 0
+        alone i d from to p (inl z) = z
+        alone i d from to p (inr z) = let y : e (suc k) ≡ 0 = ap e (sym p) ∙ z in absurd (omega arith)
+
+        none : e j ≡ 0
+        none = alone j (suc a) (omega arith) (omega arith) (omega arith) (apart j (suc a) (omega arith) (omega arith) (omega arith))
+
+    mid-step : (k j a l : ℕ) → suc k < count → a + l ≡ w → j + a ≡ k → joint rows D e k ≡ combination rows (e j) / 2 ^ a
+        → s k ≡ combination rows (e j) % 2 ^ a * 2 ^ l → ((i d : ℕ) → i + d ≡ k → d ≤ w → i ≢ j → e i ≡ 0) → Mid (suc k)
+    mid-step k j a zero h whole place rest lower others =
+        let all : a ≡ w = omega arith in
+        mid-left k j h (omega arith) (subst (λ (x : ℕ). joint rows D e k ≡ combination rows (e j) / 2 ^ x) all rest)
+        (subst (λ (x : ℕ). s k ≡ combination rows (e j) % 2 ^ x * 2 ^ 0) all lower) others
+    mid-step k j a (suc l) h whole place rest lower others =
+        let out = staying n w rows (S .code) (e j) (joint rows D e k) (s k) a l (S .error-lt j (omega arith)) whole rest lower in
+        mid-stayed k j a l h whole place (S .joint-next k h ∙ out .1) (S .syndrome-next k h ∙ out .0 .kept-is) others (eq-zero-or-pos (e (suc k)))
+
+    -- The stream is clean at block c, and the blocks before it that are still delayed are right.
+    module _ (c : ℕ) (joint-none : D c ≡ 0) (syndrome-none : s c ≡ 0) (before : (i d : ℕ) → i + d ≡ c → 1 ≤ d → d ≤ w → e i ≡ 0) where
+      mid : (d : ℕ) → c + d < count → Mid (c + d)
+      mid zero h = subst Mid (omega arith) (mid-clean c joint-none syndrome-none (λ i d p q ne. before i d p (omega arith) q))
+      mid (suc d) h =
+          let m = mid d (omega arith) in
+          subst Mid (omega arith)
+          (mid-step (c + d) (m .j) (m .a) (m .l) (omega arith) (m .whole) (m .place) (m .rest) (m .lower) (m .others))
+
+      -- when block k is judged, the error of block k − w is found, or 0 if that is none of the blocks, and the mark is not doubtful
+      pub stream-judged : (k x : ℕ) → c ≤ k → k < count → ((i : ℕ) → i + w ≡ k → e i ≡ x) → (k < w → x ≡ 0)
+          → (errorOf (found rows (registered w rows D e s k)) ≡ x) × (markOf (found rows (registered w rows D e s k)) (registered w rows D e s k) ≢ Doubtful)
+      stream-judged k x from h leaves none =
+          let at : c + (k - c) ≡ k = omega arith in
+          let m = subst Mid at (mid (k - c) (omega arith)) in
+          judged k x (m .j) (m .a) (m .l) h leaves none (m .whole) (m .place) (m .rest) (m .lower) (m .others)

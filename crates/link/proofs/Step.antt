@@ -6,7 +6,7 @@ use mathlib.Core.Bool.{Bool, true, false, xor}
 use mathlib.Core.Logic.{_≢_, _⊎_, inl, inr}
 use mathlib.Core.List.{List, [], _∷_, _++_}
 use Prim.Native.Nat.{ℕ, suc, _+_, _*_, _/_, _%_, _^_, _<_}
-use native.Mathlib.Nat.{add-comm, zero-mul, one-mul, mul-one, mul-assoc, add-mul, div-eq-of-lt}
+use native.Mathlib.Nat.{add-comm, mul-one, mul-assoc, add-mul, div-eq-of-lt}
 use native.Mathlib.Numerals.{add-one, one-add}
 use native.Mathlib.Omega.{arith}
 use lib.Bits.{shifted-half, shifted-even}
@@ -18,19 +18,27 @@ use Rattle.span.specs.declared.eliminate.Least.the-variants.{Found, Missing}
 use Rattle.span.specs.Word.{_⊕_, odd, bit, sel, digit, shifted}
 use Rattle.span.specs.Combination.{combination}
 use Rattle.span.specs.Relation.{leastCoefficients}
-use Rattle.span.proofs.Laws.{xor-assoc, xor-swap, xor-zero-r, xor-half, odd-xor, odd-digit, odd-mod, odd-of, xor-false-r, bit-odd, combination-last, combination-low, combination-xor, shifted-mod, shifted-inside}
+use Rattle.span.proofs.Laws.{xor-self-bool, xor-assoc, xor-swap, xor-zero-r, xor-half, odd-xor, odd-digit, odd-mod, odd-of, xor-false-r, bit-odd, combination-last, combination-low, combination-xor, shifted-mod, shifted-inside}
 use Rattle.link.specs.declared.decoder.Mark.the-variants.{Clean, Corrected, Doubtful, Held}
 use Rattle.link.specs.Stream.{joining, found, errorOf, keptOf, markOf}
+use Rattle.link.proofs.Words.{bit-most}
 use Rattle.link.proofs.Suitable.{Corrects}
 
 digit-half : (s : Bool) → digit s / 2 ≡ 0
 digit-half true = refl
 digit-half false = refl
 
-xor-same : (s : Bool) → xor s s ≡ false
-unfolding xor
-xor-same true = refl
-xor-same false = refl
+-- a number below 2^ν with s as bit ν: a coded block, its parity above the information, and a register, its raw term above the syndrome word
+module _ (ν b : ℕ) (s : Bool) (h : b < 2 ^ ν) where
+  pub topped-low : (b + digit s * 2 ^ ν) % 2 ^ ν ≡ b
+  topped-low = ap (λ (x : ℕ). x % 2 ^ ν) (add-comm b (digit s * 2 ^ ν)) ∙ low (digit s) ν h
+
+  pub topped-bit : bit ν (b + digit s * 2 ^ ν) ≡ s
+  topped-bit =
+      bit-odd ν (b + digit s * 2 ^ ν) ∙ ap odd (ap (λ (x : ℕ). x / 2 ^ ν) (add-comm b (digit s * 2 ^ ν)) ∙ high (digit s) ν h) ∙ odd-digit s
+
+pub topped-lt : (ν b : ℕ) (s : Bool) → b < 2 ^ ν → b + digit s * 2 ^ ν < 2 ^ suc ν
+topped-lt ν b s h = let l = bit-most s ν in omega arith
 
 module _ (infos : List ℕ) (ν : ℕ) (size : length infos ≡ ν) where
   image-split : (r : ℕ) → combination (infos ++ (1 ∷ [])) r ≡ combination infos (r % 2 ^ ν) ⊕ digit (bit ν r)
@@ -43,41 +51,29 @@ module _ (infos : List ℕ) (ν : ℕ) (size : length infos ≡ ν) where
   joined pending r =
       ap (λ (x : ℕ). pending ⊕ x) (image-split r) ∙ sym (xor-assoc pending (combination infos (r % 2 ^ ν)) (digit (bit ν r)))
 
-  joined-half : (pending r : ℕ) → (pending ⊕ combination (infos ++ (1 ∷ [])) r) / 2 ≡ joining infos pending (r % 2 ^ ν) / 2
+  pub joined-half : (pending r : ℕ) → (pending ⊕ combination (infos ++ (1 ∷ [])) r) / 2 ≡ joining infos pending (r % 2 ^ ν) / 2
   joined-half pending r =
       ap (λ (x : ℕ). x / 2) (joined pending r) ∙ xor-half (joining infos pending (r % 2 ^ ν)) (digit (bit ν r))
       ∙ ap (λ (x : ℕ). joining infos pending (r % 2 ^ ν) / 2 ⊕ x) (digit-half (bit ν r)) ∙ xor-zero-r (joining infos pending (r % 2 ^ ν) / 2)
 
-  joined-odd : (pending r : ℕ) → odd (pending ⊕ combination (infos ++ (1 ∷ [])) r) ≡ xor (odd (joining infos pending (r % 2 ^ ν))) (bit ν r)
+  pub joined-odd : (pending r : ℕ) → odd (pending ⊕ combination (infos ++ (1 ∷ [])) r) ≡ xor (odd (joining infos pending (r % 2 ^ ν))) (bit ν r)
   joined-odd pending r =
       ap odd (joined pending r) ∙ odd-xor (joining infos pending (r % 2 ^ ν)) (digit (bit ν r))
       ∙ ap (λ (s : Bool). xor (odd (joining infos pending (r % 2 ^ ν))) s) (odd-digit (bit ν r))
 
-  -- the coded block has the information below, and the parity of the joining word as symbol n
-  pub coded-info : (b : ℕ) (s : Bool) → b < 2 ^ ν → (b + digit s * 2 ^ ν) % 2 ^ ν ≡ b
-  coded-info b s h = ap (λ (x : ℕ). x % 2 ^ ν) (add-comm b (digit s * 2 ^ ν)) ∙ low (digit s) ν h
-
-  coded-parity : (b : ℕ) (s : Bool) → b < 2 ^ ν → bit ν (b + digit s * 2 ^ ν) ≡ s
-  coded-parity b s h =
-      bit-odd ν (b + digit s * 2 ^ ν) ∙ ap odd (ap (λ (x : ℕ). x / 2 ^ ν) (add-comm b (digit s * 2 ^ ν)) ∙ high (digit s) ν h) ∙ odd-digit s
-
-  pub coded-lt : (b : ℕ) (s : Bool) → b < 2 ^ ν → b + digit s * 2 ^ ν < 2 ^ suc ν
-  coded-lt b true h = let e = one-mul (2 ^ ν) in omega arith
-  coded-lt b false h = let e = zero-mul (2 ^ ν) in omega arith
-
   -- What a step of coder and decoder does to the words of its stream. c is the coded block of b, r the received one.
   module _ (pc pd b c r : ℕ) (h : b < 2 ^ ν) (coded : c ≡ b + digit (odd (joining infos pc b)) * 2 ^ ν) where
     pub coder-info : c % 2 ^ ν ≡ b
-    coder-info = ap (λ (x : ℕ). x % 2 ^ ν) coded ∙ coded-info b (odd (joining infos pc b)) h
+    coder-info = ap (λ (x : ℕ). x % 2 ^ ν) coded ∙ topped-low ν b (odd (joining infos pc b)) h
 
-    coder-half : (pc ⊕ combination (infos ++ (1 ∷ [])) c) / 2 ≡ joining infos pc b / 2
+    pub coder-half : (pc ⊕ combination (infos ++ (1 ∷ [])) c) / 2 ≡ joining infos pc b / 2
     coder-half = joined-half pc c ∙ ap (λ (x : ℕ). joining infos pc x / 2) coder-info
 
-    coder-even : odd (pc ⊕ combination (infos ++ (1 ∷ [])) c) ≡ false
+    pub coder-even : odd (pc ⊕ combination (infos ++ (1 ∷ [])) c) ≡ false
     coder-even =
         joined-odd pc c
-        ∙ ap₂ xor (ap (λ (x : ℕ). odd (joining infos pc x)) coder-info) (ap (bit ν) coded ∙ coded-parity b (odd (joining infos pc b)) h)
-        ∙ xor-same (odd (joining infos pc b))
+        ∙ ap₂ xor (ap (λ (x : ℕ). odd (joining infos pc x)) coder-info) (ap (bit ν) coded ∙ topped-bit ν b (odd (joining infos pc b)) h)
+        ∙ xor-self-bool (odd (joining infos pc b))
 
     both : pd ⊕ pc ⊕ combination (infos ++ (1 ∷ [])) (r ⊕ c)
         ≡ pd ⊕ combination (infos ++ (1 ∷ [])) r ⊕ (pc ⊕ combination (infos ++ (1 ∷ [])) c)

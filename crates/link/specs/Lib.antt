@@ -1,4 +1,5 @@
--- `link`: coder and decoder on lent memory, runs of their steps, and recovery after a fade.
+-- `link`: coder and decoder on lent memory, runs of their steps, recovery after a fade, the guard, the clean start, Massey's code, and the
+-- examples.
 pub mod Stream
 pub mod Start
 pub mod Coder
@@ -7,5 +8,8 @@ pub mod Answers
 pub mod Streams
 pub mod Runs
 pub mod Recovery
+pub mod Guard
+pub mod Clean
+pub mod Massey
 pub mod Examples
 pub mod StepExamples

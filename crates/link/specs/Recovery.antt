@@ -2,7 +2,7 @@
 --
 --   SameTable u t            u and t have the same n, N, m and rows 1 to n − 1
 --   Origin t                 t is an accepted or a made table
---   Wrong sent taken p       taken block p is not sent block p
+--   Right, Wrong sent taken p   taken block p is sent block p, and is not
 --   Burst wrong long count b a stretch of at most `long` places, none past `count`, that begins and ends with a wrong one
 --   Apart gap b bs           at least `gap` places lie between b and the first of bs
 --   Chosen wrong long gap count bs   bursts in order, so far apart
@@ -11,6 +11,10 @@
 --   Fades                    all the premises
 --   Recovered sent taken delay p   what the step at place p answers
 --   RECOVERY                 the theorem
+--   CoderTables, DecoderTables   each step that is not refused uses a table that is the same as t
+--   Running                  the premises on the lists of steps alone: nothing of the memories, and nothing of what is right
+--   Separated wrong long gap count   two wrong places lie in one stretch of `long`, or have the gap between them
+--   RECOVERY-ANY-MEMORY      the theorem from any memory, and without a choice of bursts
 use mathlib.Core.Path.{_≡_}
 use mathlib.Core.Logic.{_≢_, _⊎_}
 use mathlib.Core.List.{List, [], _∷_}
@@ -43,6 +47,9 @@ Origin t =
     ⊎ ((n : ℕ) × (m : ℕ) × (making n m .answer ≡ Made) × (making n m .table ≡ t))
 
 -- "Place p is right if taken block p equals sent block p, otherwise wrong."
+abbrev pub Right : List Sent → List Taken → ℕ → Type 0
+Right sent taken p = takenAt taken p .block ≡ sentAt sent p .block
+
 abbrev pub Wrong : List Sent → List Taken → ℕ → Type 0
 Wrong sent taken p = takenAt taken p .block ≢ sentAt sent p .block
 
@@ -105,4 +112,32 @@ Recovered sent taken delay p =
 abbrev pub RECOVERY : Type 0
 RECOVERY =
     (t : Table) (coder decoder : List ℕ) (cs ds : List Call) → Fades t coder decoder cs ds
+    → (p : ℕ) → 2 * delayOf t < p → p ≤ length (takenBy decoder ds) → Recovered (sentBy coder cs) (takenBy decoder ds) (delayOf t) p
+
+-- "each step that is not refused uses the decoder's table"
+abbrev pub CoderTables : Table → List ℕ → List Call → Type 0
+CoderTables t s cs = (p : ℕ) → 1 ≤ p → p ≤ length (sentBy s cs) → SameTable (sentAt (sentBy s cs) p .table) t
+
+abbrev pub DecoderTables : Table → List ℕ → List Call → Type 0
+DecoderTables t s ds = (p : ℕ) → 1 ≤ p → p ≤ length (takenBy s ds) → SameTable (takenAt (takenBy s ds) p .table) t
+
+-- What 01 asks of the two lists of steps: their tables, and "at least as many blocks are sent as taken". Nothing is asked of either memory: a
+-- step that is not refused has passed refusals 12 to 15 by itself.
+pub record Running (t : Table) (coder decoder : List ℕ) (cs ds : List Call) : Type 0 where
+  pub origin : Origin t
+  pub coder-tables : CoderTables t coder cs
+  pub decoder-tables : DecoderTables t decoder ds
+  pub enough : length (takenBy decoder ds) ≤ length (sentBy coder cs)
+
+-- Two wrong places are fewer than `long` places from one another, or more than `gap`. Bursts so chosen give it; here none is chosen.
+abbrev pub Separated : (ℕ → Type 0) → ℕ → ℕ → ℕ → Type 0
+Separated wrong long gap count = (p q : ℕ) → 1 ≤ p → p < q → q ≤ count → wrong p → wrong q → (q < p + long) ⊎ (p + gap < q)
+
+-- Stronger than RECOVERY: the memories are any lists of words, well-formed or not, and any two wrong places stand as two of one burst, or of two
+-- bursts, would.
+abbrev pub RECOVERY-ANY-MEMORY : Type 0
+RECOVERY-ANY-MEMORY =
+    (t : Table) (coder decoder : List ℕ) (cs ds : List Call) → Running t coder decoder cs ds
+    → ((p : ℕ) → 1 ≤ p → p ≤ 2 * delayOf t → p ≤ length (takenBy decoder ds) → Right (sentBy coder cs) (takenBy decoder ds) p)
+    → Separated (Wrong (sentBy coder cs) (takenBy decoder ds)) (t .depth) (delayOf t) (length (takenBy decoder ds))
     → (p : ℕ) → 2 * delayOf t < p → p ≤ length (takenBy decoder ds) → Recovered (sentBy coder cs) (takenBy decoder ds) (delayOf t) p

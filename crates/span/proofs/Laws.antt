@@ -32,6 +32,15 @@ xor-false-l = Word.xor-false-l
 pub xor-false-r : (s : Bool) → xor s false ≡ s
 xor-false-r = Word.xor-false-r
 
+pub xor-comm-bool : (s t : Bool) → xor s t ≡ xor t s
+xor-comm-bool = Word.xor-comm-bool
+
+pub xor-self-bool : (s : Bool) → xor s s ≡ false
+xor-self-bool = Word.xor-self-bool
+
+pub xor-swap-bool : (s t u v : Bool) → xor (xor s t) (xor u v) ≡ xor (xor s u) (xor t v)
+xor-swap-bool = Word.xor-swap-bool
+
 pub xor-assoc : (a b c : ℕ) → a ⊕ b ⊕ c ≡ a ⊕ (b ⊕ c)
 xor-assoc = Word.xor-assoc
 

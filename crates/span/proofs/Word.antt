@@ -43,7 +43,7 @@ xor-false-l false = refl
 pub xor-false-r : (s : Bool) → xor s false ≡ s
 xor-false-r s = xor-comm-bool s false ∙ xor-false-l s
 
-xor-self-bool : (s : Bool) → xor s s ≡ false
+pub xor-self-bool : (s : Bool) → xor s s ≡ false
 unfolding xor
 xor-self-bool true = refl
 xor-self-bool false = refl
@@ -69,6 +69,9 @@ swap-middle op assoc com′ a b c d =
     assoc a b (op c d)
     ∙ ap (op a) (sym (assoc b c d) ∙ ap (λ x. op x d) (com′ b c) ∙ assoc c b d)
     ∙ sym (assoc a c (op b d))
+
+pub xor-swap-bool : (s t u v : Bool) → xor (xor s t) (xor u v) ≡ xor (xor s u) (xor t v)
+xor-swap-bool = swap-middle xor xor-assoc-bool xor-comm-bool
 
 -- ---- the lowest bit and the half of a number
 
@@ -318,7 +321,7 @@ parity-xor (suc k) a b h =
     ap₂ xor
     (ap (λ (s : Bool). s && odd h) (odd-xor a b) ∙ and-xor (odd a) (odd b) (odd h))
     (ap (λ (x : ℕ). commonParity k x (h / 2)) (xor-half a b) ∙ parity-xor k (a / 2) (b / 2) (h / 2))
-    ∙ swap-middle xor xor-assoc-bool xor-comm-bool (odd a && odd h) (odd b && odd h) (commonParity k (a / 2) (h / 2)) (commonParity k (b / 2) (h / 2))
+    ∙ xor-swap-bool (odd a && odd h) (odd b && odd h) (commonParity k (a / 2) (h / 2)) (commonParity k (b / 2) (h / 2))
 
 -- a single one asks for the bit there
 pub parity-pow : (k p x : ℕ) → p < k → commonParity k x (2 ^ p) ≡ bit p x

@@ -1,19 +1,18 @@
 -- `link::coder::taken`: the turn's part is its pending word; around it nothing changes but the turn. Assumes nothing.
-use mathlib.Core.Path.{_≡_, refl, sym, ap, ap₂, _∙_}
+use mathlib.Core.Path.{_≡_, ap, ap₂, _∙_}
 use mathlib.Core.List.{List}
-use Prim.Native.Nat.{ℕ, suc, _+_, _-_, _*_, _/_, _%_, _^_, _≤_}
+use Prim.Native.Nat.{ℕ, _+_, _-_, _*_, _/_, _%_, _^_}
 use native.Mathlib.Nat.{add-zero}
 use native.Mathlib.Omega.{arith}
 use borrow.Author.Needs.{needs}
 use borrow.Rule.Slice.PartMut.{midOf, putMid}
 use lib.ListN.{length, getD, set, length-set}
-use lib.Pow.{pow-mono}
 use Rattle.span.specs.Word.{odd, digit}
 use Rattle.link.specs.Stream.{joining}
 use Rattle.link.specs.Coder.{infoRows, turnOf, coderJoining, codedBlock, coderNext}
-use Rattle.link.proofs.Words.{bit-most, bit-shifted}
+use Rattle.link.proofs.Words.{bit-shifted}
 use Rattle.link.proofs.Parts.{mid-word, put-word}
-use Rattle.link.proofs.Memory.{coder-taken}
+use Rattle.link.proofs.Memory.{coder-taken, coded-fits}
 use Rattle.link.proofs.coder.taken.Statement.{statement}
 use Rattle.link.proofs.coder.taken.Tie as tie
 
@@ -115,14 +114,11 @@ shl-result c =
     omega arith
 
 add-result : tie.Need-add-result
+unfolding codedBlock
 add-result c =
     let a = c .before .before .before .before .before .before .before .before .before .before .args in
-    let k = coder-taken (a .t1) (a .state .now) (a .info) (c .before .before .before .before .before .before .before .before .before .before .pre) in
-    let w = a .t1 .symbols - 1 in
-    let d = odd (coderJoining (a .t1) (a .state .now) (a .info)) in
+    let l = coded-fits (a .t1) (a .state .now) (a .info) (c .before .before .before .before .before .before .before .before .before .before .pre) in
     let e = shifted-is c in
-    let l = bit-most d w in
-    let m : 2 ^ suc w ≤ 2 ^ 16 = (let h : suc w ≤ 16 = omega arith in pow-mono h) in
     record { fits = omega arith }
 
 same-length : tie.Need-same-length

@@ -1,0 +1,189 @@
+-- One stream as sequences, its blocks counted from 0: x is the blocks, P the pending word before each, and P (t + 1) = (P t ⊕ image of x t) / 2.
+-- Bit 0 of P t ⊕ image of x t is then the convolution of the rows and the blocks. Assumes nothing.
+--
+--   sum-ext, sum-false, sum-shift, sum-xor, sum-swap   laws of the exclusive or over an index range
+--   convolution-xor       the convolution is linear in the blocks
+--   combination-bit       a bit of an image, as a sum over the rows
+--   stream-convolution    the theorem
+use mathlib.Core.Path.{_≡_, refl, sym, ap, ap₂, _∙_, subst}
+use mathlib.Core.Bool.{Bool, true, false, cond, xor, _&&_}
+use mathlib.Core.List.{List, [], _∷_}
+use Prim.Native.Nat.{ℕ, zero, suc, _+_, _-_, _/_, _^_, _≤_, _<_}
+use native.Mathlib.Nat.{add-zero, mod-one}
+use native.Mathlib.Omega.{arith}
+use lib.Dec.{leb, leb·zero, leb·suc-zero, leb·suc-suc}
+use lib.ListN.{length, getD}
+use lib.Pow.{pow-pos}
+use Rattle.span.specs.Word.{_⊕_, odd, bit, sel}
+use Rattle.span.specs.Combination.{combination}
+use Rattle.span.proofs.Laws.{xor-false-l, xor-comm-bool, xor-swap-bool, xor-zero-l, xor-lt, bit-zero, bit-suc, bit-xor, bit-none, combination-zero, combination-append, combination-last, combination-low}
+use Rattle.link.specs.Massey.{sumOver, rowOf, symbol, ago, convolution}
+
+-- ---- exclusive or of two, and over a range
+
+and-xor : (a b c : Bool) → a && xor b c ≡ xor (a && b) (a && c)
+and-xor true b c = refl
+and-xor false b c = sym (xor-false-l false)
+
+and-false : (a : Bool) → a && false ≡ false
+and-false true = refl
+and-false false = refl
+
+sum-ext : (from count : ℕ) (f g : ℕ → Bool) → ((i : ℕ) → f i ≡ g i) → sumOver from count f ≡ sumOver from count g
+unfolding sumOver
+sum-ext from zero f g h = refl
+sum-ext from (suc count) f g h = ap₂ xor (h from) (sum-ext (suc from) count f g h)
+
+sum-false : (from count : ℕ) (f : ℕ → Bool) → ((i : ℕ) → f i ≡ false) → sumOver from count f ≡ false
+unfolding sumOver
+sum-false from zero f h = refl
+sum-false from (suc count) f h = ap₂ xor (h from) (sum-false (suc from) count f h) ∙ xor-false-l false
+
+sum-shift : (from count : ℕ) (f : ℕ → Bool) → sumOver (suc from) count f ≡ sumOver from count (λ i. f (suc i))
+unfolding sumOver
+sum-shift from zero f = refl
+sum-shift from (suc count) f = ap (xor (f (suc from))) (sum-shift (suc from) count f)
+
+sum-head : (from count : ℕ) (f : ℕ → Bool) → xor (f from) (sumOver (suc from) count f) ≡ sumOver from (suc count) f
+unfolding sumOver
+sum-head from count f = refl
+
+sum-xor : (from count : ℕ) (f g : ℕ → Bool) → sumOver from count (λ i. xor (f i) (g i)) ≡ xor (sumOver from count f) (sumOver from count g)
+unfolding sumOver
+sum-xor from zero f g = sym (xor-false-l false)
+sum-xor from (suc count) f g =
+    ap (xor (xor (f from) (g from))) (sum-xor (suc from) count f g)
+    ∙ xor-swap-bool (f from) (g from) (sumOver (suc from) count f) (sumOver (suc from) count g)
+
+sum-swap : (a m b n : ℕ) (f : ℕ → ℕ → Bool) → sumOver a m (λ i. sumOver b n (f i)) ≡ sumOver b n (λ k. sumOver a m (λ i. f i k))
+unfolding sumOver
+sum-swap a zero b n f = sym (sum-false b n (λ k. false) (λ k. refl))
+sum-swap a (suc m) b n f =
+    ap (xor (sumOver b n (f a))) (sum-swap (suc a) m b n f) ∙ sym (sum-xor b n (f a) (λ k. sumOver (suc a) m (λ i. f i k)))
+
+-- ---- linear
+
+ago-xor : (x y : ℕ → ℕ) (b k : ℕ) → ago (λ i. x i ⊕ y i) b k ≡ ago x b k ⊕ ago y b k
+ago-xor x y b k = go (leb k b)
+  where
+    go : (s : Bool) → cond s (x (b - k) ⊕ y (b - k)) 0 ≡ cond s (x (b - k)) 0 ⊕ cond s (y (b - k)) 0
+    go true = refl
+    go false = sym (xor-zero-l 0)
+
+pub convolution-xor : (n N : ℕ) (rows : List ℕ) (x y : ℕ → ℕ) (b : ℕ)
+    → convolution n N rows (λ i. x i ⊕ y i) b ≡ xor (convolution n N rows x b) (convolution n N rows y b)
+unfolding convolution
+convolution-xor n N rows x y b =
+    sum-ext 1 n (λ j. sumOver 0 N (term (λ i. x i ⊕ y i) j)) (λ j. xor (sumOver 0 N (term x j)) (sumOver 0 N (term y j)))
+    (λ j. sum-ext 0 N (term (λ i. x i ⊕ y i) j) (λ k. xor (term x j k) (term y j k))
+    (λ k. ap (λ (z : ℕ). bit k (rowOf rows j) && symbol j z) (ago-xor x y b k)
+    ∙ ap (λ (s : Bool). bit k (rowOf rows j) && s) (bit-xor (j - 1) (ago x b k) (ago y b k))
+    ∙ and-xor (bit k (rowOf rows j)) (symbol j (ago x b k)) (symbol j (ago y b k)))
+    ∙ sum-xor 0 N (term x j) (term y j))
+    ∙ sum-xor 1 n (λ j. sumOver 0 N (term x j)) (λ j. sumOver 0 N (term y j))
+  where
+    term : (ℕ → ℕ) → ℕ → ℕ → Bool
+    term z j k = bit k (rowOf rows j) && symbol j (ago z b k)
+
+-- ---- a bit of an image
+
+combination-none : (c : ℕ) → combination [] c ≡ 0
+combination-none c = sym (combination-low [] c) ∙ ap (combination []) (mod-one c) ∙ combination-zero []
+
+combination-cons : (w : ℕ) (ws : List ℕ) (c : ℕ) → combination (w ∷ ws) c ≡ sel (odd c) w ⊕ combination ws (c / 2)
+combination-cons w ws c =
+    combination-append (w ∷ []) ws c
+    ∙ ap (λ (z : ℕ). z ⊕ combination ws (c / 2))
+    (combination-last [] w c ∙ ap₂ (λ (z : ℕ) (s : Bool). z ⊕ sel s w) (combination-none c) (bit-zero c) ∙ xor-zero-l (sel (odd c) w))
+
+bit-nothing : (k : ℕ) → bit k 0 ≡ false
+bit-nothing k = bit-none k 0 (pow-pos k)
+
+bit-sel : (k : ℕ) (s : Bool) (w : ℕ) → bit k (sel s w) ≡ bit k w && s
+bit-sel k true w = go (bit k w)
+  where
+    go : (s : Bool) → s ≡ s && true
+    go true = refl
+    go false = refl
+bit-sel k false w = bit-nothing k ∙ sym (and-false (bit k w))
+
+combination-bits : (n : ℕ) (rows : List ℕ) (k c : ℕ) → length rows ≤ n
+    → bit k (combination rows c) ≡ sumOver 0 n (λ i. bit k (getD rows i 0) && bit i c)
+combination-bits n [] k c h =
+    ap (bit k) (combination-none c) ∙ bit-nothing k
+    ∙ sym (sum-false 0 n (λ i. bit k 0 && bit i c) (λ i. ap (λ (s : Bool). s && bit i c) (bit-nothing k)))
+combination-bits zero (w ∷ ws) k c h = absurd (omega arith)
+combination-bits (suc n) (w ∷ ws) k c h =
+    ap (bit k) (combination-cons w ws c) ∙ bit-xor k (sel (odd c) w) (combination ws (c / 2))
+    ∙ ap₂ xor (bit-sel k (odd c) w ∙ ap (λ (s : Bool). bit k w && s) (sym (bit-zero c)))
+    (combination-bits n ws k (c / 2) (omega arith)
+    ∙ sum-ext 0 n (λ i. bit k (getD ws i 0) && bit i (c / 2)) (λ i. bit k (getD (w ∷ ws) (suc i) 0) && bit (suc i) c)
+    (λ i. ap (λ (s : Bool). bit k (getD ws i 0) && s) (sym (bit-suc i c)))
+    ∙ sym (sum-shift 0 n (λ i. bit k (getD (w ∷ ws) i 0) && bit i c)))
+    ∙ sum-head 0 n (λ i. bit k (getD (w ∷ ws) i 0) && bit i c)
+
+-- rows and symbols count from 1
+pub combination-bit : (n : ℕ) (rows : List ℕ) (k c : ℕ) → length rows ≤ n
+    → bit k (combination rows c) ≡ sumOver 1 n (λ j. bit k (rowOf rows j) && symbol j c)
+combination-bit n rows k c h =
+    combination-bits n rows k c h
+    ∙ sum-ext 0 n (λ i. bit k (getD rows i 0) && bit i c) (λ i. bit k (rowOf rows (suc i)) && symbol (suc i) c)
+    (λ i. ap (λ (p : ℕ). bit k (getD rows p 0) && bit p c) (let e : i ≡ suc i - 1 = omega arith in e))
+    ∙ sym (sum-shift 0 n (λ j. bit k (rowOf rows j) && symbol j c))
+
+-- ---- the pending word
+
+ago-none : (x : ℕ → ℕ) (k : ℕ) → ago x 0 (suc k) ≡ 0
+ago-none x k = ap (λ (s : Bool). cond s (x (0 - suc k)) 0) (leb·suc-zero k)
+
+ago-now : (x : ℕ → ℕ) (t : ℕ) → ago x t 0 ≡ x t
+ago-now x t = ap (λ (s : Bool). cond s (x (t - 0)) 0) (leb·zero t) ∙ ap x (let e : t - 0 ≡ t = omega arith in e)
+
+ago-later : (x : ℕ → ℕ) (t k : ℕ) → ago x (suc t) (suc k) ≡ ago x t k
+ago-later x t k = ap₂ (λ (s : Bool) (i : ℕ). cond s (x i) 0) (leb·suc-suc k t) (let e : suc t - suc k ≡ t - k = omega arith in e)
+
+module _ (n N : ℕ) (rows : List ℕ) (x P : ℕ → ℕ) (count : ℕ) (size : length rows ≤ n) (image-lt : (c : ℕ) → combination rows c < 2 ^ N) (first : P 0 ≡ 0)
+    (next : (t : ℕ) → suc t < count → P (suc t) ≡ (P t ⊕ combination rows (x t)) / 2) where
+  pending-lt : (t : ℕ) → t < count → P t < 2 ^ N
+  pending-lt zero h = rw first (pow-pos N)
+  pending-lt (suc t) h =
+      let z = xor-lt N (P t) (combination rows (x t)) (pending-lt t (omega arith)) (image-lt (x t)) in
+      let e = next t h in
+      omega arith
+
+  -- what block t − k puts at bit i of the word of block t
+  abbrev put : ℕ → ℕ → ℕ → Bool
+  put t i k = bit (i + k) (combination rows (ago x t k))
+
+  put-now : (t i M : ℕ) → bit i (P t) ≡ sumOver 0 M (λ k. put t i (suc k)) → bit i (P t ⊕ combination rows (x t)) ≡ sumOver 0 (suc M) (put t i)
+  put-now t i M rest =
+      bit-xor i (P t) (combination rows (x t)) ∙ xor-comm-bool (bit i (P t)) (bit i (combination rows (x t)))
+      ∙ ap₂ xor (ap₂ (λ (p c : ℕ). bit p (combination rows c)) (sym (add-zero i)) (sym (ago-now x t))) (rest ∙ sym (sum-shift 0 M (put t i)))
+      ∙ sum-head 0 M (put t i)
+
+  -- bit i of that word is what the blocks back to the start put there, as far as their images reach
+  joining-bit : (t i M : ℕ) → i + M ≡ N → t < count → bit i (P t ⊕ combination rows (x t)) ≡ sumOver 0 M (put t i)
+  unfolding sumOver
+  joining-bit t i zero e h =
+      bit-none i (P t ⊕ combination rows (x t))
+      (subst (λ (p : ℕ). P t ⊕ combination rows (x t) < 2 ^ p) (sym e ∙ add-zero i)
+      (xor-lt N (P t) (combination rows (x t)) (pending-lt t h) (image-lt (x t))))
+  joining-bit zero i (suc M) e h =
+      put-now 0 i M
+      (ap (bit i) first ∙ bit-nothing i
+      ∙ sym (sum-false 0 M (λ k. put 0 i (suc k))
+      (λ k. ap (λ (c : ℕ). bit (i + suc k) (combination rows c)) (ago-none x k) ∙ ap (bit (i + suc k)) (combination-zero rows) ∙ bit-nothing (i + suc k))))
+  joining-bit (suc t) i (suc M) e h =
+      put-now (suc t) i M
+      (ap (bit i) (next t h) ∙ sym (bit-suc i (P t ⊕ combination rows (x t)))
+      ∙ joining-bit t (suc i) M (omega arith) (omega arith)
+      ∙ sum-ext 0 M (put t (suc i)) (λ k. put (suc t) i (suc k))
+      (λ k. ap₂ (λ (p c : ℕ). bit p (combination rows c)) (let z : suc i + k ≡ i + suc k = omega arith in z) (sym (ago-later x t k))))
+
+  pub stream-convolution : (t : ℕ) → t < count → odd (P t ⊕ combination rows (x t)) ≡ convolution n N rows x t
+  unfolding convolution
+  stream-convolution t h =
+      sym (bit-zero (P t ⊕ combination rows (x t))) ∙ joining-bit t 0 N (omega arith) h
+      ∙ sum-ext 0 N (λ k. bit (0 + k) (combination rows (ago x t k))) (λ k. sumOver 1 n (λ j. bit k (rowOf rows j) && symbol j (ago x t k)))
+      (λ k. ap (λ (p : ℕ). bit p (combination rows (ago x t k))) (let e : 0 + k ≡ k = omega arith in e) ∙ combination-bit n rows k (ago x t k) size)
+      ∙ sym (sum-swap 1 n 0 N (λ j k. bit k (rowOf rows j) && symbol j (ago x t k)))

@@ -1,0 +1,213 @@
+-- Demand 2: the streams of runs from memories of zeros, as the sequences of `Convolution` and `Register`. Assumes nothing.
+--
+--   coder-parity, coder-zero          a stream of the coder: the parity, and the sum over all symbols
+--   decoder-raw, decoder-register     a stream of the decoder: the raw term, and the register
+--   parity, syndromes, syndrome-errors, registers   the theorems
+use mathlib.Core.Path.{_≡_, sym, ap, ap₂, _∙_, subst}
+use mathlib.Core.Bool.{Bool, false, cond, xor}
+use mathlib.Core.Logic.{_⊎_, inl, inr}
+use mathlib.Core.List.{List, [], _∷_, _++_}
+use Prim.Native.Nat.{ℕ, zero, suc, _+_, _-_, _*_, _/_, _%_, _^_, _≤_, _<_}
+use native.Mathlib.Omega.{arith}
+use lib.Dec.{leb}
+use lib.ListN.{length, getD, length-append, length-take}
+use lib.Seq.{length-take-le}
+use Rattle.span.specs.declared.eliminate.Least.{Least}
+use Rattle.span.specs.declared.eliminate.Least.the-variants.{Found, Missing}
+use Rattle.span.specs.Word.{odd, bit, digit}
+use Rattle.span.specs.Combination.{combination}
+use Rattle.span.proofs.Laws.{xor-false-r, combination-lt}
+use Rattle.tables.specs.declared.table.Table.{Table}
+use Rattle.tables.specs.Table.{rowsOf}
+use Rattle.link.specs.declared.decoder.DecodeAnswer.{DecodeAnswer}
+use Rattle.link.specs.Stream.{joining, keptOf}
+use Rattle.link.specs.Start.{started}
+use Rattle.link.specs.Coder.{infoRows, coderWords, turnOf, pendingAt, coderFault, coderNext}
+use Rattle.link.specs.Decoder.{decoderWords, decoderFault, decoderNext}
+use Rattle.link.specs.Runs.{Call, sentBy, takenBy}
+use Rattle.link.specs.Massey.{convolution, stream, blockSent, blockTaken, rawAt, registerAt, foundAt, PARITY, SYNDROME, SYNDROME-ERRORS, REGISTER}
+use Rattle.link.proofs.Origin.{below-snoc}
+use Rattle.link.proofs.Step.{topped-low, topped-bit, joined-half, joined-odd, coder-half, coder-even}
+use Rattle.link.proofs.Started.{started-word}
+use Rattle.link.proofs.Interleaving.{place-first, place-next, place-earlier}
+use Rattle.link.proofs.Runs.{coderBefore, decoderBefore, before-first}
+use Rattle.link.proofs.Memory.{Fits, CoderStep, Verdict, streamIn, pendingIn, syndromeIn}
+use Rattle.link.proofs.OneTable.{coded, decoded, verdict}
+use Rattle.link.proofs.Turn.{CoderRun, DecoderRun, coder-again, coder-first, pending-again, pending-first, syndrome-again, syndrome-first}
+use Rattle.link.proofs.Convolution.{convolution-xor, stream-convolution}
+use Rattle.link.proofs.Register.{register-lt, register-bit}
+
+-- ---- images with the parity's row
+
+all-images : (n N : ℕ) (infos : List ℕ) → Fits n N infos → (c : ℕ) → combination (infos ++ (1 ∷ [])) c < 2 ^ N
+all-images n N infos f c =
+    combination-lt N (infos ++ (1 ∷ [])) c (below-snoc N infos (let z = f .N-from in omega arith) (f .below))
+
+all-size : (n N : ℕ) (infos : List ℕ) → Fits n N infos → length infos ≡ n - 1 → length (infos ++ (1 ∷ [])) ≤ n
+all-size n N infos f h = let z = f .n-from in simp length-append (omega arith)
+
+-- ---- a stream of the coder
+
+module _ {n N m : ℕ} {infos : List ℕ} {M : ℕ → List ℕ} {B C : ℕ → ℕ} {count : ℕ} (l : CoderRun n N m infos M B C count)
+    (zeros : (i : ℕ) → getD (M 0) i 0 ≡ 0) (r b : ℕ) (low : r < m) (inside : r + b * m < count) where
+  abbrev pending : ℕ → ℕ
+  pending k = pendingAt (M (r + k * m)) (turnOf (M (r + k * m)))
+
+  step : (k : ℕ) → k ≤ b → CoderStep n N m infos (M (r + k * m)) (B (r + k * m)) (C (r + k * m)) (M (suc (r + k * m)))
+  step k h = l .codes (r + k * m) (place-earlier m r b k count inside h)
+
+  pending-start : pending 0 ≡ 0
+  pending-start =
+      let z = place-earlier m r b 0 count inside (omega arith) in
+      let p = place-first m r in
+      ap (λ (q : ℕ). pendingAt (M q) (turnOf (M q))) p ∙ coder-first l r low (omega arith) ∙ zeros (1 + (turnOf (M 0) + r) % m)
+
+  pending-on : (k : ℕ) → k < b → pending (suc k) ≡ joining infos (pending k) (B (r + k * m)) / 2
+  pending-on k h =
+      let z = place-earlier m r b (suc k) count inside h in
+      let p = place-next m r k in
+      ap (λ (q : ℕ). pendingAt (M q) (turnOf (M q))) p ∙ coder-again l (r + k * m) (omega arith)
+
+  parity-sum : length infos ≤ n - 1 → odd (joining infos (pending b) (B (r + b * m))) ≡ convolution (n - 1) N infos (stream m r B) b
+  unfolding joining
+  parity-sum size =
+      stream-convolution (n - 1) N infos (stream m r B) pending (suc b) size
+      (λ c. combination-lt N infos c (step b (omega arith) .fits .below)) pending-start (λ k h. pending-on k (omega arith)) b (omega arith)
+
+  pub coder-parity : length infos ≤ n - 1
+      → (bit (n - 1) (stream m r C b) ≡ convolution (n - 1) N infos (stream m r B) b) × (stream m r C b % 2 ^ (n - 1) ≡ stream m r B b)
+  coder-parity size =
+      let s = step b (omega arith) in
+      let p = odd (joining infos (pending b) (B (r + b * m))) in (
+        ap (bit (n - 1)) (s .coded) ∙ topped-bit (n - 1) (B (r + b * m)) p (s .info-lt) ∙ parity-sum size,
+        ap (λ (x : ℕ). x % 2 ^ (n - 1)) (s .coded) ∙ topped-low (n - 1) (B (r + b * m)) p (s .info-lt),
+      )
+
+  -- with the parity's row nothing is left of what is sent
+  pub coder-zero : length infos ≡ n - 1 → convolution n N (infos ++ (1 ∷ [])) (stream m r C) b ≡ false
+  coder-zero size =
+      let s = step b (omega arith) in
+      let f = s .fits in
+      sym (stream-convolution n N (infos ++ (1 ∷ [])) (stream m r C) pending (suc b) (all-size n N infos f size) (all-images n N infos f) pending-start
+      (λ k h.
+      let q = step k (omega arith) in
+      pending-on k (omega arith)
+      ∙ sym (coder-half infos (n - 1) size (pending k) 0 (B (r + k * m)) (C (r + k * m)) 0 (q .info-lt) (q .coded)))
+      b (omega arith))
+      ∙ coder-even infos (n - 1) size (pending b) 0 (B (r + b * m)) (C (r + b * m)) 0 (s .info-lt) (s .coded)
+
+-- ---- a stream of the decoder
+
+module _ {n N m : ℕ} {infos : List ℕ} {S : ℕ → List ℕ} {R : ℕ → ℕ} {A : ℕ → DecodeAnswer} {count : ℕ} (l : DecoderRun n N m infos S R A count)
+    (raw : ℕ → Bool) (register : ℕ → ℕ) (error : ℕ → Least)
+    (judges : (p : ℕ) → p < count → Verdict n N infos (S p) (R p) (raw p) (register p) (error p))
+    (zeros : (i : ℕ) → getD (S 0) i 0 ≡ 0) (r b : ℕ) (low : r < m) (inside : r + b * m < count) where
+  abbrev joins : ℕ → ℕ
+  joins k = pendingIn N (S (r + k * m))
+
+  abbrev syndrome : ℕ → ℕ
+  syndrome k = syndromeIn N (S (r + k * m))
+
+  judged : (k : ℕ) → k ≤ b → Verdict n N infos (S (r + k * m)) (R (r + k * m)) (raw (r + k * m)) (register (r + k * m)) (error (r + k * m))
+  judged k h = judges (r + k * m) (place-earlier m r b k count inside h)
+
+  joins-start : joins 0 ≡ 0
+  joins-start =
+      let z = place-earlier m r b 0 count inside (omega arith) in
+      let p = place-first m r in
+      ap (λ (q : ℕ). pendingIn N (S q)) p ∙ pending-first l r low (omega arith) ∙ zeros (streamIn N ((turnOf (S 0) + r) % m))
+
+  joins-on : (k : ℕ) → k < b → joins (suc k) ≡ joining infos (joins k) (R (r + k * m) % 2 ^ (n - 1)) / 2
+  joins-on k h =
+      let z = place-earlier m r b (suc k) count inside h in
+      let p = place-next m r k in
+      ap (λ (q : ℕ). pendingIn N (S q)) p ∙ pending-again l (r + k * m) (omega arith)
+
+  pub decoder-raw : length infos ≡ n - 1 → stream m r raw b ≡ convolution n N (infos ++ (1 ∷ [])) (stream m r R) b
+  decoder-raw size =
+      let f = l .decodes (r + b * m) inside .fits in
+      judged b (omega arith) .raw-is ∙ sym (joined-odd infos (n - 1) size (joins b) (R (r + b * m)))
+      ∙ stream-convolution n N (infos ++ (1 ∷ [])) (stream m r R) joins (suc b) (all-size n N infos f size) (all-images n N infos f) joins-start
+      (λ k h. joins-on k (omega arith) ∙ sym (joined-half infos (n - 1) size (joins k) (R (r + k * m)))) b (omega arith)
+
+  syndrome-start : syndrome 0 ≡ 0
+  syndrome-start =
+      let z = place-earlier m r b 0 count inside (omega arith) in
+      let p = place-first m r in
+      ap (λ (q : ℕ). syndromeIn N (S q)) p ∙ syndrome-first l r low (omega arith) ∙ zeros (streamIn N ((turnOf (S 0) + r) % m) + 1)
+
+  syndrome-on : (k : ℕ) → k < b → syndrome (suc k) ≡ keptOf (stream m r error k) (stream m r register k)
+  syndrome-on k h =
+      let z = place-earlier m r b (suc k) count inside h in
+      let p = place-next m r k in
+      let v = judged k (omega arith) in
+      ap (λ (q : ℕ). syndromeIn N (S q)) p ∙ syndrome-again l (r + k * m) (omega arith)
+      ∙ sym (ap₂ keptOf (v .found-is) (v .register-is))
+
+  register-joins : (k : ℕ) → k ≤ b → stream m r register k ≡ syndrome k + digit (stream m r raw k) * 2 ^ (N - 1)
+  register-joins k h =
+      let v = judged k h in
+      v .register-is ∙ ap (λ (s : Bool). syndrome k + digit s * 2 ^ (N - 1)) (sym (v .raw-is))
+
+  cleared : (c : ℕ) → c ≤ b → (c ≡ 0) ⊎ ((e : ℕ) × (stream m r error (c - 1) ≡ Found e)) → syndrome c ≡ 0
+  cleared zero h z = syndrome-start
+  cleared (suc c) h (inl z) = absurd (omega arith)
+  cleared (suc c) h (inr (e, is)) =
+      syndrome-on c h
+      ∙ ap (λ (f : Least). keptOf f (stream m r register c)) (ap (stream m r error) (let p : c ≡ suc c - 1 = omega arith in p) ∙ is)
+
+  pub decoder-register : (c : ℕ) → c ≤ b → (c ≡ 0) ⊎ ((e : ℕ) × (stream m r error (c - 1) ≡ Found e))
+      → ((d : ℕ) → c ≤ d → d < b → stream m r error d ≡ Missing)
+      → (stream m r register b < 2 ^ N)
+      × ((k : ℕ) → k < N → bit (N - 1 - k) (stream m r register b) ≡ cond (leb (c + k) b) (stream m r raw (b - k)) false)
+  decoder-register c from clear none =
+      let N-from = l .decodes (r + b * m) inside .fits .N-from in
+      let w = N - 1 in
+      let halves : (d : ℕ) → c ≤ d → d < b → syndrome (suc d) ≡ stream m r register d / 2 =
+      (λ d f h. syndrome-on d h ∙ ap (λ (f : Least). keptOf f (stream m r register d)) (none d f h)) in (
+        subst (λ (k : ℕ). stream m r register b < 2 ^ k) (let e : suc (N - 1) ≡ N = omega arith in e)
+            (register-lt w syndrome (stream m r register) (stream m r raw) c b (cleared c from clear) (λ d f h. register-joins d h) halves from),
+        λ k h.
+            register-bit w syndrome (stream m r register) (stream m r raw) c b (cleared c from clear) (λ d f h. register-joins d h) halves from (w - k) k
+            (omega arith),
+      )
+
+-- ---- runs from started memories
+
+info-size : (t : Table) → t .symbols - 1 ≤ length (t .rows) → length (infoRows t) ≡ t .symbols - 1
+info-size t room = length-take-le (t .symbols - 1) (t .rows) room
+
+coder-zeros : (t : Table) (cs : List Call) (i : ℕ) → getD (coderBefore (started (coderWords t)) cs 0) i 0 ≡ 0
+coder-zeros t cs i =
+    ap (λ (s : List ℕ). getD s i 0) (before-first coderFault coderNext (started (coderWords t)) cs) ∙ started-word (coderWords t) i
+
+decoder-zeros : (t : Table) (ds : List Call) (i : ℕ) → getD (decoderBefore (started (decoderWords t)) ds 0) i 0 ≡ 0
+decoder-zeros t ds i =
+    ap (λ (s : List ℕ). getD s i 0) (before-first decoderFault decoderNext (started (decoderWords t)) ds) ∙ started-word (decoderWords t) i
+
+pub parity : PARITY
+parity t cs tables r b low inside =
+    coder-parity (coded t (started (coderWords t)) cs tables) (coder-zeros t cs) r b low inside (simp length-take (omega arith))
+
+pub syndromes : SYNDROME
+syndromes t ds room tables r b low inside =
+    decoder-raw (decoded t (started (decoderWords t)) ds tables) (rawAt (started (decoderWords t)) ds) (registerAt (started (decoderWords t)) ds)
+    (foundAt (started (decoderWords t)) ds) (verdict t (started (decoderWords t)) ds tables) (decoder-zeros t ds) r b low
+    inside (info-size t room)
+
+pub syndrome-errors : SYNDROME-ERRORS
+syndrome-errors t cs ds room coder decoder enough r b low inside =
+    let sent = stream (t .depth) r (blockSent (sentBy (started (coderWords t)) cs)) in
+    let received = stream (t .depth) r (blockTaken (takenBy (started (decoderWords t)) ds)) in
+    let all = convolution (t .symbols) (t .span) (rowsOf t) in
+    syndromes t ds room decoder r b low inside
+    ∙ sym (convolution-xor (t .symbols) (t .span) (rowsOf t) received sent b
+    ∙ ap (xor (all received b))
+    (coder-zero (coded t (started (coderWords t)) cs coder) (coder-zeros t cs) r b low (omega arith) (info-size t room))
+    ∙ xor-false-r (all received b))
+
+pub registers : REGISTER
+registers t ds tables r b c low inside =
+    decoder-register (decoded t (started (decoderWords t)) ds tables) (rawAt (started (decoderWords t)) ds) (registerAt (started (decoderWords t)) ds)
+    (foundAt (started (decoderWords t)) ds) (verdict t (started (decoderWords t)) ds tables) (decoder-zeros t ds) r b low
+    inside c

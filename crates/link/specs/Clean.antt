@@ -1,0 +1,56 @@
+-- From a clean memory no guard is needed: bursts from place 1 on are all corrected, and no mark is doubtful. (000, III.B: correction of a burst's
+-- last block "completely clears the decoder of erroneous symbols and the decoder is ready to accept the beginning of a new burst".)
+--
+--   Clean t coder decoder   no stream's syndrome word has a one, and coder and decoder have the same pending words, stream by stream in turn
+--   Undisturbed t decoder taken p   the answer at a place too early for a block that was taken: a block of the first memory leaves as it was
+--   CLEAN                   the theorem
+--   STARTED-CLEAN           it applies to started memories
+use mathlib.Core.Path.{_≡_}
+use mathlib.Core.Bool.{true}
+use mathlib.Core.Logic.{_≢_, _⊎_}
+use mathlib.Core.List.{List}
+use Prim.Native.Nat.{ℕ, _+_, _-_, _/_, _%_, _≤_, _<_}
+use lib.ListN.{length}
+use Rattle.tables.specs.declared.table.Table.{Table}
+use Rattle.tables.specs.Table.{fit}
+use Rattle.link.specs.declared.decoder.Mark.{Mark}
+use Rattle.link.specs.declared.decoder.Mark.the-variants.{Doubtful}
+use Rattle.link.specs.declared.decoder.DecodeAnswer.the-variants.{Delivery, NothingYet}
+use Rattle.link.specs.Start.{started}
+use Rattle.link.specs.Coder.{coderWords, turnOf, pendingAt}
+use Rattle.link.specs.Decoder.{decoderWords, delayOf, pendingOf, syndromeOf, delayedOf}
+use Rattle.link.specs.Runs.{Call, Taken, sentBy, takenBy, takenAt}
+use Rattle.link.specs.Recovery.{Wrong, Bursts, Recovered, Running}
+
+-- The stream that has its turn d places on is stream turn + d mod m; the coder's turn need not be the decoder's. The delayed blocks may be any,
+-- and so may the fill.
+pub record Clean (t : Table) (coder decoder : List ℕ) : Type 0 where
+  pub coder-turn : turnOf coder < t .depth
+  pub decoder-turn : turnOf decoder < t .depth
+  pub syndrome : (k : ℕ) → k < t .depth → syndromeOf t decoder k ≡ 0
+  pub pending : (d : ℕ) → d < t .depth
+      → pendingOf t decoder ((turnOf decoder + d) % t .depth) ≡ pendingAt coder ((turnOf coder + d) % t .depth)
+
+-- Place p has the stream turn + (p − 1) mod m, and before it (p − 1) div m blocks of that stream have left: the next is delivered, if anything is.
+-- "Blocks from before the start are judged too": they count as right.
+abbrev pub Undisturbed : Table → List ℕ → List Taken → ℕ → Type 0
+Undisturbed t decoder taken p =
+    (takenAt taken p .answer ≡ NothingYet)
+    ⊎ ((mark : Mark)
+    × (takenAt taken p .answer
+    ≡ Delivery (record { info = delayedOf t decoder ((turnOf decoder + (p - 1)) % t .depth) ((p - 1) / t .depth); mark = mark }))
+    × (mark ≢ Doubtful))
+
+-- For every place at which a block is taken: past m × (N − 1) the step delivers what was sent m × (N − 1) blocks back; up to there, a block that
+-- stood in the memory.
+abbrev pub CLEAN : Type 0
+CLEAN =
+    (t : Table) (coder decoder : List ℕ) (cs ds : List Call) → Running t coder decoder cs ds → Clean t coder decoder
+    → Bursts (Wrong (sentBy coder cs) (takenBy decoder ds)) (t .depth) (delayOf t) (length (takenBy decoder ds))
+    → (p : ℕ) → 1 ≤ p → p ≤ length (takenBy decoder ds)
+    → (delayOf t < p → Recovered (sentBy coder cs) (takenBy decoder ds) (delayOf t) p)
+    × (p ≤ delayOf t → Undisturbed t decoder (takenBy decoder ds) p)
+
+-- "Starting sets every word to zero."
+abbrev pub STARTED-CLEAN : Type 0
+STARTED-CLEAN = (t : Table) → fit t ≡ true → Clean t (started (coderWords t)) (started (decoderWords t))

@@ -1,0 +1,134 @@
+-- Demand 2, Massey's code over runs of steps: what the pending words and the syndrome words compute is 000's code. Taken place p of a run, counted
+-- from 0, is block p div m of stream p mod m, so that block b of stream r is place r + b × m.
+--
+--   sumOver from count f              the exclusive or of f from, f (from + 1), ..: `count` of them
+--   rowOf rows j, symbol j x          row j, and symbol j of a block
+--   ago x b k                         block b − k of a stream; blocks before the start are zero
+--   convolution last N rows x b       the sum of 000, eq. 1, over rows 1 to `last`, at block b of the stream x
+--   stream m r at                     stream r of m, of what stands at the places of a run
+--   infoSent, blockSent, blockTaken   information and block sent at a place, and block taken
+--   rawAt, registerAt, foundAt        raw term, register and what was found there
+--   PARITY                            000, eq. 1
+--   SYNDROME                          the raw terms, whatever was received
+--   SYNDROME-ERRORS                   000, eq. 3
+--   REGISTER                          the register holds the last N raw terms since the word was last cleared
+use mathlib.Core.Path.{_≡_}
+use mathlib.Core.Bool.{Bool, false, cond, xor, _&&_}
+use mathlib.Core.Logic.{_⊎_}
+use mathlib.Core.List.{List}
+use Prim.Native.Nat.{ℕ, zero, suc, _+_, _-_, _*_, _^_, _≤_, _<_}
+use lib.Dec.{leb}
+use lib.ListN.{length, getD}
+use Rattle.span.specs.declared.eliminate.Least.{Least}
+use Rattle.span.specs.declared.eliminate.Least.the-variants.{Found, Missing}
+use Rattle.span.specs.Word.{_⊕_, bit}
+use Rattle.tables.specs.declared.table.Table.{Table}
+use Rattle.tables.specs.Table.{rowsOf}
+use Rattle.link.specs.Stream.{information, parity, rawTerm}
+use Rattle.link.specs.Start.{started}
+use Rattle.link.specs.Coder.{infoRows, coderWords}
+use Rattle.link.specs.Decoder.{decoderWords, decoderFault, decoderNext, decoderJoining, decoderRegister, decoderFound}
+use Rattle.link.specs.Runs.{Call, Sent, Taken, run, sentBy, takenBy, sentAt, takenAt}
+use Rattle.link.specs.Recovery.{CoderTables, DecoderTables}
+
+-- ---- the convolution of one stream
+
+unfoldable pub sumOver : ℕ → ℕ → (ℕ → Bool) → Bool
+sumOver from zero f = false
+sumOver from (suc count) f = xor (f from) (sumOver (suc from) count f)
+
+-- 01, The code: "Symbol j has weight 2^(j−1) in a block's number". Rows and symbols count from 1.
+abbrev pub rowOf : List ℕ → ℕ → ℕ
+rowOf rows j = getD rows (j - 1) 0
+
+abbrev pub symbol : ℕ → ℕ → Bool
+symbol j x = bit (j - 1) x
+
+-- "Blocks before the start are zero."
+abbrev pub ago : (ℕ → ℕ) → ℕ → ℕ → ℕ
+ago x b k = cond (leb k b) (x (b - k)) 0
+
+-- "In one stream the parity of block t is the exclusive or, over j and k, of bit k of row j and symbol j of block t − k." Here t is b; j goes from 1
+-- to `last`, which is n − 1 for the information and n with the parity, and k from 0 to N − 1.
+unfoldable pub convolution : ℕ → ℕ → List ℕ → (ℕ → ℕ) → ℕ → Bool
+convolution last N rows x b = sumOver 1 last (λ j. sumOver 0 N (λ k. bit k (rowOf rows j) && symbol j (ago x b k)))
+
+-- ---- streams of a run
+
+-- "Blocks are dealt in turn to m separate streams (000, III.A)."
+abbrev pub stream : {X : Type 0} → ℕ → ℕ → (ℕ → X) → ℕ → X
+stream m r at b = at (r + b * m)
+
+-- of the place counted from 0
+abbrev pub infoSent : List Sent → ℕ → ℕ
+infoSent xs p = sentAt xs (suc p) .info
+
+abbrev pub blockSent : List Sent → ℕ → ℕ
+blockSent xs p = sentAt xs (suc p) .block
+
+abbrev pub blockTaken : List Taken → ℕ → ℕ
+blockTaken xs p = takenAt xs (suc p) .block
+
+-- 01, a decoding step, lines 1 to 3, at a step that is not refused
+abbrev pub rawAt : List ℕ → List Call → ℕ → Bool
+rawAt s ds p = getD (run decoderFault decoderNext (λ t s r. rawTerm (decoderJoining t s r) (t .symbols) r) s ds) p false
+
+abbrev pub registerAt : List ℕ → List Call → ℕ → ℕ
+registerAt s ds p = getD (run decoderFault decoderNext decoderRegister s ds) p 0
+
+abbrev pub foundAt : List ℕ → List Call → ℕ → Least
+foundAt s ds p = getD (run decoderFault decoderNext decoderFound s ds) p Missing
+
+-- ---- the theorems, of every list of calls, refused ones anywhere in it
+
+-- 000, eq. 1: the parity is the convolution of the information, and "the first b − 1 encoded sequences coincide with the b − 1 information
+-- sequences".
+abbrev pub PARITY : Type 0
+PARITY =
+    (t : Table) (cs : List Call) →
+    let memory = started (coderWords t) in
+    let sent = sentBy memory cs in
+    CoderTables t memory cs → (r b : ℕ) → r < t .depth → r + b * t .depth < length sent →
+    let info = stream (t .depth) r (infoSent sent) in
+    let block = stream (t .depth) r (blockSent sent) in
+    (parity (t .symbols) (block b) ≡ convolution (t .symbols - 1) (t .span) (infoRows t) info b) × (information (t .symbols) (block b) ≡ info b)
+
+-- 000, II.B: the syndrome "is formed by subtracting the received parity sequence .. from the parity sequence formed by encoding the received
+-- information sequences". It is the same sum over all n symbols of whatever was received, row n being 1. A table by value has room for 15 rows, so
+-- that it holds rows 1 to n − 1.
+abbrev pub SYNDROME : Type 0
+SYNDROME =
+    (t : Table) (ds : List Call) →
+    let memory = started (decoderWords t) in
+    let taken = takenBy memory ds in
+    t .symbols - 1 ≤ length (t .rows) → DecoderTables t memory ds → (r b : ℕ) → r < t .depth → r + b * t .depth < length taken
+    → stream (t .depth) r (rawAt memory ds) b ≡ convolution (t .symbols) (t .span) (rowsOf t) (stream (t .depth) r (blockTaken taken)) b
+
+-- 000, eq. 3, "which shows that the syndrome sequence depends only on the error sequences": where a started coder sent the blocks, it is that sum
+-- of the error blocks, taken ⊕ sent.
+abbrev pub SYNDROME-ERRORS : Type 0
+SYNDROME-ERRORS =
+    (t : Table) (cs ds : List Call) →
+    let sent = sentBy (started (coderWords t)) cs in
+    let memory = started (decoderWords t) in
+    let taken = takenBy memory ds in
+    t .symbols - 1 ≤ length (t .rows) → CoderTables t (started (coderWords t)) cs → DecoderTables t memory ds → length taken ≤ length sent
+    → (r b : ℕ) → r < t .depth → r + b * t .depth < length taken
+    → stream (t .depth) r (rawAt memory ds) b
+    ≡ convolution (t .symbols) (t .span) (rowsOf t) (stream (t .depth) r (λ p. blockTaken taken p ⊕ blockSent sent p)) b
+
+-- 01, a decoding step: "2. The register is the syndrome word with the raw term as bit N − 1. 3. If some e has the register as image, .. the
+-- syndrome word becomes 0. Otherwise .. the word is the register halved". So the register of block b has the raw term of block b − k as bit
+-- N − 1 − k, for k from 0 to N − 1, as far back as block c and 0 before: where nothing was found at blocks c to b − 1, and block c is the first of
+-- the stream or comes after one at which the word was cleared.
+abbrev pub REGISTER : Type 0
+REGISTER =
+    (t : Table) (ds : List Call) →
+    let memory = started (decoderWords t) in
+    DecoderTables t memory ds → (r b c : ℕ) → r < t .depth → r + b * t .depth < length (takenBy memory ds) → c ≤ b →
+    let raw = stream (t .depth) r (rawAt memory ds) in
+    let register = stream (t .depth) r (registerAt memory ds) in
+    let found = stream (t .depth) r (foundAt memory ds) in
+    (c ≡ 0) ⊎ ((e : ℕ) × (found (c - 1) ≡ Found e)) → ((d : ℕ) → c ≤ d → d < b → found d ≡ Missing)
+    → (register b < 2 ^ t .span)
+    × ((k : ℕ) → k < t .span → bit (t .span - 1 - k) (register b) ≡ cond (leb (c + k) b) (raw (b - k)) false)
