@@ -55,7 +55,8 @@ fn join(part: &mut [u64], rows: &[u64], count: usize, info: u64) -> u64
     ensures parity { λ r. ⌜ r ≡ digit (odd (joining (take count (now (rows .entry))) (getD (now (part .entry)) 0 0) info)) ⌝ }
     ensures part { λ r. ⌜ now (part .exit) ≡ set (now (part .entry)) 0 (joining (take count (now (rows .entry))) (getD (now (part .entry)) 0 0) info / 2) ⌝ }
 {
-    let w = joining(rows, count, part[0], info);
+    let pending = part[0];
+    let w = joining(rows, count, pending, info);
     part[0] = w >> 1;
     w % 2
 }

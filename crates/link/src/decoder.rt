@@ -214,13 +214,14 @@ fn step(part: &mut [u64], rows: &[u64], n: usize, span: usize, received: u64) ->
     let info = information(n, received);
     let w = joining(rows, n - 1, part[0], info);
     let v = judge(rows, n, register(n, span, w, part[1], received));
+    let error = v.error as u64;
     let mark = v.mark;
     let oldest = part[2];
     part[0] = w >> 1;
     part[1] = v.kept;
     push(part, info);
     Delivered {
-        info: (oldest ^ information(n, v.error as u64)) as u16,
+        info: (oldest ^ information(n, error)) as u16,
         mark,
     }
 }

@@ -7,8 +7,8 @@ use Rattle.span.proofs.Laws.{odd-mod}
 use Rattle.link.proofs.coder.join.Statement.{statement}
 use Rattle.link.proofs.coder.join.Tie as tie
 
-slice-read-joining : tie.Need-slice-read-joining
-slice-read-joining c = search needs
+slice-read-pending : tie.Need-slice-read-pending
+slice-read-pending c = search needs
 
 joining-requires : tie.Need-joining-requires
 joining-requires c κs = search needs
@@ -26,4 +26,4 @@ returns c =
 
 pub join-spec : {M : Type 1} → statement M
 join-spec =
-    tie.close (tie.spec slice-read-joining joining-requires slice-write-part same-length returns)
+    tie.close (tie.spec slice-read-pending joining-requires slice-write-part same-length returns)

@@ -50,6 +50,9 @@ register-requires c κs = search needs
 judge-requires : tie.Need-judge-requires
 judge-requires c κs = search needs
 
+cast-error : tie.Need-cast-error
+cast-error c = search needs
+
 slice-read-oldest : tie.Need-slice-read-oldest
 slice-read-oldest c = search needs
 
@@ -58,18 +61,15 @@ slice-write-part c = search needs
 
 slice-write-part-2 : tie.Need-slice-write-part-2
 slice-write-part-2 c =
-    let a = c .before .before .before .before .before .before .before .before .before .args in
-    let l = length-set (a .part .now) 0 (c .before .before .before .before .joining .result / 2) in
+    let a = c .before .before .before .before .before .before .before .before .before .before .args in
+    let l = length-set (a .part .now) 0 (c .before .before .before .before .before .joining .result / 2) in
     omega arith
 
 push-requires : tie.Need-push-requires
 push-requires c κs =
-    let a = c .before .before .before .before .before .before .before .before .before .before .args in
-    let l = written-length (a .part .now) (c .before .before .before .before .before .joining .result / 2) (c .before .before .judge .result .kept) in
+    let a = c .before .before .before .before .before .before .before .before .before .before .before .args in
+    let l = written-length (a .part .now) (c .before .before .before .before .before .before .joining .result / 2) (c .before .before .before .judge .result .kept) in
     omega arith
-
-cast-information : tie.Need-cast-information
-cast-information c = search needs
 
 information-requires-2 : tie.Need-information-requires-2
 information-requires-2 c κs = search needs
@@ -89,7 +89,7 @@ cast-t23 c =
 -- the part as it comes back
 part-is : (c : tie.After-information2)
     → let a = c .before .before .before .before .before .before .before .before .before .before .before .before .before .before .before .args in
-    c .before .before .before .before .push .last .0 ≡ streamNext (a .n) (a .span) (a .rows .now) (a .part .now) (a .received)
+    c .before .before .before .push .last .0 ≡ streamNext (a .n) (a .span) (a .rows .now) (a .part .now) (a .received)
 part-is c =
     let a = c .before .before .before .before .before .before .before .before .before .before .before .before .before .before .before .args in
     let p = a .part .now in
@@ -97,7 +97,7 @@ part-is c =
     let w = joined (a .n) (a .rows .now) (getD p 0 0) (a .received) (c .before .before .before .before .before .before .before .before .before .before .before .before .information .result) (c .before .before .before .before .before .before .before .before .before .before .joining .result) (c .before .before .before .before .before .before .before .before .before .before .before .before .information .ensures)
     (c .before .before .before .before .before .before .before .before .before .before .joining .ensures) in
     let x = c .before .before .before .before .before .before .before .before .register .ensures ∙ ap (λ (y : ℕ). register (a .span) (getD p 1 0) (rawTerm y (a .n) (a .received))) w in
-    pushed p (c .before .before .before .before .push .last .0) (c .before .before .before .before .before .before .before .before .before .before .joining .result / 2) (c .before .before .before .before .before .before .before .judge .result .kept) (c .before .before .before .before .before .before .before .before .before .before .before .before .information .result) (omega arith) (c .before .before .before .before .push .ensures)
+    pushed p (c .before .before .before .push .last .0) (c .before .before .before .before .before .before .before .before .before .before .joining .result / 2) (c .before .before .before .before .before .before .before .judge .result .kept) (c .before .before .before .before .before .before .before .before .before .before .before .before .information .result) (omega arith) (c .before .before .before .push .ensures)
     ∙ ap (λ (y : ℕ). y / 2 ∷ c .before .before .before .before .before .before .before .judge .result .kept ∷ (drop 3 p ++ (c .before .before .before .before .before .before .before .before .before .before .before .before .information .result ∷ []))) w
     ∙ ap₂ (λ (k i : ℕ). streamJoining (a .n) (a .rows .now) (getD p 0 0) (a .received) / 2 ∷ k ∷ (drop 3 p ++ (i ∷ [])))
     (c .before .before .before .before .before .before .before .judge .ensures .1 .0 ∙ ap (λ (y : ℕ). keptOf (found R y) y) x) (c .before .before .before .before .before .before .before .before .before .before .before .before .information .ensures)
@@ -133,11 +133,11 @@ step-spec =
     slice-read-register
     register-requires
     judge-requires
+    cast-error
     slice-read-oldest
     slice-write-part
     slice-write-part-2
     push-requires
-    cast-information
     information-requires-2
     cast-t23
     same-length
