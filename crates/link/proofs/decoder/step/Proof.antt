@@ -26,9 +26,6 @@ pushed [] last a b y h e = absurd (omega arith)
 pushed (u ∷ []) last a b y h e = absurd (omega arith)
 pushed (u ∷ v ∷ part) last a b y h e = e
 
-written-length : (part : List ℕ) (a b : ℕ) → length (set (set part 0 a) 1 b) ≡ length part
-written-length part a b = simp length-set
-
 information-requires : tie.Need-information-requires
 information-requires c κs = search needs
 
@@ -60,16 +57,10 @@ slice-write-part : tie.Need-slice-write-part
 slice-write-part c = search needs
 
 slice-write-part-2 : tie.Need-slice-write-part-2
-slice-write-part-2 c =
-    let a = c .before .before .before .before .before .before .before .before .before .before .args in
-    let l = length-set (a .part .now) 0 (c .before .before .before .before .before .joining .result / 2) in
-    omega arith
+slice-write-part-2 c = simp length-set (omega arith)
 
 push-requires : tie.Need-push-requires
-push-requires c κs =
-    let a = c .before .before .before .before .before .before .before .before .before .before .before .args in
-    let l = written-length (a .part .now) (c .before .before .before .before .before .before .joining .result / 2) (c .before .before .before .judge .result .kept) in
-    omega arith
+push-requires c κs = simp length-set (omega arith)
 
 information-requires-2 : tie.Need-information-requires-2
 information-requires-2 c κs = search needs
