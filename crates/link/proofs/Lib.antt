@@ -2,6 +2,7 @@
 mod Words
 mod Parts
 mod Error
+mod Marks
 mod Faults
 mod Started
 mod Suitable
