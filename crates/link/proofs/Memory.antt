@@ -35,7 +35,7 @@ use Rattle.link.specs.declared.decoder.DecodeAnswer.{DecodeAnswer}
 use Rattle.link.specs.declared.decoder.DecodeAnswer.the-variants.{Delivery, NothingYet}
 use Rattle.link.specs.Stream.{joining, rawTerm, found, errorOf, keptOf, markOf, nextTurn}
 use Rattle.link.specs.Coder.{infoRows, coderWords, turnOf, pendingAt, coderMalformed, coderFault, coderJoining, codedBlock, coderNext}
-use Rattle.link.specs.Decoder.{decoderWords, fillOf, delayOf, pendingOf, syndromeOf, delayedOut, decoderMalformed, decoderFault, decoderJoining, decoderRegister, decoderFound, partNext, fillNext, decoderNext, delivered, delivery}
+use Rattle.link.specs.Decoder.{decoderWords, fillOf, delayOf, pendingOf, syndromeOf, delayedOut, decoderMalformed, decoderFault, decoderJoining, decoderRegister, decoderFound, partNext, streamReplaced, fillNext, decoderNext, delivered, delivery}
 use Rattle.link.proofs.Faults.{picked, passed}
 use Rattle.link.proofs.Step.{topped-lt}
 
@@ -244,7 +244,7 @@ module _ (N m : ℕ) (s : List ℕ) (pending syndrome young fill to : ℕ) (from
       let b = moved-length in
       omega arith
 
-  pub body-length : length body ≡ length s
+  body-length : length body ≡ length s
   body-length = replaced-length s part at (N + 1) part-length part-room
 
   after-word : (i : ℕ) → 2 ≤ i → getD after i 0 ≡ getD body i 0
@@ -327,6 +327,21 @@ decoder-taken t s r e =
       delayed = g4 .1;
       block = leb-false (2 ^ t .symbols) r (f .3);
     }
+
+-- with the part in its place the memory is as long as it was, and turn and fill are as they were
+pub replaced-front : (t : Table) (s : List ℕ) (r : ℕ) → DecoderTaken t s r
+    → (length (streamReplaced t s r) ≡ length s) × (turnOf (streamReplaced t s r) ≡ turnOf s) × (fillOf (streamReplaced t s r) ≡ fillOf s)
+unfolding partNext
+replaced-front t s r k =
+    let room = part-room (t .span) (t .depth) s (decoderJoining t s r / 2) (keptOf (decoderFound t s r) (decoderRegister t s r))
+    (r % 2 ^ (t .symbols - 1)) 0 0 (k .sizes .N-from) (k .size) (k .turn) in
+    let size = part-length (t .span) (t .depth) s (decoderJoining t s r / 2) (keptOf (decoderFound t s r) (decoderRegister t s r))
+    (r % 2 ^ (t .symbols - 1)) 0 0 (k .sizes .N-from) (k .size) (k .turn) in
+    let at = streamIn (t .span) (turnOf s) in (
+      replaced-length s (partNext t s r) at (t .span + 1) size room,
+      replaced-below s (partNext t s r) at (t .span + 1) size room 0 (omega arith),
+      replaced-below s (partNext t s r) at (t .span + 1) size room 1 (omega arith),
+    )
 
 pub decoder-step : (t : Table) (s : List ℕ) (r : ℕ) → decoderFault t s r ≡ 0
     → DecoderStep (t .symbols) (t .span) (t .depth) (infoRows t) s r (delivery t s r) (decoderNext t s r)

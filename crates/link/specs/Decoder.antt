@@ -11,7 +11,7 @@
 --   decoderMalformed t s    the condition of refusal 14
 --   decoderFault t s r      the first of refusals 12 to 15 that applies to a step, or 0
 --   decoderJoining, decoderRegister, decoderFound   w, the register, and the error found
---   partNext, fillNext, decoderNext   the stream's part, the fill and the memory after a step that is taken
+--   partNext, streamReplaced, fillNext, decoderNext   the stream's part, the memory with it, the fill, and the memory after a step that is taken
 --   delivered, delivery     the record of such a step, and its answer
 --   decodeAnswer, decodeMemory   answer and memory of any step
 --   DecoderFormed t s       the memory is well-formed
@@ -101,10 +101,14 @@ partNext t s r =
 abbrev pub fillNext : Table → ℕ → ℕ
 fillNext t fill = cond (ltb fill (delayOf t)) (fill + 1) fill
 
-unfoldable pub decoderNext : Table → List ℕ → ℕ → List ℕ
-decoderNext t s r =
+-- the memory with that part in its place
+abbrev pub streamReplaced : Table → List ℕ → ℕ → List ℕ
+streamReplaced t s r =
     let at = streamAt t (turnOf s) in
-    set (set (take at s ++ (partNext t s r ++ drop (at + (t .span + 1)) s)) 1 (fillNext t (fillOf s))) 0 (nextTurn (t .depth) (turnOf s))
+    take at s ++ (partNext t s r ++ drop (at + (t .span + 1)) s)
+
+unfoldable pub decoderNext : Table → List ℕ → ℕ → List ℕ
+decoderNext t s r = set (set (streamReplaced t s r) 1 (fillNext t (fillOf s))) 0 (nextTurn (t .depth) (turnOf s))
 
 -- 4. "If fill was complete, the oldest delayed block, corrected by e, is delivered in a record with its mark; if not, the answer is "nothing yet"
 -- and fill grows by one. Blocks from before the start are judged too." The information is corrected, so e without its parity symbol.

@@ -11,10 +11,10 @@ ghost use mathlib.Core.Bool.{true, cond, _||_};
 ghost use mathlib.Core.List.{[], _∷_, _++_};
 ghost use Prim.Native.Nat.{_+_, _-_, _*_, _^_, _≤_, _<_};
 ghost use lib.Dec.{leb, ltb};
-ghost use lib.ListN.{length, getD, take, drop};
+ghost use lib.ListN.{length, getD, set, take, drop};
 ghost use Rattle.tables.specs.Table.{codeRows, fit};
-ghost use Rattle.link.specs.Stream.{information, rawTerm, register, found, errorOf, keptOf, markOf, streamNext, streamInfo, streamMark};
-ghost use Rattle.link.specs.Decoder.{decoderWords, someAbove, decoderMalformed, decoderFault, decoderNext, delivery, decodeAnswer, decodeMemory};
+ghost use Rattle.link.specs.Stream.{nextTurn, information, rawTerm, register, found, errorOf, keptOf, markOf, streamNext, streamInfo, streamMark};
+ghost use Rattle.link.specs.Decoder.{decoderWords, someAbove, decoderMalformed, decoderFault, streamReplaced, decoderNext, delivered, delivery, decodeAnswer, decodeMemory};
 
 pub enum Mark {
     Clean,
@@ -232,21 +232,39 @@ fn next_fill(delay: u64, fill: u64) -> u64
     if fill < delay { fill + 1 } else { fill }
 }
 
-// A step that no refusal applies to: the turn's stream is lent on, and fill and turn advance.
+// One block of the turn's stream: its part is lent on.
+fn decode_stream(t: Table, state: &mut [u64], received: u64) -> Delivered
+    requires { ⌜ decoderFault t (now state) received ≡ 0 ⌝ }
+    ensures record { λ r. ⌜ r ≡ delivered t (now (state .entry)) received ⌝ }
+    ensures memory { λ r. ⌜ now (state .exit) ≡ streamReplaced t (now (state .entry)) received ⌝ }
+{
+    let turn = state[0] as usize;
+    let span = t.span;
+    let at = 2 + turn * (span + 1);
+    let end = at + (span + 1);
+    step(&mut state[at..end], &t.rows, t.symbols, span, received)
+}
+
+// Fill and turn advance.
+fn advance(state: &mut [u64], depth: u64, delay: u64)
+    requires { ⌜ (2 ≤ length (now state)) × (getD (now state) 0 0 < depth) ⌝ }
+    ensures { λ r. ⌜ now (state .exit) ≡ set (set (now (state .entry)) 1 (cond (ltb (getD (now (state .entry)) 1 0) delay) (getD (now (state .entry)) 1 0 + 1) (getD (now (state .entry)) 1 0))) 0 (nextTurn depth (getD (now (state .entry)) 0 0)) ⌝ }
+{
+    let turn = state[0];
+    state[1] = next_fill(delay, state[1]);
+    state[0] = next_turn(depth, turn);
+}
+
+// A step that no refusal applies to.
 fn taken(t: Table, state: &mut [u64], received: u64) -> DecodeAnswer
     requires { ⌜ decoderFault t (now state) received ≡ 0 ⌝ }
     ensures answer { λ r. ⌜ r ≡ delivery t (now (state .entry)) received ⌝ }
     ensures memory { λ r. ⌜ now (state .exit) ≡ decoderNext t (now (state .entry)) received ⌝ }
 {
-    let turn = state[0];
+    let delay = (t.depth * (t.span - 1)) as u64;
     let fill = state[1];
-    let span = t.span;
-    let at = 2 + (turn as usize) * (span + 1);
-    let end = at + (span + 1);
-    let d = step(&mut state[at..end], &t.rows, t.symbols, span, received);
-    let delay = (t.depth * (span - 1)) as u64;
-    state[1] = next_fill(delay, fill);
-    state[0] = next_turn(t.depth as u64, turn);
+    let d = decode_stream(t, state, received);
+    advance(state, t.depth as u64, delay);
     if fill < delay {
         DecodeAnswer::NothingYet
     } else {

@@ -1,0 +1,149 @@
+-- `link::decoder::decode_stream`: the turn's part as the step leaves it, and all else as it was. Assumes nothing.
+use mathlib.Core.Path.{_≡_, ap₂, _∙_}
+use Prim.Native.Nat.{ℕ, _+_}
+use native.Mathlib.Omega.{arith}
+use borrow.Author.Needs.{needs}
+use borrow.Rule.Slice.PartMut.{mid-len}
+use Rattle.link.specs.declared.decoder.Mark.{Mark}
+use Rattle.link.specs.declared.decoder.Delivered.{Delivered}
+use Rattle.link.specs.Coder.{turnOf}
+use Rattle.link.specs.Decoder.{streamAt, delivered}
+use Rattle.link.proofs.Memory.{decoder-taken}
+use Rattle.link.proofs.Room.{fit-room, turn-room, oldest-lt}
+use Rattle.link.proofs.Lent.{syndrome-is, oldest-is, lent-info, lent-mark, lent-memory}
+use Rattle.link.proofs.decoder.decode_stream.Statement.{statement}
+use Rattle.link.proofs.decoder.decode_stream.Tie as tie
+
+slice-read-turn : tie.Need-slice-read-turn
+slice-read-turn c =
+    let a = c .before .before .args in
+    let s = a .state .now in
+    let k = decoder-taken (a .t1) s (a .received) (c .before .before .pre) in
+    omega arith
+
+add-at : tie.Need-add-at
+add-at c =
+    let a = c .before .before .args in
+    let s = a .state .now in
+    let k = decoder-taken (a .t1) s (a .received) (c .before .before .pre) in
+    let z = k .sizes in
+    record { fits = omega arith }
+
+mul-at : tie.Need-mul-at
+mul-at c =
+    let a = c .before .before .args in
+    let s = a .state .now in
+    let k = decoder-taken (a .t1) s (a .received) (c .before .before .pre) in
+    let z = k .sizes in
+    let room = fit-room (a .t1) z in
+    let inside = turn-room (a .t1) z (turnOf s) (k .turn) in
+    record { fits = omega arith }
+
+add-at-2 : tie.Need-add-at-2
+add-at-2 c =
+    let a = c .before .before .args in
+    let s = a .state .now in
+    let k = decoder-taken (a .t1) s (a .received) (c .before .before .pre) in
+    let z = k .sizes in
+    let room = fit-room (a .t1) z in
+    let inside = turn-room (a .t1) z (turnOf s) (k .turn) in
+    record { fits = omega arith }
+
+add-end : tie.Need-add-end
+add-end c =
+    let a = c .before .before .args in
+    let s = a .state .now in
+    let k = decoder-taken (a .t1) s (a .received) (c .before .before .pre) in
+    let z = k .sizes in
+    record { fits = omega arith }
+
+add-end-2 : tie.Need-add-end-2
+add-end-2 c =
+    let a = c .before .before .args in
+    let s = a .state .now in
+    let k = decoder-taken (a .t1) s (a .received) (c .before .before .pre) in
+    let z = k .sizes in
+    let room = fit-room (a .t1) z in
+    let inside = turn-room (a .t1) z (turnOf s) (k .turn) in
+    record { fits = omega arith }
+
+mul-step : tie.Need-mul-step
+mul-step c =
+    let a = c .before .before .args in
+    let s = a .state .now in
+    let k = decoder-taken (a .t1) s (a .received) (c .before .before .pre) in
+    let z = k .sizes in
+    let room = fit-room (a .t1) z in
+    let inside = turn-room (a .t1) z (turnOf s) (k .turn) in
+    record { fits = omega arith }
+
+sub-step : tie.Need-sub-step
+sub-step c = search needs
+
+part-step-start : tie.Need-part-step-start
+part-step-start c = search needs
+
+part-step-end : tie.Need-part-step-end
+part-step-end c =
+    let a = c .before .before .args in
+    let s = a .state .now in
+    let k = decoder-taken (a .t1) s (a .received) (c .before .before .pre) in
+    let z = k .sizes in
+    let inside = turn-room (a .t1) z (turnOf s) (k .turn) in
+    omega arith
+
+step-requires : tie.Need-step-requires
+step-requires c κs =
+    let a = c .before .before .before .before .before .before .args in
+    let s = a .state .now in
+    let k = decoder-taken (a .t1) s (a .received) (c .before .before .before .before .before .before .pre) in
+    let z = k .sizes in
+    let inside = turn-room (a .t1) z (turnOf s) (k .turn) in
+    let at = streamAt (a .t1) (turnOf s) in
+    let size = mid-len at (at + (a .t1 .span + 1)) s (omega arith) in (
+      omega arith,
+      z .n-from,
+      z .n-to,
+      z .N-from,
+      z .N-to,
+      omega arith,
+      rw (syndrome-is (a .t1) s (a .received) (z .N-from) (omega arith)) (k .syndrome),
+      rw (oldest-is (a .t1) s (a .received) (z .N-from) (omega arith)) (oldest-lt (a .t1) s (a .received) k),
+    )
+
+same-length : tie.Need-same-length
+same-length c = search needs
+
+delivered-is : (d e : Delivered) → d .info ≡ e .info → d .mark ≡ e .mark → d ≡ e
+delivered-is d e p q = ap₂ (λ (i : ℕ) (m : Mark). record { info = i; mark = m }) p q
+
+returns : tie.Need-returns
+returns c =
+    let a = c .before .before .before .before .before .before .before .before .before .args in
+    let s = a .state .now in
+    let k = decoder-taken (a .t1) s (a .received) (c .before .before .before .before .before .before .before .before .before .pre) in
+    let z = k .sizes in
+    let inside = turn-room (a .t1) z (turnOf s) (k .turn) in
+    let p = c .before .before .step in (
+      delivered-is (p .result) (delivered (a .t1) s (a .received)) (p .ensures .0 ∙ lent-info (a .t1) s (a .received) (z .N-from) (omega arith))
+          (p .ensures .1 .0 ∙ lent-mark (a .t1) s (a .received) (z .N-from) (omega arith)),
+      lent-memory (a .t1) s (a .received) (z .N-from) (omega arith) (p .last .0) (p .ensures .1 .1),
+    )
+
+pub decode-stream-spec : {M : Type 1} → statement M
+decode-stream-spec =
+    tie.close
+    (tie.spec
+    slice-read-turn
+    add-at
+    mul-at
+    add-at-2
+    add-end
+    add-end-2
+    mul-step
+    sub-step
+    part-step-start
+    part-step-end
+    step-requires
+    same-length
+    returns)
