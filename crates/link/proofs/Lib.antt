@@ -9,3 +9,4 @@ mod Memory
 mod Bursts
 mod Fade
 mod Recovery
+mod Formed

@@ -16,6 +16,7 @@ use lib.Dec.{leb, ltb, eqb}
 use lib.ListN.{length, getD, set, take, drop, length-append, length-set, length-drop, List·getD-append}
 use lib.Seq.{getD-set-same, getD-set-other, length-take-le, getD-append-add, getD-take, getD-drop, getD-at}
 use Rattle.span.specs.Word.{_⊕_, odd, bit, digit}
+use Rattle.span.specs.Combination.{Below}
 use Rattle.tables.specs.declared.table.Table.{Table}
 use Rattle.tables.specs.Table.{fit}
 use Rattle.tables.specs.Format.{firstOf}
@@ -45,10 +46,13 @@ four-none a b c d e =
 -- ---- the coder
 
 pub record CoderStep (n N m : ℕ) (infos : List ℕ) (s : List ℕ) (b c : ℕ) (after : List ℕ) : Type 0 where
+  pub span-from : 2 ≤ N
+  pub rows-below : Below N infos
   pub turn-lt : turnOf s < m
   pub pending-lt : pendingAt s (turnOf s) < 2 ^ (N - 1)
   pub info-lt : b < 2 ^ (n - 1)
   pub coded : c ≡ b + digit (odd (joining infos (pendingAt s (turnOf s)) b)) * 2 ^ (n - 1)
+  pub size-on : length after ≡ length s
   pub turn-on : turnOf after ≡ nextTurn m (turnOf s)
   pub own : pendingAt after (turnOf s) ≡ joining infos (pendingAt s (turnOf s)) b / 2
   pub others : (k : ℕ) → k < m → k ≢ turnOf s → pendingAt after k ≡ pendingAt s k
@@ -60,14 +64,18 @@ coder-step t s b e =
     let f = four-none (not (fit t)) (not (eqb (length s) (coderWords t))) (coderMalformed t s) (leb (2 ^ (t .symbols - 1)) b) e in
     let g = or-none (leb (t .depth) (turnOf s)) (leb (2 ^ (t .span - 1)) (pendingAt s (turnOf s))) (f .2) in
     let size : length s ≡ 1 + t .depth = eqb-true (length s) (coderWords t) (not-false (eqb (length s) (coderWords t)) (f .1)) in
+    let z = fit-facts t (not-false (fit t) (f .0)) in
     let turn = leb-false (t .depth) (turnOf s) (g .0) in
     let w = joining (infoRows t) (pendingAt s (turnOf s)) b / 2 in
     let to = nextTurn (t .depth) (turnOf s) in
     record {
+      span-from = z .N-from;
+      rows-below = z .below;
       turn-lt = turn;
       pending-lt = leb-false (2 ^ (t .span - 1)) (pendingAt s (turnOf s)) (g .1);
       info-lt = leb-false (2 ^ (t .symbols - 1)) b (f .3);
       coded = refl;
+      size-on = length-set (set s (1 + turnOf s) w) 0 to ∙ length-set s (1 + turnOf s) w;
       turn-on = getD-set-same (set s (1 + turnOf s) w) 0 to 0 (rw (length-set s (1 + turnOf s) w) (omega arith));
       own =
           getD-set-other (set s (1 + turnOf s) w) 0 (1 + turnOf s) to 0 (λ (z : 1 + turnOf s ≡ 0). omega arith)
@@ -89,10 +97,13 @@ registerIn n N infos s r =
     + digit (xor (odd (joining infos (getD s (streamIn N (turnOf s)) 0) (r % 2 ^ (n - 1)))) (bit (n - 1) r)) * 2 ^ (N - 1)
 
 pub record DecoderStep (n N m : ℕ) (infos : List ℕ) (s : List ℕ) (r : ℕ) (answer : DecodeAnswer) (after : List ℕ) : Type 0 where
+  pub span-from : 2 ≤ N
+  pub rows-below : Below N infos
   pub turn-lt : turnOf s < m
   pub pending-lt : getD s (streamIn N (turnOf s)) 0 < 2 ^ (N - 1)
   pub syndrome-lt : getD s (streamIn N (turnOf s) + 1) 0 < 2 ^ (N - 1)
   pub block-lt : r < 2 ^ n
+  pub size-on : length after ≡ length s
   pub turn-on : turnOf after ≡ nextTurn m (turnOf s)
   pub fill-on : fillOf after ≡ cond (ltb (fillOf s) (m * (N - 1))) (fillOf s + 1) (fillOf s)
   pub pending-on : getD after (streamIn N (turnOf s)) 0 ≡ joining infos (getD s (streamIn N (turnOf s)) 0) (r % 2 ^ (n - 1)) / 2
@@ -180,6 +191,9 @@ module _ (N m : ℕ) (s : List ℕ) (pending syndrome young fill to : ℕ) (from
   body-length : length body ≡ length s
   body-length = replaced-length s part at (N + 1) part-length part-room
 
+  after-length : length after ≡ length s
+  after-length = length-set (set body 1 fill) 0 to ∙ length-set body 1 fill ∙ body-length
+
   after-word : (i : ℕ) → 2 ≤ i → getD after i 0 ≡ getD body i 0
   after-word i h =
       getD-set-other (set body 1 fill) 0 i to 0 (λ (z : i ≡ 0). omega arith)
@@ -231,6 +245,7 @@ module _ (N m : ℕ) (s : List ℕ) (pending syndrome young fill to : ℕ) (from
 -- what the tests of a step that is taken say
 record Taken (t : Table) (s : List ℕ) (r : ℕ) : Type 0 where
   span-from : 2 ≤ t .span
+  below : Below (t .span) (infoRows t)
   size : length s ≡ 2 + t .depth * (t .span + 1)
   turn : turnOf s < t .depth
   pending : pendingOf t s (turnOf s) < 2 ^ (t .span - 1)
@@ -251,6 +266,7 @@ decoder-taken t s r e =
     let g1 = or-none (leb (t .depth) k) (ltb (delayOf t) (fillOf s)) (g2 .0) in
     record {
       span-from = z .N-from;
+      below = z .below;
       size = eqb-true (length s) (decoderWords t) (not-false (eqb (length s) (decoderWords t)) (f .1));
       turn = leb-false (t .depth) k (g1 .0);
       pending = leb-false (2 ^ (N - 1)) (pendingOf t s k) (g2 .1);
@@ -266,10 +282,13 @@ pub decoder-step : (t : Table) (s : List ℕ) (r : ℕ) → decoderFault t s r �
     → DecoderStep (t .symbols) (t .span) (t .depth) (infoRows t) s r (delivery t s r) (decoderNext t s r)
 unfolding decoderNext partNext delivery delivered decoderFound decoderRegister decoderJoining
 decoder-step t s r e = record {
+  span-from = k .span-from;
+  rows-below = k .below;
   turn-lt = k .turn;
   pending-lt = k .pending;
   syndrome-lt = k .syndrome;
   block-lt = k .block;
+  size-on = after-length N (t .depth) s pending syndrome young fill to (k .span-from) (k .size) (k .turn);
   turn-on = after-turn N (t .depth) s pending syndrome young fill to (k .span-from) (k .size) (k .turn);
   fill-on = after-fill N (t .depth) s pending syndrome young fill to (k .span-from) (k .size) (k .turn);
   pending-on =

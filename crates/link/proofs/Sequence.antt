@@ -38,11 +38,11 @@ pub record Stream (n w : ℕ) (rows : List ℕ) (D s e : ℕ → ℕ) (count : �
   -- of two blocks of the stream, at most w apart, one is right
   pub apart : (i d : ℕ) → 1 ≤ d → d ≤ w → i + d < count → (e i ≡ 0) ⊎ (e (i + d) ≡ 0)
 
-kept-lt : (f : Least) (x j : ℕ) → x < 2 ^ suc j → keptOf f x < 2 ^ j
+pub kept-lt : (f : Least) (x j : ℕ) → x < 2 ^ suc j → keptOf f x < 2 ^ j
 kept-lt (Found e) x j h = pow-pos j
 kept-lt Missing x j h = omega arith
 
-digit-add-lt : (b : Bool) (x w : ℕ) → x < 2 ^ w → x + digit b * 2 ^ w < 2 ^ suc w
+pub digit-add-lt : (b : Bool) (x w : ℕ) → x < 2 ^ w → x + digit b * 2 ^ w < 2 ^ suc w
 digit-add-lt true x w h = let e = one-mul (2 ^ w) in omega arith
 digit-add-lt false x w h = let e = zero-mul (2 ^ w) in omega arith
 

@@ -5,3 +5,4 @@ pub mod Coder
 pub mod Decoder
 pub mod Runs
 pub mod Recovery
+pub mod Formed
