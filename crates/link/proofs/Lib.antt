@@ -8,5 +8,6 @@ mod Runs
 mod Memory
 mod Bursts
 mod Fade
-mod Recovery
 mod Formed
+mod Recovery
+mod Premises

@@ -6,3 +6,4 @@ pub mod Decoder
 pub mod Runs
 pub mod Recovery
 pub mod Formed
+pub mod Premises
