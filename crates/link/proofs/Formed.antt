@@ -31,7 +31,7 @@ use Rattle.link.proofs.Memory.{CoderStep, coder-step, streamIn, registe
 
 -- ---- a start
 
-zero-word : (words i : ℕ) → getD {A = ℕ} (replicate words 0) i 0 ≡ 0
+pub zero-word : (words i : ℕ) → getD {A = ℕ} (replicate words 0) i 0 ≡ 0
 zero-word zero i = refl
 zero-word (suc words) zero = refl
 zero-word (suc words) (suc i) = zero-word words i

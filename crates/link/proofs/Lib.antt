@@ -11,3 +11,5 @@ mod Fade
 mod Formed
 mod Recovery
 mod Premises
+mod Computed
+mod Sharp

@@ -14,7 +14,7 @@ use Rattle.link.specs.Premises.{Guarded, BurstsOf, PREMISES, RECOVERY-LA
 use Rattle.link.proofs.Recovery.{recovery}
 use Rattle.link.proofs.Formed.{formed-throughout}
 
-fades : (t : Table) (coder decoder : List ℕ) (cs ds : List Call) → CoderFormed t coder → DecoderFormed t decoder
+pub fades : (t : Table) (coder decoder : List ℕ) (cs ds : List Call) → CoderFormed t coder → DecoderFormed t decoder
     → Guarded (2 * delayOf t) t coder decoder cs ds → BurstsOf (t .depth) (delayOf t) coder decoder cs ds → Fades t coder decoder cs ds
 fades t coder decoder cs ds c d g b = record {
   origin = g .origin;
@@ -49,10 +49,10 @@ recovery-later t coder decoder cs0 ds0 cs ds c d ct dt g b =
     recovery t (coderAfter coder cs0) (decoderAfter decoder ds0) cs ds
     (fades t (coderAfter coder cs0) (decoderAfter decoder ds0) cs ds (formed-throughout t coder cs0 .0 c ct) (formed-throughout t decoder ds0 .1 d dt) g b)
 
-mark-of : (a b : Delivered) → _≡_ {A = DecodeAnswer} (Delivery a) (Delivery b) → a .mark ≡ b .mark
-mark-of a b e = cc
+pub same-delivery : (a b : Delivered) → _≡_ {A = DecodeAnswer} (Delivery a) (Delivery b) → (a .info ≡ b .info) × (a .mark ≡ b .mark)
+same-delivery a b e = (cc, cc)
 
 pub doubtful : DOUBTFUL
 doubtful t coder decoder cs ds c d g p info late h answer b =
     let r = recovery t coder decoder cs ds (fades t coder decoder cs ds c d g b) p late h in
-    r .2 (mark-of _ _ (sym (r .1) ∙ answer))
+    r .2 (same-delivery _ _ (sym (r .1) ∙ answer) .1)

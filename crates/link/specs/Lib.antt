@@ -7,3 +7,4 @@ pub mod Runs
 pub mod Recovery
 pub mod Formed
 pub mod Premises
+pub mod Sharp

@@ -1,0 +1,103 @@
+-- 01's bounds are sharp. Three runs on Z (n = 2, N = 4, row 10, m = 1; m × (N − 1) is 3), the coder started and sending zeros, have one right
+-- place too few at first, one place too few between two bursts, and one place too many in a burst; all else is as recovery asks for it.
+--
+--   Z                           the table of 01's examples
+--   calls t blocks              steps that are handed the table t and these blocks
+--   filled pending              a decoder memory of Z with that pending word, its fill complete and all else 0
+--   differing k xs ys           the places, counted from k, at which two lists of blocks differ
+--   sentBlocks, takenBlocks     the blocks of a run
+--   Shows pending received wrong answers   what a run from that memory on takes, where it is wrong, and what it answers
+--   SHARP-RUNS                  the three runs
+--   RecoveryWith right long gap recovery with other numbers in place of 01's
+--   BOUNDS                      it holds with 01's
+--   GUARD-SHARP, GAP-SHARP, LENGTH-SHARP   and with none of the three replaced by the next one
+use mathlib.Core.Path.{_≡_}
+use mathlib.Core.Bool.{true, false}
+use mathlib.Core.List.{List, [], _∷_, _++_, map}
+use Prim.Native.Nat.{ℕ, suc, _+_, _-_, _*_, _≤_, _<_}
+use lib.Dec.{eqb}
+use lib.ListN.{length, replicate}
+use Rattle.tables.specs.declared.table.Table.{Table}
+use Rattle.tables.specs.Table.{table}
+use Rattle.link.specs.declared.decoder.Mark.{Mark}
+use Rattle.link.specs.declared.decoder.Mark.the-variants.{Clean, Doubtful, Held}
+use Rattle.link.specs.declared.decoder.DecodeAnswer.{DecodeAnswer}
+use Rattle.link.specs.declared.decoder.DecodeAnswer.the-variants.{Delivery}
+use Rattle.link.specs.Start.{started}
+use Rattle.link.specs.Coder.{coderWords, CoderFormed}
+use Rattle.link.specs.Decoder.{delayOf, DecoderFormed}
+use Rattle.link.specs.Runs.{Call, Sent, Taken, sentBy, takenBy}
+use Rattle.link.specs.Recovery.{Recovered}
+use Rattle.link.specs.Premises.{Guarded, BurstsOf}
+
+-- ""Z" is n = 2, N = 4, row 10."
+abbrev pub Z : Table
+Z = table 2 4 1 (10 ∷ replicate 14 0)
+
+abbrev pub calls : Table → List ℕ → List Call
+calls t blocks = map (λ (b : ℕ). record { table = t; block = b }) blocks
+
+abbrev pub filled : ℕ → List ℕ
+filled pending = 0 ∷ 3 ∷ pending ∷ replicate 4 0
+
+unfoldable pub differing : ℕ → List ℕ → List ℕ → List ℕ
+differing k [] ys = []
+differing k (x ∷ xs) [] = []
+differing k (x ∷ xs) (y ∷ ys) = elim (eqb x y) [ true ↦ differing (suc k) xs ys | false ↦ k ∷ differing (suc k) xs ys ]
+
+abbrev pub sentBlocks : List Sent → List ℕ
+sentBlocks xs = map (λ (x : Sent). x .block) xs
+
+abbrev pub takenBlocks : List Taken → List ℕ
+takenBlocks xs = map (λ (x : Taken). x .block) xs
+
+abbrev pub zerosSent : ℕ → List Sent
+zerosSent count = sentBy (started (coderWords Z)) (calls Z (replicate count 0))
+
+abbrev pub received : ℕ → List ℕ → List Taken
+received pending blocks = takenBy (filled pending) (calls Z blocks)
+
+abbrev pub Shows : ℕ → List ℕ → List ℕ → List DecodeAnswer → Type 0
+Shows pending blocks wrong answers =
+    (sentBlocks (zerosSent (length blocks)) ≡ replicate (length blocks) 0) × (takenBlocks (received pending blocks) ≡ blocks)
+    × (differing 1 (takenBlocks (received pending blocks)) (sentBlocks (zerosSent (length blocks))) ≡ wrong)
+    × (map (λ (x : Taken). x .answer) (received pending blocks) ≡ answers)
+
+abbrev pub delivers : ℕ → Mark → DecodeAnswer
+delivers info mark = Delivery (record { info = info; mark = mark })
+
+abbrev pub lateGuard : List ℕ
+lateGuard = replicate 5 0 ++ (2 ∷ [])
+
+abbrev pub closeBursts : List ℕ
+closeBursts = replicate 6 0 ++ (1 ∷ 0 ∷ 0 ∷ 2 ∷ [])
+
+abbrev pub longBurst : List ℕ
+longBurst = replicate 6 0 ++ (1 ∷ 2 ∷ 0 ∷ 0 ∷ [])
+
+-- Places 1 to 5 are right and 6 is doubtful; places 7 and 10 are wrong, two places between them, and 10 delivers 1 in place of the 0 that was
+-- sent at 7; places 7 and 8 are wrong, and 10 delivers 1 again.
+abbrev pub SHARP-RUNS : Type 0
+SHARP-RUNS =
+    Shows 4 lateGuard (6 ∷ []) (replicate 2 (delivers 0 Clean) ++ replicate 3 (delivers 0 Held) ++ (delivers 0 Doubtful ∷ []))
+    × Shows 0 closeBursts (7 ∷ 10 ∷ []) (replicate 7 (delivers 0 Clean) ++ replicate 2 (delivers 0 Held) ++ (delivers 1 Held ∷ []))
+    × Shows 0 longBurst (7 ∷ 8 ∷ []) (replicate 9 (delivers 0 Clean) ++ (delivers 1 Held ∷ []))
+
+-- Each number is told of a table. What is said begins where the guard ends.
+abbrev pub RecoveryWith : (Table → ℕ) → (Table → ℕ) → (Table → ℕ) → Type 0
+RecoveryWith right long gap =
+    (t : Table) (coder decoder : List ℕ) (cs ds : List Call) → CoderFormed t coder → DecoderFormed t decoder
+    → Guarded (right t) t coder decoder cs ds → BurstsOf (long t) (gap t) coder decoder cs ds
+    → (p : ℕ) → right t < p → p ≤ length (takenBy decoder ds) → Recovered (sentBy coder cs) (takenBy decoder ds) (delayOf t) p
+
+abbrev pub BOUNDS : Type 0
+BOUNDS = RecoveryWith (λ t. 2 * delayOf t) (λ t. t .depth) (λ t. delayOf t)
+
+abbrev pub GUARD-SHARP : Type 0
+GUARD-SHARP = RecoveryWith (λ t. 2 * delayOf t - 1) (λ t. t .depth) (λ t. delayOf t) → ⊥
+
+abbrev pub GAP-SHARP : Type 0
+GAP-SHARP = RecoveryWith (λ t. 2 * delayOf t) (λ t. t .depth) (λ t. delayOf t - 1) → ⊥
+
+abbrev pub LENGTH-SHARP : Type 0
+LENGTH-SHARP = RecoveryWith (λ t. 2 * delayOf t) (λ t. t .depth + 1) (λ t. delayOf t) → ⊥
