@@ -13,3 +13,4 @@ mod Recovery
 mod Premises
 mod Computed
 mod Sharp
+mod Witness

@@ -1,11 +1,11 @@
 -- 01's bounds are sharp: the three runs are computed, and all else that is said of their places follows from that. Assumes nothing.
-use mathlib.Core.Path.{_≡_, refl, sym, ap, _∙_, subst}
+use mathlib.Core.Path.{_≡_, refl, sym, ap, _∙_}
 use mathlib.Core.Bool.{true, xor}
 use mathlib.Core.Logic.{_≢_, inl, inr}
 use mathlib.Core.List.{List, [], _∷_, map}
-use Prim.Native.Nat.{ℕ, zero, suc, _+_, _-_, _*_, _≤_, _<_}
+use Prim.Native.Nat.{ℕ, _+_, _-_, _*_, _≤_, _<_}
 use native.Mathlib.Omega.{arith}
-use lib.ListN.{length, getD, replicate, length-map, length-replicate, List·getD-map}
+use lib.ListN.{length, getD, replicate, length-replicate, List·getD-map}
 use Rattle.span.specs.Word.{_⊕_, odd, bit}
 use Rattle.span.specs.Combination.{combination}
 use Rattle.span.specs.Relation.{leastFrom, leastCoefficients}
@@ -23,17 +23,35 @@ use Rattle.link.specs.Stream.{joining}
 use Rattle.link.specs.Start.{started}
 use Rattle.link.specs.Coder.{coderWords, coderFault, coderJoining, codedBlock, coderNext, CoderFormed}
 use Rattle.link.specs.Decoder.{delayOf, pendingOf, syndromeOf, delayedOf, delayedOut, decoderFault, decoderJoining, decoderRegister, decoderFound, partNext, decoderNext, delivered, delivery, DecoderFormed}
-use Rattle.link.specs.Runs.{Sent, Taken, run, sentAt, takenAt}
+use Rattle.link.specs.Runs.{Call, Sent, Taken, run, sentAt, takenAt}
 use Rattle.link.specs.Recovery.{Origin, Wrong, Stretch, Burst, Chosen, Within}
 use Rattle.link.specs.Sharp.{Z, calls, filled, differing, zerosSent, received, Shows, delivers, lateGuard, closeBursts, longBurst, SHARP-RUNS, RecoveryWith, BOUNDS, GUARD-SHARP, GAP-SHARP, LENGTH-SHARP}
 use Rattle.link.proofs.Formed.{zero-word, started-formed}
 use Rattle.link.proofs.Recovery.{recovery}
 use Rattle.link.proofs.Premises.{fades, same-delivery}
-use Rattle.link.proofs.Computed.{key, In, wrong-in, guarded-by}
+use Rattle.link.proofs.Computed.{each-at, key, In, Places, count, guarded-by, burst-by, bursts-by}
+
+-- ---- what is computed
+
+-- a step of either run is handed Z, and zeros are sent
+pub record Handed (pending : ℕ) (blocks : List ℕ) : Type 0 where
+  pub sent : map (λ (x : Sent). key 1 (x .table)) (zerosSent (length blocks)) ≡ replicate (length (replicate {A = ℕ} (length blocks) 0)) (key 1 Z)
+  pub taken : map (λ (x : Taken). key 1 (x .table)) (received pending blocks) ≡ replicate (length blocks) (key 1 Z)
+  pub infos : map (λ (x : Sent). x .info) (zerosSent (length blocks)) ≡ replicate (length blocks) 0
+
+computed : SHARP-RUNS × (Handed 4 lateGuard × Handed 0 closeBursts × Handed 0 longBurst)
+unfolding run differing coderFault coderJoining codedBlock coderNext decoderFault delayedOut decoderJoining decoderRegister decoderFound partNext decoderNext delivered delivery joining firstOf fit sizesFit rowsFit leastCoefficients leastFrom combination bit odd xor _⊕_
+computed = (
+  ((refl, refl, refl, refl), (refl, refl, refl, refl), (refl, refl, refl, refl)),
+  (
+    record { sent = refl; taken = refl; infos = refl },
+    record { sent = refl; taken = refl; infos = refl },
+    record { sent = refl; taken = refl; infos = refl },
+  ),
+)
 
 pub sharp-runs : SHARP-RUNS
-unfolding run differing coderFault coderJoining codedBlock coderNext decoderFault delayedOut decoderJoining decoderRegister decoderFound partNext decoderNext delivered delivery joining firstOf fit sizesFit rowsFit leastCoefficients leastFrom combination bit odd xor _⊕_
-sharp-runs = ((refl, refl, refl, refl), (refl, refl, refl, refl), (refl, refl, refl, refl))
+sharp-runs = computed .0
 
 -- ---- Z and the memories
 
@@ -53,104 +71,63 @@ filled-formed pending h = record {
   size = refl;
   turn = omega arith;
   fill = omega arith;
-  pending = one (λ k. pendingOf Z (filled pending) k < 8) h;
-  syndrome = one (λ k. syndromeOf Z (filled pending) k < 8) (omega arith);
+  pending = each-at (λ k. pendingOf Z (filled pending) k < 8) 1 (h, tt);
+  syndrome = each-at (λ k. syndromeOf Z (filled pending) k < 8) 1 (omega arith, tt);
   delayed = λ k i a b.
-      one (λ k. delayedOf Z (filled pending) k i < 2)
-      (three (λ i. delayedOf Z (filled pending) 0 i < 2) (omega arith) (omega arith) (omega arith) i b) k a;
+      each-at (λ k. delayedOf Z (filled pending) k i < 2) 1
+      (each-at (λ i. delayedOf Z (filled pending) 0 i < 2) 3 (omega arith, (omega arith, (omega arith, tt))) i b, tt) k a;
 }
-  where
-    one : (P : ℕ → Type 0) → P 0 → (k : ℕ) → k < 1 → P k
-    one P a k h = subst P (omega arith) a
 
-    three : (P : ℕ → Type 0) → P 0 → P 1 → P 2 → (k : ℕ) → k < 3 → P k
-    three P a b c zero h = a
-    three P a b c (suc zero) h = b
-    three P a b c (suc (suc zero)) h = c
-    three P a b c (suc (suc (suc k))) h = absurd (omega arith)
-
--- a step of either run is handed Z, and zeros are sent
-pub record Handed (pending : ℕ) (blocks : List ℕ) : Type 0 where
-  pub sent : map (λ (x : Sent). key 1 (x .table)) (zerosSent (length blocks)) ≡ replicate (length blocks) (key 1 Z)
-  pub taken : map (λ (x : Taken). key 1 (x .table)) (received pending blocks) ≡ replicate (length blocks) (key 1 Z)
-  pub infos : map (λ (x : Sent). x .info) (zerosSent (length blocks)) ≡ replicate (length blocks) 0
-
-handed : Handed 4 lateGuard × Handed 0 closeBursts × Handed 0 longBurst
-unfolding run coderFault coderJoining codedBlock coderNext decoderFault delayedOut decoderJoining decoderRegister decoderFound partNext decoderNext delivered delivery joining firstOf fit sizesFit rowsFit leastCoefficients leastFrom combination bit odd xor _⊕_
-handed = (
-  record { sent = refl; taken = refl; infos = refl },
-  record { sent = refl; taken = refl; infos = refl },
-  record { sent = refl; taken = refl; infos = refl },
-)
-
--- ---- what a run that was computed says of its places
+-- ---- what recovery with other numbers would say of such a run
 
 module _ (pending : ℕ) (blocks wrong : List ℕ) (answers : List DecodeAnswer) (shows : Shows pending blocks wrong answers) (h : Handed pending blocks) where
-  abbrev sent : List Sent
-  sent = zerosSent (length blocks)
+  abbrev coder : List ℕ
+  coder = started (coderWords Z)
 
-  abbrev taken : List Taken
-  taken = received pending blocks
+  abbrev cs : List Call
+  cs = calls Z (replicate (length blocks) 0)
 
-  count : length taken ≡ length blocks
-  count = sym (length-map taken (λ (x : Taken). x .block)) ∙ ap (λ (l : List ℕ). length l) (shows .1)
+  abbrev ds : List Call
+  ds = calls Z blocks
 
-  enough : length taken ≤ length sent
-  enough =
-      let a = length-map sent (λ (x : Sent). x .block) in
-      let b = ap (λ (l : List ℕ). length l) (shows .0) in
-      let c = length-replicate {A = ℕ} (length blocks) 0 in
-      let d = count in
-      omega arith
+  abbrev zeros : List ℕ
+  zeros = replicate (length blocks) 0
 
-  block-at : (p : ℕ) → takenAt taken p .block ≡ getD blocks (p - 1) 0
-  block-at p =
-      sym (List·getD-map (λ (x : Taken). x .block) taken (p - 1) (record { table = zeroTable; block = 0; answer = NothingYet }))
-      ∙ ap (λ (l : List ℕ). getD l (p - 1) 0) (shows .1)
-
-  answer-at : (p : ℕ) → takenAt taken p .answer ≡ getD answers (p - 1) NothingYet
-  answer-at p =
-      sym (List·getD-map (λ (x : Taken). x .answer) taken (p - 1) (record { table = zeroTable; block = 0; answer = NothingYet }))
-      ∙ ap (λ (l : List DecodeAnswer). getD l (p - 1) NothingYet) (shows .3)
-
-  zero-at : (p : ℕ) → (sentAt sent p .block ≡ 0) × (sentAt sent p .info ≡ 0)
-  zero-at p = (
-    sym (List·getD-map (λ (x : Sent). x .block) sent (p - 1) (record { table = zeroTable; info = 0; block = 0 }))
-        ∙ ap (λ (l : List ℕ). getD l (p - 1) 0) (shows .0) ∙ zero-word (length blocks) (p - 1),
-    sym (List·getD-map (λ (x : Sent). x .info) sent (p - 1) (record { table = zeroTable; info = 0; block = 0 }))
-        ∙ ap (λ (l : List ℕ). getD l (p - 1) 0) (h .infos) ∙ zero-word (length blocks) (p - 1),
-  )
-
-  pub wrong-at : (p : ℕ) → 0 < getD blocks (p - 1) 0 → Wrong sent taken p
-  wrong-at p some e = let a = block-at p in let b = zero-at p .0 in omega arith
-
-  pub burst : (long a b : ℕ) → 1 ≤ a → a ≤ b → b < a + long → b ≤ length blocks → 0 < getD blocks (a - 1) 0 → 0 < getD blocks (b - 1) 0
-      → Burst (Wrong sent taken) long (length taken) (record { first = a; last = b })
-  burst long a b from order short inside u v = record {
-    from = from;
-    order = order;
-    short = short;
-    inside = let c = count in omega arith;
-    begins = wrong-at a u;
-    ends = wrong-at b v;
+  places : Places coder (filled pending) cs ds zeros blocks wrong
+  places = record {
+    sent = shows .0;
+    taken = shows .1;
+    wrong = shows .2;
+    many = let c = length-replicate {A = ℕ} (length blocks) 0 in omega arith;
   }
 
-  -- what recovery with other numbers would say of this run
+  answer-at : (p : ℕ) → takenAt (received pending blocks) p .answer ≡ getD answers (p - 1) NothingYet
+  answer-at p =
+      sym (List·getD-map (λ (x : Taken). x .answer) (received pending blocks) (p - 1) (record { table = zeroTable; block = 0; answer = NothingYet }))
+      ∙ ap (λ (l : List DecodeAnswer). getD l (p - 1) NothingYet) (shows .3)
+
+  info-at : (p : ℕ) → sentAt (zerosSent (length blocks)) p .info ≡ 0
+  info-at p =
+      sym (List·getD-map (λ (x : Sent). x .info) (zerosSent (length blocks)) (p - 1) (record { table = zeroTable; info = 0; block = 0 }))
+      ∙ ap (λ (l : List ℕ). getD l (p - 1) 0) (h .infos) ∙ zero-word (length blocks) (p - 1)
+
+  pub burst : (long a b : ℕ) → 1 ≤ a → a ≤ b → b < a + long → b ≤ length blocks → 0 < getD blocks (a - 1) 0 → 0 < getD blocks (b - 1) 0
+      → Burst (Wrong (zerosSent (length blocks)) (received pending blocks)) long (length (received pending blocks)) (record { first = a; last = b })
+  burst long a b from order short inside u v =
+      burst-by places long a b from order short inside
+      (λ e. let z = zero-word (length blocks) (a - 1) in omega arith) (λ e. let z = zero-word (length blocks) (b - 1) in omega arith)
+
   pub would-answer : (right long gap : Table → ℕ) → RecoveryWith right long gap → pending < 8 → (chosen : List Stretch)
-      → Chosen (Wrong sent taken) (long Z) (gap Z) (length taken) chosen → ((p : ℕ) → In p wrong → Within p chosen × (right Z < p))
-      → (p : ℕ) → right Z < p → p ≤ length blocks
+      → Chosen (Wrong (zerosSent (length blocks)) (received pending blocks)) (long Z) (gap Z) (length (received pending blocks)) chosen
+      → ((p : ℕ) → In p wrong → Within p chosen × (right Z < p)) → (p : ℕ) → right Z < p → p ≤ length blocks
       → (mark : Mark) × (getD answers (p - 1) NothingYet ≡ delivers 0 mark) × (mark ≢ Doubtful)
   would-answer right long gap r small chosen apart covered p late to =
-      let cs = calls Z (replicate (length blocks) 0) in
-      let ds = calls Z blocks in
-      let coder = started (coderWords Z) in
-      let decoder = filled pending in
-      let all = count in
-      let w = r Z coder decoder cs ds coder-formed (filled-formed pending small)
-      (guarded-by coder decoder cs ds enough wrong (shows .2) Z (right Z) (length blocks) (length blocks) Z-origin (h .sent) (h .taken) (λ q i. covered q i .1))
-      (record { chosen = chosen; apart = apart; covered = λ q from end ne. covered q (wrong-in coder decoder cs ds enough wrong (shows .2) q from end ne) .0 })
+      let all = count places in
+      let w = r Z coder (filled pending) cs ds coder-formed (filled-formed pending small)
+      (guarded-by places Z (right Z) Z-origin (h .sent) (h .taken) (λ q i. covered q i .1))
+      (bursts-by places (long Z) (gap Z) chosen apart (λ q i. covered q i .0))
       p late (omega arith) in
-      (w .0, sym (answer-at p) ∙ w .1 ∙ ap (λ (x : ℕ). delivers x (w .0)) (zero-at (p - delayOf Z) .1), w .2)
+      (w .0, sym (answer-at p) ∙ w .1 ∙ ap (λ (x : ℕ). delivers x (w .0)) (info-at (p - delayOf Z)), w .2)
 
 -- ---- the bounds
 
@@ -159,9 +136,9 @@ bounds t coder decoder cs ds c d g b = recovery t coder decoder cs ds (fades t c
 
 pub guard-sharp : GUARD-SHARP
 guard-sharp r =
-    let w = would-answer 4 lateGuard _ _ (sharp-runs .0) (handed .0) (λ t. 2 * delayOf t - 1) (λ t. t .depth) (λ t. delayOf t) r (omega arith)
+    let w = would-answer 4 lateGuard _ _ (sharp-runs .0) (computed .1 .0) (λ t. 2 * delayOf t - 1) (λ t. t .depth) (λ t. delayOf t) r (omega arith)
     (record { first = 6; last = 6 } ∷ [])
-    (burst 4 lateGuard _ _ (sharp-runs .0) (handed .0) 1 6 6 (omega arith) (omega arith) (omega arith) (omega arith) (omega arith) (omega arith), tt, tt)
+    (burst 4 lateGuard _ _ (sharp-runs .0) (computed .1 .0) 1 6 6 (omega arith) (omega arith) (omega arith) (omega arith) (omega arith) (omega arith), tt, tt)
     covered 6 (omega arith) (omega arith) in
     w .2 (same-delivery _ _ (sym (w .1)) .1)
   where
@@ -171,11 +148,11 @@ guard-sharp r =
 
 pub gap-sharp : GAP-SHARP
 gap-sharp r =
-    let w = would-answer 0 closeBursts _ _ (sharp-runs .1) (handed .1) (λ t. 2 * delayOf t) (λ t. t .depth) (λ t. delayOf t - 1) r (omega arith)
+    let w = would-answer 0 closeBursts _ _ (sharp-runs .1) (computed .1 .1) (λ t. 2 * delayOf t) (λ t. t .depth) (λ t. delayOf t - 1) r (omega arith)
     (record { first = 7; last = 7 } ∷ record { first = 10; last = 10 } ∷ []) (
-      burst 0 closeBursts _ _ (sharp-runs .1) (handed .1) 1 7 7 (omega arith) (omega arith) (omega arith) (omega arith) (omega arith) (omega arith),
+      burst 0 closeBursts _ _ (sharp-runs .1) (computed .1 .1) 1 7 7 (omega arith) (omega arith) (omega arith) (omega arith) (omega arith) (omega arith),
       omega arith,
-      (burst 0 closeBursts _ _ (sharp-runs .1) (handed .1) 1 10 10 (omega arith) (omega arith) (omega arith) (omega arith) (omega arith) (omega arith), tt, tt),
+      (burst 0 closeBursts _ _ (sharp-runs .1) (computed .1 .1) 1 10 10 (omega arith) (omega arith) (omega arith) (omega arith) (omega arith) (omega arith), tt, tt),
     )
     covered 10 (omega arith) (omega arith) in
     let z : _≡_ {A = ℕ} 1 0 = same-delivery _ _ (w .1) .0 in
@@ -188,9 +165,9 @@ gap-sharp r =
 
 pub length-sharp : LENGTH-SHARP
 length-sharp r =
-    let w = would-answer 0 longBurst _ _ (sharp-runs .2) (handed .2) (λ t. 2 * delayOf t) (λ t. t .depth + 1) (λ t. delayOf t) r (omega arith)
+    let w = would-answer 0 longBurst _ _ (sharp-runs .2) (computed .1 .2) (λ t. 2 * delayOf t) (λ t. t .depth + 1) (λ t. delayOf t) r (omega arith)
     (record { first = 7; last = 8 } ∷ [])
-    (burst 0 longBurst _ _ (sharp-runs .2) (handed .2) 2 7 8 (omega arith) (omega arith) (omega arith) (omega arith) (omega arith) (omega arith), tt, tt)
+    (burst 0 longBurst _ _ (sharp-runs .2) (computed .1 .2) 2 7 8 (omega arith) (omega arith) (omega arith) (omega arith) (omega arith) (omega arith), tt, tt)
     covered 10 (omega arith) (omega arith) in
     let z : _≡_ {A = ℕ} 1 0 = same-delivery _ _ (w .1) .0 in
     omega arith

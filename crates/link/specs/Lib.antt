@@ -8,3 +8,4 @@ pub mod Recovery
 pub mod Formed
 pub mod Premises
 pub mod Sharp
+pub mod Witness
