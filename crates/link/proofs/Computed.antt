@@ -22,7 +22,7 @@ use Rattle.link.specs.declared.decoder.DecodeAnswer.the-variants.{Nothin
 use Rattle.link.specs.Runs.{Call, Sent, Taken, sentBy, takenBy, sentAt, takenAt}
 use Rattle.link.specs.Recovery.{SameTable, Origin, Wrong, Stretch, Burst, Chosen, Within}
 use Rattle.link.specs.Premises.{Guarded, BurstsOf}
-use Rattle.link.specs.Sharp.{differing, sentBlocks, takenBlocks}
+use Rattle.link.specs.Computed.{sentBlocks, takenBlocks, differing}
 
 -- ---- numbers below a bound
 
@@ -41,7 +41,7 @@ each-at P n e k h = subst P (zero-add k) (each-from P 0 n e k h)
 
 -- ---- tables
 
--- what a step that is not refused may differ in from t is not in this list
+-- all of a table that counts
 abbrev pub key : ℕ → Table → List ℕ
 key rows u = u .symbols ∷ u .span ∷ u .depth ∷ take rows (u .rows)
 
@@ -116,7 +116,7 @@ module _ {coder decoder : List ℕ} {cs ds : List Call} {xs ys ws : List ℕ} (k
   wrong-at : (p : ℕ) → getD ys (p - 1) 0 ≢ getD xs (p - 1) 0 → Wrong (sentBy coder cs) (takenBy decoder ds) p
   wrong-at p ne e = ne (sym (taken-at p) ∙ e ∙ sent-at p)
 
-  pub wrong-in : (p : ℕ) → 1 ≤ p → p ≤ length (takenBy decoder ds) → Wrong (sentBy coder cs) (takenBy decoder ds) p → In p ws
+  wrong-in : (p : ℕ) → 1 ≤ p → p ≤ length (takenBy decoder ds) → Wrong (sentBy coder cs) (takenBy decoder ds) p → In p ws
   wrong-in p from to ne =
       let a = count in
       let m = k .many in

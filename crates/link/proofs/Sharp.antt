@@ -25,7 +25,8 @@ use Rattle.link.specs.Coder.{coderWords, coderFault, coderJoining, coded
 use Rattle.link.specs.Decoder.{delayOf, pendingOf, syndromeOf, delayedOf, delayedOut, decoderFault, decoderJoining, decoderRegister, decoderFound, partNext, decoderNext, delivered, delivery, DecoderFormed}
 use Rattle.link.specs.Runs.{Call, Sent, Taken, run, sentAt, takenAt}
 use Rattle.link.specs.Recovery.{Origin, Wrong, Stretch, Burst, Chosen, Within}
-use Rattle.link.specs.Sharp.{Z, calls, filled, differing, zerosSent, received, Shows, delivers, lateGuard, closeBursts, longBurst, SHARP-RUNS, RecoveryWith, BOUNDS, GUARD-SHARP, GAP-SHARP, LENGTH-SHARP}
+use Rattle.link.specs.Computed.{calls, delivers, differing}
+use Rattle.link.specs.Sharp.{Z, filled, zerosSent, received, Shows, lateGuard, closeBursts, longBurst, SHARP-RUNS, RecoveryWith, BOUNDS, GUARD-SHARP, GAP-SHARP, LENGTH-SHARP}
 use Rattle.link.proofs.Formed.{zero-word, started-formed}
 use Rattle.link.proofs.Recovery.{recovery}
 use Rattle.link.proofs.Premises.{fades, same-delivery}
@@ -34,10 +35,10 @@ use Rattle.link.proofs.Computed.{each-at, key, In, Places, count, guard
 -- ---- what is computed
 
 -- a step of either run is handed Z, and zeros are sent
-pub record Handed (pending : ℕ) (blocks : List ℕ) : Type 0 where
-  pub sent : map (λ (x : Sent). key 1 (x .table)) (zerosSent (length blocks)) ≡ replicate (length (replicate {A = ℕ} (length blocks) 0)) (key 1 Z)
-  pub taken : map (λ (x : Taken). key 1 (x .table)) (received pending blocks) ≡ replicate (length blocks) (key 1 Z)
-  pub infos : map (λ (x : Sent). x .info) (zerosSent (length blocks)) ≡ replicate (length blocks) 0
+record Handed (pending : ℕ) (blocks : List ℕ) : Type 0 where
+  sent : map (λ (x : Sent). key 1 (x .table)) (zerosSent (length blocks)) ≡ replicate (length (replicate {A = ℕ} (length blocks) 0)) (key 1 Z)
+  taken : map (λ (x : Taken). key 1 (x .table)) (received pending blocks) ≡ replicate (length blocks) (key 1 Z)
+  infos : map (λ (x : Sent). x .info) (zerosSent (length blocks)) ≡ replicate (length blocks) 0
 
 computed : SHARP-RUNS × (Handed 4 lateGuard × Handed 0 closeBursts × Handed 0 longBurst)
 unfolding run differing coderFault coderJoining codedBlock coderNext decoderFault delayedOut decoderJoining decoderRegister decoderFound partNext decoderNext delivered delivery joining firstOf fit sizesFit rowsFit leastCoefficients leastFrom combination bit odd xor _⊕_
@@ -84,14 +85,14 @@ module _ (pending : ℕ) (blocks wrong : List ℕ) (answers : List DecodeAnswer)
   abbrev coder : List ℕ
   coder = started (coderWords Z)
 
+  abbrev zeros : List ℕ
+  zeros = replicate (length blocks) 0
+
   abbrev cs : List Call
-  cs = calls Z (replicate (length blocks) 0)
+  cs = calls Z zeros
 
   abbrev ds : List Call
   ds = calls Z blocks
-
-  abbrev zeros : List ℕ
-  zeros = replicate (length blocks) 0
 
   places : Places coder (filled pending) cs ds zeros blocks wrong
   places = record {
@@ -111,13 +112,13 @@ module _ (pending : ℕ) (blocks wrong : List ℕ) (answers : List DecodeAnswer)
       sym (List·getD-map (λ (x : Sent). x .info) (zerosSent (length blocks)) (p - 1) (record { table = zeroTable; info = 0; block = 0 }))
       ∙ ap (λ (l : List ℕ). getD l (p - 1) 0) (h .infos) ∙ zero-word (length blocks) (p - 1)
 
-  pub burst : (long a b : ℕ) → 1 ≤ a → a ≤ b → b < a + long → b ≤ length blocks → 0 < getD blocks (a - 1) 0 → 0 < getD blocks (b - 1) 0
+  burst : (long a b : ℕ) → 1 ≤ a → a ≤ b → b < a + long → b ≤ length blocks → 0 < getD blocks (a - 1) 0 → 0 < getD blocks (b - 1) 0
       → Burst (Wrong (zerosSent (length blocks)) (received pending blocks)) long (length (received pending blocks)) (record { first = a; last = b })
   burst long a b from order short inside u v =
       burst-by places long a b from order short inside
       (λ e. let z = zero-word (length blocks) (a - 1) in omega arith) (λ e. let z = zero-word (length blocks) (b - 1) in omega arith)
 
-  pub would-answer : (right long gap : Table → ℕ) → RecoveryWith right long gap → pending < 8 → (chosen : List Stretch)
+  would-answer : (right long gap : Table → ℕ) → RecoveryWith right long gap → pending < 8 → (chosen : List Stretch)
       → Chosen (Wrong (zerosSent (length blocks)) (received pending blocks)) (long Z) (gap Z) (length (received pending blocks)) chosen
       → ((p : ℕ) → In p wrong → Within p chosen × (right Z < p)) → (p : ℕ) → right Z < p → p ≤ length blocks
       → (mark : Mark) × (getD answers (p - 1) NothingYet ≡ delivers 0 mark) × (mark ≢ Doubtful)

@@ -17,7 +17,7 @@ use Rattle.link.specs.Coder.{pendingAt, coderFault, coderJoining, codedB
 use Rattle.link.specs.Decoder.{pendingOf, syndromeOf, delayedOf, delayedOut, decoderFault, decoderJoining, decoderRegister, decoderFound, partNext, decoderNext, delivered, delivery, DecoderFormed}
 use Rattle.link.specs.Runs.{Sent, Taken, run, sentBy, takenBy}
 use Rattle.link.specs.Recovery.{Origin, Wrong, Stretch, Chosen, Within}
-use Rattle.link.specs.Sharp.{differing}
+use Rattle.link.specs.Computed.{refusals, differing}
 use Rattle.link.specs.Witness.{made, coderMemory, decoderMemory, coderCalls, decoderCalls, allSent, allTaken, WITNESS-RUN, WITNESS, WITNESS-RECOVERED}
 use Rattle.link.proofs.Recovery.{recovery}
 use Rattle.link.proofs.Premises.{fades}
@@ -31,8 +31,8 @@ record Tables : Type 0 where
   taken : map (λ (x : Taken). key 1 (x .table)) (takenBy decoderMemory decoderCalls) ≡ replicate 28 (key 1 made)
 
 computed : WITNESS-RUN × Tables
-unfolding run differing coderFault coderJoining codedBlock coderNext decoderFault delayedOut decoderJoining decoderRegister decoderFound partNext decoderNext delivered delivery joining firstOf fit sizesFit rowsFit leastCoefficients leastFrom combination bit odd xor _⊕_
-computed = ((refl, refl, refl, refl), record { sent = refl; taken = refl })
+unfolding run refusals differing coderFault coderJoining codedBlock coderNext decoderFault delayedOut decoderJoining decoderRegister decoderFound partNext decoderNext delivered delivery joining firstOf fit sizesFit rowsFit leastCoefficients leastFrom combination bit odd xor _⊕_
+computed = ((refl, refl, refl, refl, refl, refl), record { sent = refl; taken = refl })
 
 pub witness-run : WITNESS-RUN
 witness-run = computed .0
@@ -65,7 +65,7 @@ decoder-formed = record {
 }
 
 places : Places coderMemory decoderMemory coderCalls decoderCalls allSent allTaken (13 ∷ 14 ∷ 21 ∷ 22 ∷ [])
-places = record { sent = witness-run .0; taken = witness-run .1; wrong = witness-run .2; many = omega arith }
+places = record { sent = witness-run .2; taken = witness-run .3; wrong = witness-run .4; many = omega arith }
 
 bursts : List Stretch
 bursts = record { first = 13; last = 14 } ∷ record { first = 21; last = 22 } ∷ []

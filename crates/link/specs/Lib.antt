@@ -7,5 +7,6 @@ pub mod Runs
 pub mod Recovery
 pub mod Formed
 pub mod Premises
+pub mod Computed
 pub mod Sharp
 pub mod Witness

@@ -19,6 +19,8 @@ use Rattle.link.specs.Runs.{Call, sentBy, takenBy, sentAt, takenAt, code
 use Rattle.link.specs.Recovery.{Origin, Wrong, Bursts, Fades, Recovered}
 use Rattle.link.specs.Formed.{CoderTables, DecoderTables}
 
+-- 01, "After a fade": an accepted or a made table; "each step that is not refused uses the decoder's table"; "at least as many blocks are sent as
+-- taken"; and "Places 1 to 2 × m × (N − 1) are right", here places 1 to `right`
 pub record Guarded (right : ℕ) (t : Table) (coder decoder : List ℕ) (cs ds : List Call) : Type 0 where
   pub origin : Origin t
   pub coder-tables : CoderTables t coder cs
@@ -26,6 +28,7 @@ pub record Guarded (right : ℕ) (t : Table) (coder decoder : List ℕ) (cs ds :
   pub enough : length (takenBy decoder ds) ≤ length (sentBy coder cs)
   pub guard : (p : ℕ) → 1 ≤ p → p ≤ right → p ≤ length (takenBy decoder ds) → takenAt (takenBy decoder ds) p .block ≡ sentAt (sentBy coder cs) p .block
 
+-- "Bursts can be chosen so that every wrong place lies in a chosen one, and between a chosen one and the next lie at least m × (N − 1) places"
 abbrev pub BurstsOf : ℕ → ℕ → List ℕ → List ℕ → List Call → List Call → Type 0
 BurstsOf long gap coder decoder cs ds = Bursts (Wrong (sentBy coder cs) (takenBy decoder ds)) long gap (length (takenBy decoder ds))
 
@@ -34,7 +37,7 @@ PREMISES = (t : Table) (coder decoder : List ℕ) (cs ds : List Call)
     → Fades t coder decoder cs ds
     ↔ (CoderFormed t coder × DecoderFormed t decoder × Guarded (2 * delayOf t) t coder decoder cs ds × BurstsOf (t .depth) (delayOf t) coder decoder cs ds)
 
--- cs0 and ds0 come before, cs and ds after: places count from the end of cs0 and of ds0 on. What was taken before is any damage, and the two need
+-- "from any well-formed one on": cs0 and ds0 come before, cs and ds after: places count from the end of cs0 and of ds0 on. What was taken before is any damage, and the two need
 -- not have equally many places.
 abbrev pub RECOVERY-LATER : Type 0
 RECOVERY-LATER = (t : Table) (coder decoder : List ℕ) (cs0 ds0 cs ds : List Call)
@@ -44,6 +47,7 @@ RECOVERY-LATER = (t : Table) (coder decoder : List ℕ) (cs0 ds0 cs ds : List Ca
     → (p : ℕ) → 2 * delayOf t < p → p ≤ length (takenBy (decoderAfter decoder ds0) ds)
     → Recovered (sentBy (coderAfter coder cs0) cs) (takenBy (decoderAfter decoder ds0) ds) (delayOf t) p
 
+-- "with a mark other than doubtful": so, where all else is as asked for, bursts were longer or closer
 abbrev pub DOUBTFUL : Type 0
 DOUBTFUL = (t : Table) (coder decoder : List ℕ) (cs ds : List Call)
     → CoderFormed t coder → DecoderFormed t decoder → Guarded (2 * delayOf t) t coder decoder cs ds

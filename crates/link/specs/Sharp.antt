@@ -2,54 +2,37 @@
 -- place too few at first, one place too few between two bursts, and one place too many in a burst; all else is as recovery asks for it.
 --
 --   Z                           the table of 01's examples
---   calls t blocks              steps that are handed the table t and these blocks
 --   filled pending              a decoder memory of Z with that pending word, its fill complete and all else 0
---   differing k xs ys           the places, counted from k, at which two lists of blocks differ
---   sentBlocks, takenBlocks     the blocks of a run
---   Shows pending received wrong answers   what a run from that memory on takes, where it is wrong, and what it answers
+--   zerosSent count             what the coder sends
+--   received pending blocks     what the decoder makes of these blocks, from that memory on
+--   Shows pending blocks wrong answers   these blocks are taken, wrong at these places, and so answered
+--   lateGuard, closeBursts, longBurst   the blocks of the three runs
 --   SHARP-RUNS                  the three runs
 --   RecoveryWith right long gap recovery with other numbers in place of 01's
 --   BOUNDS                      it holds with 01's
 --   GUARD-SHARP, GAP-SHARP, LENGTH-SHARP   and with none of the three replaced by the next one
 use mathlib.Core.Path.{_≡_}
-use mathlib.Core.Bool.{true, false}
-use mathlib.Core.List.{List, [], _∷_, _++_, map}
-use Prim.Native.Nat.{ℕ, suc, _+_, _-_, _*_, _≤_, _<_}
-use lib.Dec.{eqb}
+use mathlib.Core.List.{List, [], _∷_, _++_}
+use Prim.Native.Nat.{ℕ, _+_, _-_, _*_, _≤_, _<_}
 use lib.ListN.{length, replicate}
 use Rattle.tables.specs.declared.table.Table.{Table}
 use Rattle.tables.specs.Table.{table}
-use Rattle.link.specs.declared.decoder.Mark.{Mark}
 use Rattle.link.specs.declared.decoder.Mark.the-variants.{Clean, Doubtful, Held}
 use Rattle.link.specs.declared.decoder.DecodeAnswer.{DecodeAnswer}
-use Rattle.link.specs.declared.decoder.DecodeAnswer.the-variants.{Delivery}
 use Rattle.link.specs.Start.{started}
 use Rattle.link.specs.Coder.{coderWords, CoderFormed}
 use Rattle.link.specs.Decoder.{delayOf, DecoderFormed}
 use Rattle.link.specs.Runs.{Call, Sent, Taken, sentBy, takenBy}
 use Rattle.link.specs.Recovery.{Recovered}
 use Rattle.link.specs.Premises.{Guarded, BurstsOf}
+use Rattle.link.specs.Computed.{calls, sentBlocks, takenBlocks, answersOf, delivers, differing}
 
 -- ""Z" is n = 2, N = 4, row 10."
 abbrev pub Z : Table
 Z = table 2 4 1 (10 ∷ replicate 14 0)
 
-abbrev pub calls : Table → List ℕ → List Call
-calls t blocks = map (λ (b : ℕ). record { table = t; block = b }) blocks
-
 abbrev pub filled : ℕ → List ℕ
 filled pending = 0 ∷ 3 ∷ pending ∷ replicate 4 0
-
-unfoldable pub differing : ℕ → List ℕ → List ℕ → List ℕ
-differing k [] ys = []
-differing k (x ∷ xs) [] = []
-differing k (x ∷ xs) (y ∷ ys) = elim (eqb x y) [ true ↦ differing (suc k) xs ys | false ↦ k ∷ differing (suc k) xs ys ]
-
-abbrev pub sentBlocks : List Sent → List ℕ
-sentBlocks xs = map (λ (x : Sent). x .block) xs
-
-abbrev pub takenBlocks : List Taken → List ℕ
-takenBlocks xs = map (λ (x : Taken). x .block) xs
 
 abbrev pub zerosSent : ℕ → List Sent
 zerosSent count = sentBy (started (coderWords Z)) (calls Z (replicate count 0))
@@ -61,10 +44,7 @@ abbrev pub Shows : ℕ → List ℕ → List ℕ → List DecodeAnswer → Type 
 Shows pending blocks wrong answers =
     (sentBlocks (zerosSent (length blocks)) ≡ replicate (length blocks) 0) × (takenBlocks (received pending blocks) ≡ blocks)
     × (differing 1 (takenBlocks (received pending blocks)) (sentBlocks (zerosSent (length blocks))) ≡ wrong)
-    × (map (λ (x : Taken). x .answer) (received pending blocks) ≡ answers)
-
-abbrev pub delivers : ℕ → Mark → DecodeAnswer
-delivers info mark = Delivery (record { info = info; mark = mark })
+    × (answersOf (received pending blocks) ≡ answers)
 
 abbrev pub lateGuard : List ℕ
 lateGuard = replicate 5 0 ++ (2 ∷ [])

@@ -7,20 +7,23 @@
 --   coderMemory, decoderMemory   the memories that the run begins with
 --   coderCalls, decoderCalls     what is handed over, to steps that are refused too
 --   allSent, allTaken      the blocks of the steps that are not
---   WITNESS-RUN            what is sent and taken, which places are wrong, and what is answered
+--   WITNESS-RUN            what is refused, sent and taken, which places are wrong, and what is answered
 --   WITNESS                every premise of recovery holds of it
 --   WITNESS-RECOVERED      and so does what recovery says
 use mathlib.Core.Path.{_≡_}
-use mathlib.Core.List.{List, [], _∷_, _++_, map}
+use mathlib.Core.List.{List, [], _∷_, _++_}
 use Prim.Native.Nat.{ℕ, _≤_, _<_}
 use lib.ListN.{replicate}
 use Rattle.tables.specs.declared.table.Table.{Table}
 use Rattle.tables.specs.Table.{table, zeroTable}
 use Rattle.link.specs.declared.decoder.Mark.the-variants.{Clean, Corrected, Doubtful, Held}
 use Rattle.link.specs.declared.decoder.DecodeAnswer.the-variants.{NothingYet}
-use Rattle.link.specs.Runs.{Call, Taken, sentBy, takenBy}
+use Rattle.link.specs.Runs.{Call, sentBy, takenBy}
 use Rattle.link.specs.Recovery.{Fades, Recovered}
-use Rattle.link.specs.Sharp.{Z, calls, differing, sentBlocks, takenBlocks, delivers}
+use Rattle.link.specs.Coder.{coderFault, coderNext}
+use Rattle.link.specs.Decoder.{decoderFault, decoderNext}
+use Rattle.link.specs.Computed.{calls, sentBlocks, takenBlocks, answersOf, delivers, refusals, differing}
+use Rattle.link.specs.Sharp.{Z}
 
 -- that it is made is the first of the premises
 abbrev pub made : Table
@@ -37,14 +40,14 @@ coderMemory = 1 ∷ 5 ∷ 3 ∷ []
 abbrev pub decoderMemory : List ℕ
 decoderMemory = 0 ∷ 4 ∷ 6 ∷ 3 ∷ 1 ∷ 0 ∷ 1 ∷ 2 ∷ 7 ∷ 0 ∷ 1 ∷ 1 ∷ []
 
--- 30 blocks are sent, 3 steps refused: for 15, 12 and 13
+-- 30 blocks are sent
 abbrev pub coderCalls : List Call
 coderCalls =
     calls made (1 ∷ 0 ∷ 1 ∷ 1 ∷ []) ++ calls made (2 ∷ []) ++ calls alike (0 ∷ 0 ∷ 1 ∷ 0 ∷ []) ++ calls zeroTable (0 ∷ [])
     ++ calls made (1 ∷ 1 ∷ 1 ∷ 0 ∷ 0 ∷ 1 ∷ 0 ∷ 1 ∷ 1 ∷ 0 ∷ 0 ∷ 1 ∷ []) ++ calls Z (1 ∷ [])
     ++ calls made (1 ∷ 0 ∷ 1 ∷ 0 ∷ 0 ∷ 1 ∷ 1 ∷ 1 ∷ 0 ∷ 1 ∷ [])
 
--- 28 blocks are taken, 3 steps refused: for 13, 15 and 12
+-- 28 blocks are taken
 abbrev pub decoderCalls : List Call
 decoderCalls =
     calls Z (0 ∷ []) ++ calls made (3 ∷ 2 ∷ 1 ∷ 1 ∷ 2 ∷ 0 ∷ 3 ∷ 0 ∷ 1 ∷ 3 ∷ 3 ∷ 2 ∷ 3 ∷ []) ++ calls made (4 ∷ [])
@@ -59,9 +62,10 @@ allTaken = 3 ∷ 2 ∷ 1 ∷ 1 ∷ 2 ∷ 0 ∷ 3 ∷ 0 ∷ 1 ∷ 3 ∷ 3 ∷ 2 �
 -- doubtful marks stand within the first 12 places only
 abbrev pub WITNESS-RUN : Type 0
 WITNESS-RUN =
-    (sentBlocks (sentBy coderMemory coderCalls) ≡ allSent) × (takenBlocks (takenBy decoderMemory decoderCalls) ≡ allTaken)
+    (refusals coderFault coderNext coderMemory coderCalls ≡ 15 ∷ 12 ∷ 13 ∷ []) × (refusals decoderFault decoderNext decoderMemory decoderCalls ≡ 13 ∷ 15 ∷ 12 ∷ [])
+    × (sentBlocks (sentBy coderMemory coderCalls) ≡ allSent) × (takenBlocks (takenBy decoderMemory decoderCalls) ≡ allTaken)
     × (differing 1 (takenBlocks (takenBy decoderMemory decoderCalls)) (sentBlocks (sentBy coderMemory coderCalls)) ≡ 13 ∷ 14 ∷ 21 ∷ 22 ∷ [])
-    × (map (λ (x : Taken). x .answer) (takenBy decoderMemory decoderCalls)
+    × (answersOf (takenBy decoderMemory decoderCalls)
     ≡ NothingYet ∷ NothingYet ∷ delivers 0 Clean ∷ delivers 1 Doubtful ∷ delivers 1 Held ∷ delivers 1 Doubtful
     ∷ delivers 1 Held ∷ delivers 0 Doubtful ∷ delivers 1 Held ∷ delivers 1 Doubtful ∷ delivers 0 (Corrected 2) ∷ delivers 0 (Corrected 2)
     ∷ delivers 1 Held ∷ delivers 0 Clean ∷ delivers 1 Held ∷ delivers 1 Held ∷ delivers 1 Held ∷ delivers 0 Held
