@@ -2,30 +2,26 @@
 use mathlib.Core.Path.{refl}
 use mathlib.Core.Bool.{xor}
 use mathlib.Core.List.{List, [], _∷_, _++_, map}
-use lib.ListN.{replicate}
 use Rattle.span.specs.Word.{_⊕_, odd, bit}
 use Rattle.span.specs.Combination.{combination}
 use Rattle.span.specs.Relation.{leastFrom, leastCoefficients}
-use Rattle.tables.specs.declared.table.Table.{Table}
-use Rattle.tables.specs.Table.{table, sizesFit, rowsFit, fit}
+use Rattle.tables.specs.Table.{sizesFit, rowsFit, fit}
 use Rattle.tables.specs.Format.{firstOf}
 use Rattle.tables.specs.Examples as Tables
 use Rattle.tables.proofs.Laws.{examples-hold as tables-hold}
 use Rattle.link.specs.Stream.{joining}
 use Rattle.link.specs.Coder.{coderFault, coderJoining, codedBlock, coderNext, codeAnswer, codeMemory}
 use Rattle.link.specs.Decoder.{someAbove, decoderFault, decoderJoining, decoderRegister, decoderFound, partNext, decoderNext, delivered, delivery, decodeAnswer, decodeMemory}
-use Rattle.link.specs.Examples.{answersBy, Example, tables, AllHold, steps, EXAMPLES}
+use Rattle.link.specs.Computed.{Z, answersBy}
+use Rattle.link.specs.Examples.{Example, tables, AllHold, steps, EXAMPLES}
 
 -- the examples of `tables`, and then others
 with-tables : (xs : List Tables.Example) (ys : List Example) → Tables.AllHold xs → AllHold ys → AllHold (map tables xs ++ ys)
 with-tables [] ys h k = k
 with-tables (x ∷ xs) ys h k = (h .0, with-tables xs ys (h .1) k)
 
-z : Table
-z = table 2 4 1 (10 ∷ replicate 14 0)
-
 pub examples-hold : EXAMPLES
-unfolding z answersBy codeAnswer codeMemory coderFault coderJoining codedBlock coderNext decodeAnswer decodeMemory decoderFault decoderJoining decoderRegister decoderFound partNext decoderNext delivered delivery someAbove joining combination leastFrom leastCoefficients _⊕_ odd bit xor sizesFit rowsFit fit firstOf
+unfolding answersBy codeAnswer codeMemory coderFault coderJoining codedBlock coderNext decodeAnswer decodeMemory decoderFault decoderJoining decoderRegister decoderFound partNext decoderNext delivered delivery someAbove joining combination leastFrom leastCoefficients _⊕_ odd bit xor sizesFit rowsFit fit firstOf
 examples-hold =
     let says = tables-hold .0 in
-    with-tables Tables.examples steps tables-hold ((z, says, refl), ((z, says, refl), ((z, says, refl), tt)))
+    with-tables Tables.examples steps tables-hold ((Z 1, says, refl), ((Z 1, says, refl), ((Z 1, says, refl), tt)))

@@ -28,7 +28,7 @@ place-earlier m r b k count h l = omega (arith, mul-le-mul-right m l)
 
 -- ---- the turns
 
-turn-next : (m x : ℕ) → ((suc x ≡ m) × (nextTurn m x ≡ 0)) ⊎ ((suc x ≢ m) × (nextTurn m x ≡ suc x))
+pub turn-next : (m x : ℕ) → ((suc x ≡ m) × (nextTurn m x ≡ 0)) ⊎ ((suc x ≢ m) × (nextTurn m x ≡ suc x))
 turn-next m x = go (eqb (suc x) m) refl
   where
     go : (b : Bool) → eqb (suc x) m ≡ b → ((suc x ≡ m) × (cond b 0 (suc x) ≡ 0)) ⊎ ((suc x ≢ m) × (cond b 0 (suc x) ≡ suc x))

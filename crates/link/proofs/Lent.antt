@@ -4,7 +4,7 @@
 --   lent-part    the part after the step
 --   lent-info, lent-mark   information and mark of the record
 --   lent-memory  the memory with that part in its place
-use mathlib.Core.Path.{_≡_, refl, sym, ap, ap₂, _∙_}
+use mathlib.Core.Path.{_≡_, sym, ap, ap₂, _∙_}
 use mathlib.Core.List.{List, [], _∷_, _++_}
 use Prim.Native.Nat.{ℕ, _+_, _-_, _/_, _≤_, _<_}
 use native.Mathlib.Nat.{add-zero}

@@ -20,11 +20,16 @@ mod Answers
 mod Streams
 mod Turn
 mod OneTable
+mod Formed
 mod Massey
 mod Bursts
 mod Fade
 mod Recovery
+mod Premises
 mod Guard
 mod Clean
+mod Computed
+mod Sharp
+mod Witness
 mod Examples
 mod StepExamples

@@ -1,5 +1,6 @@
 -- Runs whose steps all use the same table: their steps as records of `Memory`, on the memories that the run leaves. Assumes nothing.
 --
+--   same-step      a step under a table that is the same
 --   from-one       places count from 1, sequences from 0
 --   coded          the steps of the coder
 --   taken-table    the table of a step of the decoder
@@ -14,12 +15,10 @@ use lib.ListN.{length, getD, take}
 use Rattle.span.specs.declared.eliminate.Least.{Least}
 use Rattle.span.specs.declared.eliminate.Least.the-variants.{Missing}
 use Rattle.tables.specs.declared.table.Table.{Table}
-use Rattle.tables.specs.Table.{zeroTable}
-use Rattle.link.specs.declared.decoder.DecodeAnswer.the-variants.{NothingYet}
 use Rattle.link.specs.Stream.{rawTerm}
 use Rattle.link.specs.Coder.{infoRows, coderNext}
 use Rattle.link.specs.Decoder.{decoderNext, decoderJoining, decoderRegister, decoderFound}
-use Rattle.link.specs.Runs.{Call, Sent, Taken, sentEntry, takenEntry, sentBy, takenBy, sentAt, takenAt}
+use Rattle.link.specs.Runs.{Call, Sent, Taken, sentEntry, takenEntry, sentBy, takenBy, noneSent, noneTaken, sentAt, takenAt}
 use Rattle.link.specs.Recovery.{SameTable, CoderTables, DecoderTables}
 use Rattle.link.specs.Massey.{infoSent, blockSent, blockTaken, rawAt, registerAt, foundAt}
 use Rattle.link.proofs.Runs.{coderBefore, decoderBefore, sent-place, taken-place}
@@ -27,7 +26,7 @@ use Rattle.link.proofs.Memory.{CoderStep, coder-step, DecoderStep, deco
 use Rattle.link.proofs.Turn.{CoderRun, DecoderRun}
 
 -- a step under a table is one under any that is the same, of equal entries and equal memories after it
-same-step : {X : Type 0} (P : ℕ → ℕ → ℕ → List ℕ → X → List ℕ → Type 0) (u t : Table) → SameTable u t → (x y : X) → y ≡ x → (a b : List ℕ) → b ≡ a
+pub same-step : {X : Type 0} (P : ℕ → ℕ → ℕ → List ℕ → X → List ℕ → Type 0) (u t : Table) → SameTable u t → (x y : X) → y ≡ x → (a b : List ℕ) → b ≡ a
     → P (u .symbols) (u .span) (u .depth) (infoRows u) x a → P (t .symbols) (t .span) (t .depth) (infoRows t) y b
 same-step P u t same x y is a b on h =
     let rows = subst (λ (r : List ℕ). P (u .symbols) (u .span) (u .depth) r x a) (ap (λ (k : ℕ). take (k - 1) (u .rows)) (same .symbols) ∙ same .rows) h in
@@ -47,7 +46,7 @@ module _ (t : Table) (s : List ℕ) (cs : List Call) (tables : CoderTables t s c
       let e = sent-place s cs p h in
       let u = e .call .table in
       let is : sentAt (sentBy s cs) (suc p) ≡ sentEntry u (coderBefore s cs p) (e .call .block) =
-      ap (λ (k : ℕ). getD (sentBy s cs) k (record { table = zeroTable; info = 0; block = 0 })) (from-one p) ∙ e .is sentEntry (record { table = zeroTable; info = 0; block = 0 }) in
+      ap (λ (k : ℕ). getD (sentBy s cs) k noneSent) (from-one p) ∙ e .is sentEntry noneSent in
       let same : SameTable u t = subst (λ (v : Table). SameTable v t) (ap (λ (x : Sent). x .table) is) (tables (suc p) (omega arith) (omega arith)) in
       same-step (λ n N m infos (x : Sent) after. CoderStep n N m infos (coderBefore s cs p) (x .info) (x .block) after) u t same
       (sentEntry u (coderBefore s cs p) (e .call .block)) (sentAt (sentBy s cs) (suc p)) is (coderNext u (coderBefore s cs p) (e .call .block))
@@ -67,8 +66,8 @@ module _ (t : Table) (s : List ℕ) (ds : List Call) (tables : DecoderTables t s
   taken-is : (p : ℕ) (h : p < length (takenBy s ds))
       → takenAt (takenBy s ds) (suc p) ≡ takenEntry (taken-place s ds p h .call .table) (decoderBefore s ds p) (taken-place s ds p h .call .block)
   taken-is p h =
-      ap (λ (k : ℕ). getD (takenBy s ds) k (record { table = zeroTable; block = 0; answer = NothingYet })) (from-one p)
-      ∙ taken-place s ds p h .is takenEntry (record { table = zeroTable; block = 0; answer = NothingYet })
+      ap (λ (k : ℕ). getD (takenBy s ds) k noneTaken) (from-one p)
+      ∙ taken-place s ds p h .is takenEntry noneTaken
 
   pub taken-table : (p : ℕ) (h : p < length (takenBy s ds)) → SameTable (taken-place s ds p h .call .table) t
   taken-table p h =

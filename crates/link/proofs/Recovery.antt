@@ -2,6 +2,7 @@
 --
 --   separated, linked    the premises
 --   recovered            the claim
+--   running              the premises of `Running` among those of `Fades`
 --   recovery-any-memory, recovery   the theorems
 use mathlib.Core.Path.{_≡_, subst}
 use mathlib.Core.Logic.{_⊎_, inl, inr}
@@ -14,7 +15,7 @@ use Rattle.link.specs.declared.decoder.DecodeAnswer.{DecodeAnswer}
 use Rattle.link.specs.Coder.{infoRows}
 use Rattle.link.specs.Decoder.{delayOf}
 use Rattle.link.specs.Runs.{Call, Sent, Taken, sentBy, takenBy, sentAt, takenAt}
-use Rattle.link.specs.Recovery.{Wrong, Recovered, RECOVERY, Running, Separated, RECOVERY-ANY-MEMORY}
+use Rattle.link.specs.Recovery.{Wrong, Fades, Recovered, RECOVERY, Running, Separated, RECOVERY-ANY-MEMORY}
 use Rattle.link.specs.Massey.{infoSent, blockSent, blockTaken}
 use Rattle.link.proofs.Origin.{origin-coding}
 use Rattle.link.proofs.Runs.{coderBefore, decoderBefore}
@@ -67,9 +68,11 @@ recovery-any-memory t coder decoder cs ds f guard apart (suc p) late h =
     (λ q e.
     recovers (linked f) (separated f apart) (λ i early inside. guard (suc i) (omega arith) (omega arith) (omega arith)) p q (omega arith) (omega arith) e)
 
+pub running : {t : Table} {coder decoder : List ℕ} {cs ds : List Call} → Fades t coder decoder cs ds → Running t coder decoder cs ds
+running f = record { origin = f .origin; coder-tables = f .coder-tables; decoder-tables = f .decoder-tables; enough = f .enough }
+
 -- well-formed memories are not needed, and chosen bursts keep the wrong places apart
 pub recovery : RECOVERY
 recovery t coder decoder cs ds f =
-    recovery-any-memory t coder decoder cs ds
-    (record { origin = f .origin; coder-tables = f .coder-tables; decoder-tables = f .decoder-tables; enough = f .enough }) (f .guard)
+    recovery-any-memory t coder decoder cs ds (running f) (f .guard)
     (bursts-apart (Wrong (sentBy coder cs) (takenBy decoder ds)) (t .depth) (delayOf t) (length (takenBy decoder ds)) (f .bursts))

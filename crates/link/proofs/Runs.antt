@@ -1,8 +1,14 @@
 -- Runs of calls, for coder and decoder alike: a refused call leaves the memory and has no place, so the entries are those of the calls that are
 -- taken, each on the memory that the one before it left. Assumes nothing.
-use mathlib.Core.Path.{_≡_, refl}
+--
+--   before, before-first     the memory before the call that is taken at a place, and at the first
+--   Place, run-place         what stands at a place
+--   ran-keeps                what every call keeps, a run keeps
+--   run-append               a run over two lists
+--   sent-place, taken-place  the places of coder and decoder
+use mathlib.Core.Path.{_≡_, refl, ap}
 use mathlib.Core.Bool.{Bool, true, false}
-use mathlib.Core.List.{List, [], _∷_}
+use mathlib.Core.List.{List, [], _∷_, _++_}
 use Prim.Native.Nat.{ℕ, zero, suc, _<_}
 use native.Mathlib.Omega.{arith}
 use borrow.Author.Tests.{eqb-true}
@@ -11,7 +17,7 @@ use lib.ListN.{length, getD}
 use Rattle.tables.specs.declared.table.Table.{Table}
 use Rattle.link.specs.Coder.{coderFault, coderNext}
 use Rattle.link.specs.Decoder.{decoderFault, decoderNext}
-use Rattle.link.specs.Runs.{Call, run, sentEntry, takenEntry, sentBy, takenBy}
+use Rattle.link.specs.Runs.{Call, run, sentEntry, takenEntry, sentBy, takenBy, ran, RUN-APPEND}
 
 module _ (fault : Table → List ℕ → ℕ → ℕ) (next : Table → List ℕ → ℕ → List ℕ) where
   later : List ℕ → (ℕ → List ℕ) → ℕ → List ℕ
@@ -76,6 +82,58 @@ module _ (fault : Table → List ℕ → ℕ → ℕ) (next : Table → List ℕ
       go true free more same l =
           place-later (length (run fault next entry (next (c .table) s (c .block)) cs)) c s cs (eqb-true (fault (c .table) s (c .block)) 0 free) more p l
       go false refused more same l = same l
+
+  -- what a call that is taken keeps, a run keeps, if each of its entries allows it
+  pub ran-keeps : {X : Type 0} (entry : Table → List ℕ → ℕ → X) (Kept : List ℕ → Type 0) (allows : X → Type 0) (d : X)
+      → ((c : Call) (s : List ℕ) → fault (c .table) s (c .block) ≡ 0 → allows (entry (c .table) s (c .block)) → Kept s → Kept (next (c .table) s (c .block)))
+      → (s : List ℕ) (cs : List Call) → Kept s → ((p : ℕ) → p < length (run fault next entry s cs) → allows (getD (run fault next entry s cs) p d))
+      → Kept (ran fault next s cs)
+  unfolding run ran
+  ran-keeps entry Kept allows d step s [] k a = k
+  ran-keeps {X} entry Kept allows d step s (c ∷ cs) k a =
+      go (eqb (fault (c .table) s (c .block)) 0) refl (ran-keeps entry Kept allows d step (next (c .table) s (c .block)) cs) (ran-keeps entry Kept allows d step s cs) a
+    where
+      there : List ℕ
+      there = next (c .table) s (c .block)
+
+      Allowed : List X → Type 0
+      Allowed xs = (p : ℕ) → p < length xs → allows (getD xs p d)
+
+      go : (b : Bool) → eqb (fault (c .table) s (c .block)) 0 ≡ b
+          → (Kept there → Allowed (run fault next entry there cs) → Kept (ran fault next there cs))
+          → (Kept s → Allowed (run fault next entry s cs) → Kept (ran fault next s cs))
+          → Allowed (elim b [ true ↦ entry (c .table) s (c .block) ∷ run fault next entry there cs | false ↦ run fault next entry s cs ])
+          → Kept (elim b [ true ↦ ran fault next there cs | false ↦ ran fault next s cs ])
+      go true free taken refused all =
+          taken (step c s (eqb-true (fault (c .table) s (c .block)) 0 free) (all 0 (omega arith)) k) (λ p h. all (suc p) (omega arith))
+      go false free taken refused all = refused k all
+
+-- ---- a run over two lists
+
+pub run-append : RUN-APPEND
+unfolding run ran
+run-append X fault next entry s [] cs′ = (refl, refl)
+run-append X fault next entry s (c ∷ cs) cs′ =
+    go (eqb (fault (c .table) s (c .block)) 0) (run-append X fault next entry (next (c .table) s (c .block)) cs cs′) (run-append X fault next entry s cs cs′)
+  where
+    here : X
+    here = entry (c .table) s (c .block)
+
+    there : List ℕ
+    there = next (c .table) s (c .block)
+
+    -- the run over both lists, and over the first; the memory after both, and after the first
+    Appended : List X → List X → List ℕ → List ℕ → Type 0
+    Appended all first after between = (all ≡ first ++ run fault next entry between cs′) × (after ≡ ran fault next between cs′)
+
+    go : (b : Bool) → Appended (run fault next entry there (cs ++ cs′)) (run fault next entry there cs) (ran fault next there (cs ++ cs′)) (ran fault next there cs)
+        → Appended (run fault next entry s (cs ++ cs′)) (run fault next entry s cs) (ran fault next s (cs ++ cs′)) (ran fault next s cs)
+        → Appended (elim b [ true ↦ here ∷ run fault next entry there (cs ++ cs′) | false ↦ run fault next entry s (cs ++ cs′) ])
+        (elim b [ true ↦ here ∷ run fault next entry there cs | false ↦ run fault next entry s cs ])
+        (elim b [ true ↦ ran fault next there (cs ++ cs′) | false ↦ ran fault next s (cs ++ cs′) ])
+        (elim b [ true ↦ ran fault next there cs | false ↦ ran fault next s cs ])
+    go true taken refused = (ap (λ (xs : List X). here ∷ xs) (taken .0), taken .1)
+    go false taken refused = refused
 
 -- ---- coder and decoder
 

@@ -36,7 +36,7 @@ pub record Stream (n w : ℕ) (rows : List ℕ) (D s e : ℕ → ℕ) (count : �
   pub joint-lt : D 0 < 2 ^ w
   pub syndrome-lt : (k : ℕ) → k < count → s k < 2 ^ w
 
-kept-lt : (f : Least) (x j : ℕ) → x < 2 ^ suc j → keptOf f x < 2 ^ j
+pub kept-lt : (f : Least) (x j : ℕ) → x < 2 ^ suc j → keptOf f x < 2 ^ j
 kept-lt (Found e) x j h = pow-pos j
 kept-lt Missing x j h = omega arith
 

@@ -1,8 +1,8 @@
 -- The examples T1 to T12 of 01, as data. T1 to T9 are those of `tables`. The depth m is 1 throughout.
 --
---   answersBy answer memory t s bs   what the calls with the blocks bs answer, each on the memory that the one before it left
 --   Example     what is asked and what is answered
 --   Holds x     the definitions give that answer
+--   bytesOfZ    the bytes of T1
 --   steps       T10 to T12
 --   examples    T1 to T12
 --   EXAMPLES    all of them hold
@@ -15,18 +15,13 @@ use Rattle.tables.specs.Reading.{Says}
 use Rattle.tables.specs.Examples as Tables
 use Rattle.link.specs.declared.coder.CodeAnswer.{CodeAnswer}
 use Rattle.link.specs.declared.coder.CodeAnswer.the-variants.{Coded}
-use Rattle.link.specs.declared.decoder.Mark.{Mark}
 use Rattle.link.specs.declared.decoder.Mark.the-variants.{Clean, Held, Corrected, Doubtful}
 use Rattle.link.specs.declared.decoder.DecodeAnswer.{DecodeAnswer}
-use Rattle.link.specs.declared.decoder.DecodeAnswer.the-variants.{Delivery, NothingYet}
+use Rattle.link.specs.declared.decoder.DecodeAnswer.the-variants.{NothingYet}
 use Rattle.link.specs.Start.{started}
 use Rattle.link.specs.Coder.{codeAnswer, codeMemory}
 use Rattle.link.specs.Decoder.{decodeAnswer, decodeMemory}
-
--- every call counts, refused or not
-unfoldable pub answersBy : {X : Type 0} (answer : Table → List ℕ → ℕ → X) (memory : Table → List ℕ → ℕ → List ℕ) → Table → List ℕ → List ℕ → List X
-answersBy answer memory t s [] = []
-answersBy answer memory t s (b ∷ bs) = answer t s b ∷ answersBy answer memory t (memory t s b) bs
+use Rattle.link.specs.Computed.{calls, answersBy, delivers}
 
 -- the bytes of the table, the first memory, the blocks handed to the calls, and the answers
 pub data Example : Type 0 where
@@ -37,29 +32,26 @@ pub data Example : Type 0 where
 -- the bytes are accepted, and with their table the calls so answer
 abbrev pub Holds : Example → Type 0
 Holds (tables x) = Tables.Holds x
-Holds (codes bytes s bs cs) = (t : Table) × Says bytes [] t × (answersBy codeAnswer codeMemory t s bs ≡ cs)
-Holds (decodes bytes s rs ds) = (t : Table) × Says bytes [] t × (answersBy decodeAnswer decodeMemory t s rs ≡ ds)
+Holds (codes bytes s bs cs) = (t : Table) × Says bytes [] t × (answersBy codeAnswer codeMemory s (calls t bs) ≡ cs)
+Holds (decodes bytes s rs ds) = (t : Table) × Says bytes [] t × (answersBy decodeAnswer decodeMemory s (calls t rs) ≡ ds)
 
 abbrev pub AllHold : List Example → Type 0
 AllHold [] = Unit {0}
 AllHold (x ∷ xs) = Holds x × AllHold xs
 
--- "Z" is n = 2, N = 4, row 10, by the bytes of T1
-abbrev pub Z : List ℕ
-Z = 1 ∷ 2 ∷ 4 ∷ 1 ∷ 2 ∷ 1 ∷ 10 ∷ replicate 8 0
-
-abbrev pub delivers : ℕ → Mark → DecodeAnswer
-delivers info mark = Delivery (record { info = info; mark = mark })
+-- Z, as the bytes of T1
+abbrev pub bytesOfZ : List ℕ
+bytesOfZ = 1 ∷ 2 ∷ 4 ∷ 1 ∷ 2 ∷ 1 ∷ 10 ∷ replicate 8 0
 
 -- T10 to T12. A coder of Z has 2 words and a decoder 7: turn, fill, pending word, syndrome word, and 3 delayed blocks.
 abbrev pub steps : List Example
 steps =
     -- T10: "Z codes 1, 1, 0, 0, 0 as 1, 3, 2, 2, 2."
-    codes Z (started 2) (1 ∷ 1 ∷ 0 ∷ 0 ∷ 0 ∷ []) (Coded 1 ∷ Coded 3 ∷ Coded 2 ∷ Coded 2 ∷ Coded 2 ∷ [])
+    codes bytesOfZ (started 2) (1 ∷ 1 ∷ 0 ∷ 0 ∷ 0 ∷ []) (Coded 1 ∷ Coded 3 ∷ Coded 2 ∷ Coded 2 ∷ Coded 2 ∷ [])
     -- T11: "Z, started, receives 2, 2, 0, 0: three times nothing yet, then 0, doubtful."
-    ∷ decodes Z (started 7) (2 ∷ 2 ∷ 0 ∷ 0 ∷ []) (NothingYet ∷ NothingYet ∷ NothingYet ∷ delivers 0 Doubtful ∷ [])
+    ∷ decodes bytesOfZ (started 7) (2 ∷ 2 ∷ 0 ∷ 0 ∷ []) (NothingYet ∷ NothingYet ∷ NothingYet ∷ delivers 0 Doubtful ∷ [])
     -- T12: "Z, fill 3, pending word 4, all else 0, receives zeros: calls 1 to 5 deliver 0, call 6 delivers 0 marked corrected 2, call 7 is clean."
-    ∷ decodes Z (0 ∷ 3 ∷ 4 ∷ 0 ∷ 0 ∷ 0 ∷ 0 ∷ []) (replicate 7 0)
+    ∷ decodes bytesOfZ (0 ∷ 3 ∷ 4 ∷ 0 ∷ 0 ∷ 0 ∷ 0 ∷ []) (replicate 7 0)
     (delivers 0 Clean ∷ delivers 0 Clean ∷ delivers 0 Held ∷ delivers 0 Held ∷ delivers 0 Held ∷ delivers 0 (Corrected 2) ∷ delivers 0 Clean ∷ [])
     ∷ []
 

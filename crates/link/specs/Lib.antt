@@ -1,5 +1,5 @@
--- `link`: coder and decoder on lent memory, runs of their steps, recovery after a fade, the guard, the clean start, Massey's code, and the
--- examples.
+-- `link`: coder and decoder on lent memory, runs of their steps, recovery after a fade, well-formed memories, the guard, the clean start, Massey's
+-- code, runs that are computed, and the examples.
 pub mod Stream
 pub mod Marks
 pub mod Start
@@ -9,8 +9,13 @@ pub mod Answers
 pub mod Streams
 pub mod Runs
 pub mod Recovery
+pub mod Formed
+pub mod Premises
 pub mod Guard
 pub mod Clean
 pub mod Massey
+pub mod Computed
+pub mod Sharp
+pub mod Witness
 pub mod Examples
 pub mod StepExamples

@@ -140,4 +140,5 @@ RECOVERY-ANY-MEMORY =
     (t : Table) (coder decoder : List ℕ) (cs ds : List Call) → Running t coder decoder cs ds
     → ((p : ℕ) → 1 ≤ p → p ≤ 2 * delayOf t → p ≤ length (takenBy decoder ds) → Right (sentBy coder cs) (takenBy decoder ds) p)
     → Separated (Wrong (sentBy coder cs) (takenBy decoder ds)) (t .depth) (delayOf t) (length (takenBy decoder ds))
-    → ((p : ℕ) → 2 * delayOf t < p → p ≤ length (takenBy decoder ds) → Recovered (sentBy coder cs) (takenBy decoder ds) (delayOf t) p)
+    → (p : ℕ) → 2 * delayOf t < p → p ≤ length (takenBy decoder ds)
+    → Recovered (sentBy coder cs) (takenBy decoder ds) (delayOf t) p

@@ -4,9 +4,13 @@
 --   Sent, Taken              what is kept of a coder step, and of a decoder step, that is not refused
 --   run fault next entry     the steps that are not refused, in order
 --   sentBy s cs, takenBy s ds   those of the coder and those of the decoder, from the memory s on
---   sentAt xs p, takenAt xs p   entry p of such a list, counted from 1
+--   ran fault next           the memory after all the steps
+--   coderAfter s cs, decoderAfter s ds   that of the coder and that of the decoder
+--   sentAt xs p, takenAt xs p   entry p of such a list, counted from 1; past its end noneSent and noneTaken
+--   RUN-APPEND               a run over two lists is one over the first, and then one over the second from the memory after it
+use mathlib.Core.Path.{_≡_}
 use mathlib.Core.Bool.{true, false}
-use mathlib.Core.List.{List, [], _∷_}
+use mathlib.Core.List.{List, [], _∷_, _++_}
 use Prim.Native.Nat.{ℕ, _-_}
 use lib.Dec.{eqb}
 use lib.ListN.{getD}
@@ -55,9 +59,34 @@ sentBy = run coderFault coderNext sentEntry
 abbrev pub takenBy : List ℕ → List Call → List Taken
 takenBy = run decoderFault decoderNext takenEntry
 
+-- "Each step gets the memory as the last left it, nothing else writes it"
+unfoldable pub ran : (fault : Table → List ℕ → ℕ → ℕ) (next : Table → List ℕ → ℕ → List ℕ) → List ℕ → List Call → List ℕ
+ran fault next s [] = s
+ran fault next s (c ∷ cs) =
+    elim (eqb (fault (c .table) s (c .block)) 0) [ true ↦ ran fault next (next (c .table) s (c .block)) cs | false ↦ ran fault next s cs ]
+
+abbrev pub coderAfter : List ℕ → List Call → List ℕ
+coderAfter = ran coderFault coderNext
+
+abbrev pub decoderAfter : List ℕ → List Call → List ℕ
+decoderAfter = ran decoderFault decoderNext
+
+-- past the end of a list
+abbrev pub noneSent : Sent
+noneSent = record { table = zeroTable; info = 0; block = 0 }
+
+abbrev pub noneTaken : Taken
+noneTaken = record { table = zeroTable; block = 0; answer = NothingYet }
+
 -- "Both lists count from 1"
 abbrev pub sentAt : List Sent → ℕ → Sent
-sentAt xs p = getD xs (p - 1) (record { table = zeroTable; info = 0; block = 0 })
+sentAt xs p = getD xs (p - 1) noneSent
 
 abbrev pub takenAt : List Taken → ℕ → Taken
-takenAt xs p = getD xs (p - 1) (record { table = zeroTable; block = 0; answer = NothingYet })
+takenAt xs p = getD xs (p - 1) noneTaken
+
+abbrev pub RUN-APPEND : Type 1
+RUN-APPEND =
+    (X : Type 0) (fault : Table → List ℕ → ℕ → ℕ) (next : Table → List ℕ → ℕ → List ℕ) (entry : Table → List ℕ → ℕ → X) (s : List ℕ) (cs cs′ : List Call)
+    → (run fault next entry s (cs ++ cs′) ≡ run fault next entry s cs ++ run fault next entry (ran fault next s cs) cs′)
+    × (ran fault next s (cs ++ cs′) ≡ ran fault next (ran fault next s cs) cs′)

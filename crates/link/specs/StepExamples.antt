@@ -5,14 +5,15 @@
 --   stepCases              the table
 --   STEP-CASES             every line of it is right
 use mathlib.Core.Path.{_≡_}
-use mathlib.Core.List.{List, [], _∷_, _++_, map}
+use mathlib.Core.List.{List, [], _∷_, map}
 use Prim.Native.Nat.{ℕ, _-_, _^_}
-use lib.ListN.{length, replicate}
+use lib.ListN.{replicate}
 use Rattle.tables.specs.declared.table.Table.{Table}
-use Rattle.tables.specs.Table.{table, zeroTable}
+use Rattle.tables.specs.Table.{zeroTable}
 use Rattle.link.specs.Coder.{codeAnswer, codeMemory}
 use Rattle.link.specs.Decoder.{decodeAnswer, decodeMemory}
 use Rattle.link.specs.Answers.{codeNumbers, decodeNumbers}
+use Rattle.link.specs.Computed.{code, Z}
 
 pub data Side : Type 0 where
   coder : Side
@@ -40,14 +41,7 @@ declines side t s b k = record { side = side; table = t; memory = s; block = b; 
 abbrev pub nothingYet : List ℕ
 nothingYet = 0 ∷ 0 ∷ 0 ∷ []
 
--- n, N, m and the rows that count
-abbrev pub code : ℕ → ℕ → ℕ → List ℕ → Table
-code n N m rows = table n N m (rows ++ replicate (15 - length rows) 0)
-
--- n = 2, N = 4, row 10 and m streams. Its images are 0, 10, 1, 11. A stream has 5 words in the decoder: pending, syndrome, 3 delayed blocks.
-abbrev pub Z : ℕ → Table
-Z m = code 2 4 m (10 ∷ [])
-
+-- A stream of Z has 5 words in the decoder: pending, syndrome, 3 delayed blocks.
 unfoldable pub stepCases : List Case
 stepCases =
     -- a correction takes from the oldest block; the youngest joins as received

@@ -1,0 +1,182 @@
+-- Well-formed memories stay well-formed: a step writes the words of its stream, each below its bound, and no other. Assumes nothing.
+use mathlib.Core.Path.{_≡_, refl, sym, ap, _∙_, subst}
+use mathlib.Core.Bool.{Bool, true, false, cond, xor}
+use mathlib.Core.Logic.{_≢_, _⊎_, inl, inr}
+use mathlib.Core.List.{List, [], _∷_, _++_}
+use Prim.Native.Nat.{ℕ, suc, _+_, _-_, _/_, _%_, _^_, _≤_, _<_, zero-le}
+use native.Mathlib.Nat.{add-zero, add-assoc, mod-lt}
+use native.Mathlib.Decide.{decLt}
+use native.Mathlib.Omega.{arith}
+use borrow.Author.Tests.{eqb-true, eqb-false, ltb-true}
+use lib.Dec.{ltb, eqb}
+use lib.ListN.{length, getD, length-replicate}
+use lib.Pow.{pow-pos}
+use Rattle.span.specs.Word.{_⊕_, odd, bit}
+use Rattle.span.specs.Combination.{combination}
+use Rattle.span.proofs.Laws.{xor-lt, combination-lt}
+use Rattle.tables.specs.declared.table.Table.{Table}
+use Rattle.tables.proofs.Bounds.{fit-facts}
+use Rattle.link.specs.Stream.{joining, found, nextTurn}
+use Rattle.link.specs.Start.{started}
+use Rattle.link.specs.Coder.{infoRows, coderWords, turnOf, pendingAt, coderFault, codedBlock, coderNext, CoderFormed}
+use Rattle.link.specs.Decoder.{decoderWords, fillOf, delayOf, decoderFault, decoderNext, delivery, DecoderFormed}
+use Rattle.link.specs.declared.decoder.DecodeAnswer.{DecodeAnswer}
+use Rattle.link.specs.Runs.{Sent, Taken, sentEntry, takenEntry, sentBy, takenBy, noneSent, noneTaken}
+use Rattle.link.specs.Recovery.{SameTable}
+use Rattle.link.specs.Formed.{STARTED-FORMED, FORMED-KEPT, FORMED-THROUGHOUT}
+use Rattle.link.proofs.Interleaving.{turn-next}
+use Rattle.link.proofs.Started.{started-word}
+use Rattle.link.proofs.Step.{topped-lt}
+use Rattle.link.proofs.Sequence.{kept-lt}
+use Rattle.link.proofs.Runs.{ran-keeps}
+use Rattle.link.proofs.Memory.{Fits, CoderStep, coder-step, coder-length, streamIn, pendingIn, syndromeIn, registerIn, DecoderStep, decoder-step, decoder-length}
+use Rattle.link.proofs.OneTable.{same-step, from-one}
+
+-- ---- a start
+
+zero-lt : (words i k : ℕ) → getD (started words) i 0 < 2 ^ k
+zero-lt words i k = rw (started-word words i) (pow-pos k)
+
+pub started-formed : STARTED-FORMED
+started-formed t fits =
+    let z = fit-facts t fits in (
+      record {
+        size = length-replicate (coderWords t) 0;
+        turn = rw (started-word (coderWords t) 0) (z .m-from);
+        pending = λ k h. zero-lt (coderWords t) (1 + k) (t .span - 1);
+      },
+      record {
+        size = length-replicate (decoderWords t) 0;
+        turn = rw (started-word (decoderWords t) 0) (z .m-from);
+        fill = rw (started-word (decoderWords t) 1) zero-le;
+        pending = λ k h. zero-lt (decoderWords t) (streamIn (t .span) k) (t .span - 1);
+        syndrome = λ k h. zero-lt (decoderWords t) (streamIn (t .span) k + 1) (t .span - 1);
+        delayed = λ k i h l. zero-lt (decoderWords t) (streamIn (t .span) k + 2 + i) (t .symbols - 1);
+      },
+    )
+
+-- ---- a step
+
+turn-lt : (m x : ℕ) → x < m → nextTurn m x < m
+turn-lt m x h = go (turn-next m x)
+  where
+    go : ((suc x ≡ m) × (nextTurn m x ≡ 0)) ⊎ ((suc x ≢ m) × (nextTurn m x ≡ suc x)) → nextTurn m x < m
+    go (inl (a, e)) = omega arith
+    go (inr (a, e)) = omega arith
+
+-- the word that joins is below 2^N, so its half is a pending word
+joining-half : (n N : ℕ) (infos : List ℕ) (pending info : ℕ) → Fits n N infos → pending < 2 ^ (N - 1) → joining infos pending info / 2 < 2 ^ (N - 1)
+unfolding joining
+joining-half n N infos pending info f h =
+    let from = f .N-from in
+    let e : suc (N - 1) ≡ N = omega arith in
+    let all : pending ⊕ combination infos info < 2 ^ suc (N - 1) =
+    xor-lt (suc (N - 1)) pending (combination infos info) (omega arith)
+    (subst (λ (k : ℕ). combination infos info < 2 ^ k) (sym e) (combination-lt N infos info (f .below))) in
+    omega arith
+
+module _ (t : Table) (s : List ℕ) (b c : ℕ) (after : List ℕ) (step : CoderStep (t .symbols) (t .span) (t .depth) (infoRows t) s b c after)
+    (long : length after ≡ length s) (f : CoderFormed t s) where
+  coder-pending : (k : ℕ) → k < t .depth → (q : Bool) → eqb k (turnOf s) ≡ q → pendingAt after k < 2 ^ (t .span - 1)
+  coder-pending k h true q =
+      rw (eqb-true k (turnOf s) q) (rw (step .own)
+      (joining-half (t .symbols) (t .span) (infoRows t) (pendingAt s (turnOf s)) b (step .fits) (step .pending-lt)))
+  coder-pending k h false q = rw (step .others k h (eqb-false k (turnOf s) q)) (f .pending k h)
+
+  coder-kept : CoderFormed t after
+  coder-kept = record {
+    size = long ∙ f .size;
+    turn = rw (step .turn-on) (turn-lt (t .depth) (turnOf s) (step .turn-lt));
+    pending = λ k h. coder-pending k h (eqb k (turnOf s)) refl;
+  }
+
+fill-le : (fill full : ℕ) → fill ≤ full → cond (ltb fill full) (fill + 1) fill ≤ full
+fill-le fill full h = go (ltb fill full) refl
+  where
+    go : (b : Bool) → ltb fill full ≡ b → cond b (fill + 1) fill ≤ full
+    go true q = let z = ltb-true fill full q in omega arith
+    go false q = h
+
+register-lt : (n N : ℕ) (infos s : List ℕ) (r : ℕ) → syndromeIn N s < 2 ^ (N - 1) → registerIn n N infos s r < 2 ^ suc (N - 1)
+register-lt n N infos s r = topped-lt (N - 1) (syndromeIn N s) (xor (odd (joining infos (pendingIn N s) (r % 2 ^ (n - 1)))) (bit (n - 1) r))
+
+module _ (t : Table) (s : List ℕ) (r : ℕ) (answer : DecodeAnswer) (after : List ℕ)
+    (step : DecoderStep (t .symbols) (t .span) (t .depth) (infoRows t) s r answer after) (long : length after ≡ length s) (f : DecoderFormed t s) where
+  abbrev n : ℕ
+  n = t .symbols
+
+  abbrev N : ℕ
+  N = t .span
+
+  abbrev reg : ℕ
+  reg = registerIn n N (infoRows t) s r
+
+  pending-kept : (k : ℕ) → k < t .depth → (q : Bool) → eqb k (turnOf s) ≡ q → getD after (streamIn N k) 0 < 2 ^ (N - 1)
+  pending-kept k h true q =
+      rw (eqb-true k (turnOf s) q) (rw (step .pending-on)
+      (joining-half n N (infoRows t) (pendingIn N s) (r % 2 ^ (n - 1)) (step .fits) (step .pending-lt)))
+  pending-kept k h false q =
+      let same : getD after (streamIn N k) 0 ≡ getD s (streamIn N k) 0 =
+      ap (λ (i : ℕ). getD after i 0) (sym (add-zero (streamIn N k))) ∙ step .others k 0 h (omega arith) (eqb-false k (turnOf s) q)
+      ∙ ap (λ (i : ℕ). getD s i 0) (add-zero (streamIn N k)) in
+      rw same (f .pending k h)
+
+  syndrome-kept : (k : ℕ) → k < t .depth → (q : Bool) → eqb k (turnOf s) ≡ q → getD after (streamIn N k + 1) 0 < 2 ^ (N - 1)
+  syndrome-kept k h true q =
+      rw (eqb-true k (turnOf s) q) (rw (step .syndrome-on)
+      (kept-lt (found (infoRows t ++ (1 ∷ [])) reg) reg (N - 1) (register-lt n N (infoRows t) s r (step .syndrome-lt))))
+  syndrome-kept k h false q =
+      rw (step .others k 1 h (let z = step .fits .N-from in omega arith) (eqb-false k (turnOf s) q)) (f .syndrome k h)
+
+  -- a block that stays has its bound from the place it had before, and the youngest has no parity
+  moved-kept : (i : ℕ) → i < N - 1 → Dec (suc i < N - 1) → getD after (streamIn N (turnOf s) + 2 + i) 0 < 2 ^ (n - 1)
+  moved-kept i l (yes b) = rw (step .delayed-on i b) (f .delayed (turnOf s) (suc i) (step .turn-lt) b)
+  moved-kept i l (no b) = rw (step .youngest i (omega arith)) (mod-lt r (pow-pos (n - 1)))
+
+  delayed-kept : (k i : ℕ) → k < t .depth → i < N - 1 → (q : Bool) → eqb k (turnOf s) ≡ q → getD after (streamIn N k + 2 + i) 0 < 2 ^ (n - 1)
+  delayed-kept k i h l true q = rw (eqb-true k (turnOf s) q) (moved-kept i l (decLt (suc i) (N - 1)))
+  delayed-kept k i h l false q =
+      let same : getD after (streamIn N k + 2 + i) 0 ≡ getD s (streamIn N k + 2 + i) 0 =
+      ap (λ (j : ℕ). getD after j 0) (add-assoc (streamIn N k) 2 i) ∙ step .others k (2 + i) h (omega arith) (eqb-false k (turnOf s) q)
+      ∙ ap (λ (j : ℕ). getD s j 0) (sym (add-assoc (streamIn N k) 2 i)) in
+      rw same (f .delayed k i h l)
+
+  decoder-kept : DecoderFormed t after
+  decoder-kept = record {
+    size = long ∙ f .size;
+    turn = rw (step .turn-on) (turn-lt (t .depth) (turnOf s) (step .turn-lt));
+    fill = rw (step .fill-on) (fill-le (fillOf s) (delayOf t) (f .fill));
+    pending = λ k h. pending-kept k h (eqb k (turnOf s)) refl;
+    syndrome = λ k h. syndrome-kept k h (eqb k (turnOf s)) refl;
+    delayed = λ k i h l. delayed-kept k i h l (eqb k (turnOf s)) refl;
+  }
+
+pub formed-kept : FORMED-KEPT
+formed-kept t u same s b = (
+  λ f e.
+      let step = same-step (λ n N m infos (c : ℕ) after. CoderStep n N m infos s b c after) u t same (codedBlock u s b) (codedBlock u s b) refl
+      (coderNext u s b) (coderNext u s b) refl (coder-step u s b e) in
+      coder-kept t s b (codedBlock u s b) (coderNext u s b) step (coder-length u s b) f,
+  λ f e.
+      let step = same-step (λ n N m infos (a : DecodeAnswer) after. DecoderStep n N m infos s b a after) u t same (delivery u s b) (delivery u s b) refl
+      (decoderNext u s b) (decoderNext u s b) refl (decoder-step u s b e) in
+      decoder-kept t s b (delivery u s b) (decoderNext u s b) step (decoder-length u s b e) f,
+)
+
+-- ---- a run
+
+-- places count from 1, a list's entries from 0
+at-place : {X : Type 0} (allows : X → Type 0) (xs : List X) (d : X) → ((p : ℕ) → 1 ≤ p → p ≤ length xs → allows (getD xs (p - 1) d))
+    → (p : ℕ) → p < length xs → allows (getD xs p d)
+at-place allows xs d all p h =
+    subst (λ (q : ℕ). allows (getD xs q d)) (from-one p) (all (suc p) (omega arith) (omega arith))
+
+pub formed-throughout : FORMED-THROUGHOUT
+formed-throughout t s cs = (
+  λ f tables. ran-keeps coderFault coderNext sentEntry (CoderFormed t) (λ (x : Sent). SameTable (x .table) t) noneSent
+      (λ c x e same k. formed-kept t (c .table) same x (c .block) .0 k e) s cs f
+      (at-place (λ (x : Sent). SameTable (x .table) t) (sentBy s cs) noneSent tables),
+  λ f tables. ran-keeps decoderFault decoderNext takenEntry (DecoderFormed t) (λ (x : Taken). SameTable (x .table) t) noneTaken
+      (λ c x e same k. formed-kept t (c .table) same x (c .block) .1 k e) s cs f
+      (at-place (λ (x : Taken). SameTable (x .table) t) (takenBy s cs) noneTaken tables),
+)

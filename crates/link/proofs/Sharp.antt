@@ -1,0 +1,180 @@
+-- 01's bounds are sharp: the three runs are computed, and all else that is said of their places follows from that. Assumes nothing.
+use mathlib.Core.Path.{_≡_, refl, sym, ap, _∙_}
+use mathlib.Core.Bool.{true, xor}
+use mathlib.Core.Logic.{inl, inr}
+use mathlib.Core.List.{List, [], _∷_, map}
+use Prim.Native.Nat.{ℕ, _+_, _-_, _*_, _≤_, _<_}
+use native.Mathlib.Omega.{arith}
+use lib.ListN.{length, getD, replicate, length-replicate, List·getD-map}
+use Rattle.span.specs.Word.{_⊕_, odd, bit}
+use Rattle.span.specs.Combination.{combination}
+use Rattle.span.specs.Relation.{leastFrom, leastCoefficients}
+use Rattle.tables.specs.declared.read.ReadAnswer.the-variants.{Accepted}
+use Rattle.tables.specs.declared.table.Table.{Table}
+use Rattle.tables.specs.Table.{sizesFit, rowsFit, fit}
+use Rattle.tables.specs.Format.{firstOf}
+use Rattle.tables.specs.Reading.{reading}
+use Rattle.tables.proofs.Laws.{examples-hold}
+use Rattle.link.specs.declared.decoder.DecodeAnswer.{DecodeAnswer}
+use Rattle.link.specs.declared.decoder.DecodeAnswer.the-variants.{NothingYet}
+use Rattle.link.specs.Stream.{joining}
+use Rattle.link.specs.Start.{started}
+use Rattle.link.specs.Coder.{coderWords, coderFault, coderJoining, codedBlock, coderNext, CoderFormed}
+use Rattle.link.specs.Decoder.{delayOf, pendingOf, syndromeOf, delayedOf, someAbove, decoderFault, decoderJoining, decoderRegister, decoderFound, partNext, decoderNext, delivered, delivery, DecoderFormed}
+use Rattle.link.specs.Runs.{Call, Sent, Taken, run, noneSent, noneTaken, sentAt, takenAt}
+use Rattle.link.specs.Recovery.{Origin, Wrong, Stretch, Burst, Chosen, Within}
+use Rattle.link.specs.Computed.{Z, calls, delivers, differing}
+use Rattle.link.specs.Examples.{bytesOfZ}
+use Rattle.link.specs.Sharp.{filled, zerosSent, received, Shows, lateGuard, closeBursts, longBurst, SHARP-RUNS, RecoveryWith, BOUNDS, GUARD-SHARP, GAP-SHARP, LENGTH-SHARP}
+use Rattle.link.proofs.Started.{started-word}
+use Rattle.link.proofs.Formed.{started-formed}
+use Rattle.link.proofs.Fade.{Sure}
+use Rattle.link.proofs.Recovery.{recovery}
+use Rattle.link.proofs.Premises.{fades, same-delivery}
+use Rattle.link.proofs.Computed.{each-at, key, In, Places, count, guarded-by, burst-by, bursts-by}
+
+-- ---- what is computed
+
+-- a step of either run is handed Z, and zeros are sent
+record Handed (pending : ℕ) (blocks : List ℕ) : Type 0 where
+  sent : map (λ (x : Sent). key 1 (x .table)) (zerosSent (length blocks)) ≡ replicate (length (replicate {A = ℕ} (length blocks) 0)) (key 1 (Z 1))
+  taken : map (λ (x : Taken). key 1 (x .table)) (received pending blocks) ≡ replicate (length blocks) (key 1 (Z 1))
+  infos : map (λ (x : Sent). x .info) (zerosSent (length blocks)) ≡ replicate (length blocks) 0
+
+computed : SHARP-RUNS × (Handed 4 lateGuard × Handed 0 closeBursts × Handed 0 longBurst)
+unfolding run differing coderFault coderJoining codedBlock coderNext decoderFault someAbove decoderJoining decoderRegister decoderFound partNext decoderNext delivered delivery joining firstOf fit sizesFit rowsFit leastCoefficients leastFrom combination bit odd xor _⊕_
+computed = (
+  ((refl, refl, refl, refl), (refl, refl, refl, refl), (refl, refl, refl, refl)),
+  (
+    record { sent = refl; taken = refl; infos = refl },
+    record { sent = refl; taken = refl; infos = refl },
+    record { sent = refl; taken = refl; infos = refl },
+  ),
+)
+
+pub sharp-runs : SHARP-RUNS
+sharp-runs = computed .0
+
+-- ---- Z and the memories
+
+-- T1
+Z-origin : Origin (Z 1)
+Z-origin = inl (bytesOfZ, reading Accepted (Z 1), examples-hold .0, refl, refl)
+
+Z-fits : fit (Z 1) ≡ true
+unfolding fit sizesFit rowsFit
+Z-fits = refl
+
+coder-formed : CoderFormed (Z 1) (started (coderWords (Z 1)))
+coder-formed = started-formed (Z 1) Z-fits .0
+
+filled-formed : (pending : ℕ) → pending < 8 → DecoderFormed (Z 1) (filled pending)
+filled-formed pending h = record {
+  size = refl;
+  turn = omega arith;
+  fill = omega arith;
+  pending = each-at (λ k. pendingOf (Z 1) (filled pending) k < 8) 1 (h, tt);
+  syndrome = each-at (λ k. syndromeOf (Z 1) (filled pending) k < 8) 1 (omega arith, tt);
+  delayed = λ k i a b.
+      each-at (λ k. delayedOf (Z 1) (filled pending) k i < 2) 1
+      (each-at (λ i. delayedOf (Z 1) (filled pending) 0 i < 2) 3 (omega arith, (omega arith, (omega arith, tt))) i b, tt) k a;
+}
+
+-- ---- what recovery with other numbers would say of such a run
+
+module _ (pending : ℕ) (blocks wrong : List ℕ) (answers : List DecodeAnswer) (shows : Shows pending blocks wrong answers) (h : Handed pending blocks) where
+  abbrev coder : List ℕ
+  coder = started (coderWords (Z 1))
+
+  abbrev zeros : List ℕ
+  zeros = replicate (length blocks) 0
+
+  abbrev cs : List Call
+  cs = calls (Z 1) zeros
+
+  abbrev ds : List Call
+  ds = calls (Z 1) blocks
+
+  places : Places coder (filled pending) cs ds zeros blocks wrong
+  places = record {
+    sent = shows .0;
+    taken = shows .1;
+    wrong = shows .2;
+    many = let c = length-replicate {A = ℕ} (length blocks) 0 in omega arith;
+  }
+
+  answer-at : (p : ℕ) → takenAt (received pending blocks) p .answer ≡ getD answers (p - 1) NothingYet
+  answer-at p =
+      sym (List·getD-map (λ (x : Taken). x .answer) (received pending blocks) (p - 1) noneTaken)
+      ∙ ap (λ (l : List DecodeAnswer). getD l (p - 1) NothingYet) (shows .3)
+
+  info-at : (p : ℕ) → sentAt (zerosSent (length blocks)) p .info ≡ 0
+  info-at p =
+      sym (List·getD-map (λ (x : Sent). x .info) (zerosSent (length blocks)) (p - 1) noneSent)
+      ∙ ap (λ (l : List ℕ). getD l (p - 1) 0) (h .infos) ∙ started-word (length blocks) (p - 1)
+
+  burst : (long a b : ℕ) → 1 ≤ a → a ≤ b → b < a + long → b ≤ length blocks → 0 < getD blocks (a - 1) 0 → 0 < getD blocks (b - 1) 0
+      → Burst (Wrong (zerosSent (length blocks)) (received pending blocks)) long (length (received pending blocks)) (record { first = a; last = b })
+  burst long a b from order short inside u v =
+      burst-by places long a b from order short inside
+      (λ e. let z = started-word (length blocks) (a - 1) in omega arith) (λ e. let z = started-word (length blocks) (b - 1) in omega arith)
+
+  would-answer : (right long gap : Table → ℕ) → RecoveryWith right long gap → pending < 8 → (chosen : List Stretch)
+      → Chosen (Wrong (zerosSent (length blocks)) (received pending blocks)) (long (Z 1)) (gap (Z 1)) (length (received pending blocks)) chosen
+      → ((p : ℕ) → In p wrong → Within p chosen × (right (Z 1) < p)) → (p : ℕ) → right (Z 1) < p → p ≤ length blocks
+      → Sure (getD answers (p - 1) NothingYet) 0
+  would-answer right long gap r small chosen apart covered p late to =
+      let all = count places in
+      let w = r (Z 1) coder (filled pending) cs ds coder-formed (filled-formed pending small)
+      (guarded-by places (Z 1) (right (Z 1)) Z-origin (h .sent) (h .taken) (λ q i. covered q i .1))
+      (bursts-by places (long (Z 1)) (gap (Z 1)) chosen apart (λ q i. covered q i .0))
+      p late (omega arith) in
+      (w .0, sym (answer-at p) ∙ w .1 ∙ ap (λ (x : ℕ). delivers x (w .0)) (info-at (p - delayOf (Z 1))), w .2)
+
+-- ---- the bounds
+
+pub bounds : BOUNDS
+bounds t coder decoder cs ds c d g b = recovery t coder decoder cs ds (fades t coder decoder cs ds c d g b)
+
+pub guard-sharp : GUARD-SHARP
+guard-sharp r =
+    let w = would-answer 4 lateGuard _ _ (sharp-runs .0) (computed .1 .0) (λ t. 2 * delayOf t - 1) (λ t. t .depth) (λ t. delayOf t) r (omega arith)
+    (record { first = 6; last = 6 } ∷ [])
+    (burst 4 lateGuard _ _ (sharp-runs .0) (computed .1 .0) 1 6 6 (omega arith) (omega arith) (omega arith) (omega arith) (omega arith) (omega arith), tt, tt)
+    covered 6 (omega arith) (omega arith) in
+    w .2 (same-delivery _ _ (sym (w .1)) .1)
+  where
+    covered : (p : ℕ) → In p (6 ∷ []) → Within p (record { first = 6; last = 6 } ∷ []) × (5 < p)
+    covered p (inl e) = (inl (omega arith, omega arith), omega arith)
+    covered p (inr z) = absurd z
+
+pub gap-sharp : GAP-SHARP
+gap-sharp r =
+    let w = would-answer 0 closeBursts _ _ (sharp-runs .1) (computed .1 .1) (λ t. 2 * delayOf t) (λ t. t .depth) (λ t. delayOf t - 1) r (omega arith)
+    (record { first = 7; last = 7 } ∷ record { first = 10; last = 10 } ∷ []) (
+      burst 0 closeBursts _ _ (sharp-runs .1) (computed .1 .1) 1 7 7 (omega arith) (omega arith) (omega arith) (omega arith) (omega arith) (omega arith),
+      omega arith,
+      (burst 0 closeBursts _ _ (sharp-runs .1) (computed .1 .1) 1 10 10 (omega arith) (omega arith) (omega arith) (omega arith) (omega arith) (omega arith), tt, tt),
+    )
+    covered 10 (omega arith) (omega arith) in
+    let z : _≡_ {A = ℕ} 1 0 = same-delivery _ _ (w .1) .0 in
+    omega arith
+  where
+    covered : (p : ℕ) → In p (7 ∷ 10 ∷ []) → Within p (record { first = 7; last = 7 } ∷ record { first = 10; last = 10 } ∷ []) × (6 < p)
+    covered p (inl e) = (inl (omega arith, omega arith), omega arith)
+    covered p (inr (inl e)) = (inr (inl (omega arith, omega arith)), omega arith)
+    covered p (inr (inr z)) = absurd z
+
+pub length-sharp : LENGTH-SHARP
+length-sharp r =
+    let w = would-answer 0 longBurst _ _ (sharp-runs .2) (computed .1 .2) (λ t. 2 * delayOf t) (λ t. t .depth + 1) (λ t. delayOf t) r (omega arith)
+    (record { first = 7; last = 8 } ∷ [])
+    (burst 0 longBurst _ _ (sharp-runs .2) (computed .1 .2) 2 7 8 (omega arith) (omega arith) (omega arith) (omega arith) (omega arith) (omega arith), tt, tt)
+    covered 10 (omega arith) (omega arith) in
+    let z : _≡_ {A = ℕ} 1 0 = same-delivery _ _ (w .1) .0 in
+    omega arith
+  where
+    covered : (p : ℕ) → In p (7 ∷ 8 ∷ []) → Within p (record { first = 7; last = 8 } ∷ []) × (6 < p)
+    covered p (inl e) = (inl (omega arith, omega arith), omega arith)
+    covered p (inr (inl e)) = (inl (omega arith, omega arith), omega arith)
+    covered p (inr (inr z)) = absurd z
