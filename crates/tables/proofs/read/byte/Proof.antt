@@ -1,9 +1,9 @@
 -- `tables::read::byte`: a byte of the list that begins at `at`. Assumes nothing.
-use mathlib.Core.Path.{_≡_, sym}
+use mathlib.Core.Path.{sym}
 use Prim.Native.Nat.{_+_}
 use native.Mathlib.Omega.{arith}
 use borrow.Author.Needs.{needs}
-use lib.ListN.{getD, drop, length-drop, List·getD-eq-default}
+use lib.ListN.{drop, length-drop, List·getD-eq-default}
 use lib.Seq.{getD-drop}
 use Rattle.tables.proofs.read.byte.Statement.{statement}
 use Rattle.tables.proofs.read.byte.Tie as tie

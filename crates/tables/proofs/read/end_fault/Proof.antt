@@ -1,6 +1,5 @@
 -- `tables::read::end_fault`: the two tests. Assumes nothing.
 use borrow.Author.Needs.{needs}
-use mathlib.Core.Path.{_∙_}
 use Rattle.tables.proofs.read.end_fault.Statement.{statement}
 use Rattle.tables.proofs.read.end_fault.Tie as tie
 

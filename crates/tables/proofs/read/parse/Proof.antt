@@ -1,15 +1,15 @@
 -- `tables::read::parse`: the parse of all the bytes comes by the place and the progress that the loop has. Assumes nothing.
 use borrow.Author.Needs.{needs}
-use mathlib.Core.Path.{_≡_, refl, sym, ap, _∙_}
-use mathlib.Core.Bool.{Bool, true, false, not, _&&_}
+use mathlib.Core.Path.{_≡_, sym, ap, _∙_}
+use mathlib.Core.Bool.{false, not, _&&_}
 use mathlib.Core.Logic.{_≢_}
 use mathlib.Core.List.{List}
-use Prim.Native.Nat.{ℕ, _+_, _-_, _≤_, _<_}
+use Prim.Native.Nat.{ℕ, _+_, _-_, _≤_}
 use native.Mathlib.Omega.{arith}
 use borrow.Author.Tests.{eqb-true, eqb-false, not-true, not-false}
 use lib.Dec.{eqb}
 use lib.ListN.{length, drop, length-drop}
-use Rattle.tables.specs.Format.{kind, size, place, fault, after}
+use Rattle.tables.specs.Format.{kind, size, fault, after}
 use Rattle.tables.specs.Reading.{outcome}
 use Rattle.tables.proofs.Fit.{and-left, and-right}
 use Rattle.tables.proofs.Format.{Reaches, fault-sound, sound-whole, size-some, reaches-start, reaches-refused, reaches-done, reaches-next}

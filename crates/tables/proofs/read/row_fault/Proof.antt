@@ -1,6 +1,6 @@
 -- `tables::read::row_fault`: the two tests; the mask is the greatest row that fits. Assumes nothing.
 use borrow.Author.Needs.{needs}
-use mathlib.Core.Path.{_≡_, refl, sym, ap, _∙_}
+use mathlib.Core.Path.{_≡_, refl, sym, ap}
 use mathlib.Core.Bool.{Bool, true, false}
 use Prim.Native.Nat.{ℕ, suc, _^_, min}
 use native.Mathlib.Omega.{arith}

@@ -1,7 +1,6 @@
 -- `tables::read::sizes_fault`: by whether the sizes fit. Assumes nothing.
 use borrow.Author.Needs.{needs}
-use mathlib.Core.Path.{_≡_, sym, _∙_}
-use mathlib.Core.Bool.{Bool}
+use mathlib.Core.Path.{_≡_}
 use lib.ListN.{getD, drop}
 use Rattle.tables.specs.Table.{sizesFit}
 use Rattle.tables.proofs.read.sizes_fault.Statement.{statement}

@@ -1,12 +1,12 @@
 -- `tables::table::is_fit`: the rows are looked at once the sizes fit. Assumes nothing.
-use mathlib.Core.Path.{_≡_, sym, ap, _∙_}
+use mathlib.Core.Path.{sym, ap, _∙_}
 use mathlib.Core.Bool.{Bool, _&&_}
 use Prim.Native.Nat.{_-_}
 use native.Mathlib.Omega.{arith}
 use borrow.Author.Needs.{needs}
 use lib.ListN.{take}
-use Rattle.tables.specs.Table.{sizesFit, rowsFit, fit}
-use Rattle.tables.proofs.Fit.{Sizes, sizes-of}
+use Rattle.tables.specs.Table.{rowsFit, fit}
+use Rattle.tables.proofs.Fit.{sizes-of}
 use Rattle.tables.proofs.table.is_fit.Statement.{statement}
 use Rattle.tables.proofs.table.is_fit.Tie as tie
 
