@@ -3,8 +3,10 @@
 --   word-fits                          a row's number fits a word
 --   fault-ended, -unknown, -cut        refusals 1 to 3
 --   fault-sizes, -row, -end            the tests of a whole record
+--   header, Passed                     the first of 1 to 4, and what it says where there is none
+--   passed-sizes, -row, -end           the tests that are left then
 --   fault-sound                        what a fault of 0 says
---   parse-ended, -refused, -done, -next   what one record does to a parse
+--   parse-refused, -done, -next           what one record does to a parse
 --   Reaches                            the parse of the whole comes by a place
 use mathlib.Core.Path.{_≡_, refl, sym, _∙_}
 use mathlib.Core.Bool.{Bool, true, false, cond, not, _&&_, _||_}
@@ -17,7 +19,7 @@ use lib.ListN.{length, getD, drop, length-drop}
 use lib.Seq.{drop-drop}
 use borrow.Author.Tests.{ltb-true, ltb-false, leb-true, leb-false, eqb-true, eqb-false, not-false, eq-eqb, ne-eqb, lt-ltb, le-ltb}
 use lib.Dec.{leb, ltb, eqb}
-use Rattle.tables.specs.Format.{kind, size, word, rowWord, allGiven, taken, firstOf, fault, place, begun, after, refused, parsed, parseFrom, parse}
+use Rattle.tables.specs.Format.{kind, size, word, rowWord, allGiven, taken, firstOf, fault, place, begun, after, refused, parsed, parseFrom, parse, ended, unknown, cut, misplaced}
 use Rattle.tables.specs.Laws.{FIRST, FIRST-NONE}
 use Rattle.tables.specs.declared.read.Progress.{Progress}
 use Rattle.tables.specs.Table.{sizesFit}
@@ -140,6 +142,70 @@ pub fault-end : (g : Progress) (s : List ℕ) → kind s ≡ 0 → 1 ≤ length 
 unfolding fault firstOf size
 fault-end g s k h = simp (k, ne-eqb (length s) 0 (omega arith), le-ltb (length s) 1 h) (first-end (eqb (g .table .symbols) 0) (not (allGiven (g .given) (g .table .symbols - 1))) (ltb 1 (length s)))
 
+-- ---- the faults that a record of any kind may have, before the others
+
+-- the first of 1 to 4, of a record of kind k that has l bytes to the end, with n symbols
+abbrev pub header : ℕ → ℕ → ℕ → ℕ
+header k l n = cond (eqb l 0) 1 (cond (ltb 2 k) 2 (cond (ltb l (size k)) 3 (cond (cond (eqb k 1) (not (eqb n 0)) (eqb n 0)) 4 0)))
+
+first-header : (a b c d : Bool) (ts : List Bool) → (_≡_ {A = ℕ} (cond a 1 (cond b 2 (cond c 3 (cond d 4 0)))) 0 → ⊥)
+    → firstOf 1 (a ∷ b ∷ c ∷ d ∷ ts) ≡ cond a 1 (cond b 2 (cond c 3 (cond d 4 0)))
+unfolding firstOf
+first-header true b c d ts h = refl
+first-header false true c d ts h = refl
+first-header false false true d ts h = refl
+first-header false false false true ts h = refl
+first-header false false false false ts h = absurd (h refl)
+
+pub fault-header : (g : Progress) (s : List ℕ) → header (kind s) (length s) (g .table .symbols) ≢ 0 → fault g s ≡ header (kind s) (length s) (g .table .symbols)
+unfolding fault
+fault-header g s h = first-header (ended s) (unknown s) (cut s) (misplaced g s) _ h
+
+none-of-four : (a b c d : Bool) → _≡_ {A = ℕ} (cond a 1 (cond b 2 (cond c 3 (cond d 4 0)))) 0 → (a ≡ false) × (b ≡ false) × (c ≡ false) × (d ≡ false)
+none-of-four true b c d e = absurd (omega arith)
+none-of-four false true c d e = absurd (omega arith)
+none-of-four false false true d e = absurd (omega arith)
+none-of-four false false false true e = absurd (omega arith)
+none-of-four false false false false e = (refl, refl, refl, refl)
+
+pub record Passed (g : Progress) (s : List ℕ) : Type 0 where
+  pub some : 1 ≤ length s
+  pub known : kind s ≤ 2
+  pub whole : size (kind s) ≤ length s
+  pub placed : misplaced g s ≡ false
+
+pub header-passed : (g : Progress) (s : List ℕ) → header (kind s) (length s) (g .table .symbols) ≡ 0 → Passed g s
+header-passed g s e =
+    let n = none-of-four (ended s) (unknown s) (cut s) (misplaced g s) e in
+    let l = eqb-false (length s) 0 (n .0) in
+    record {
+      some = omega arith;
+      known = ltb-false 2 (kind s) (n .1);
+      whole = ltb-false (length s) (size (kind s)) (n .2);
+      placed = n .3;
+    }
+
+pub passed-sizes : (g : Progress) (s : List ℕ) → Passed g s → kind s ≡ 1 → fault g s ≡ cond (sizesFit (getD s 1 0) (getD s 2 0) (getD s 3 0)) 0 5
+passed-sizes g s p k =
+    let n = rw k at (p .placed) in
+    fault-sizes g s k (rw (size-sizes (kind s) k) at (p .whole)) ∙ rw n (swap (sizesFit (getD s 1 0) (getD s 2 0) (getD s 3 0)))
+  where
+    swap : (b : Bool) → _≡_ {A = ℕ} (cond (not b) 5 0) (cond b 0 5)
+    swap true = refl
+    swap false = refl
+
+pub passed-row : (g : Progress) (s : List ℕ) → Passed g s → kind s ≡ 2
+    → fault g s ≡ cond (taken g (getD s 1 0)) 6 (cond (leb (2 ^ (g .table .span)) (rowWord s)) 7 0)
+passed-row g s p k = let n = rw k at (p .placed) in fault-row g s k (rw (size-row (kind s) k) at (p .whole)) ∙ rw n
+
+pub passed-end : (g : Progress) (s : List ℕ) → Passed g s → kind s ≡ 0
+    → fault g s ≡ cond (not (allGiven (g .given) (g .table .symbols - 1))) 8 (cond (ltb 1 (length s)) 9 0)
+passed-end g s p k = let n = rw k at (p .placed) in fault-end g s k (p .some) ∙ rw n
+
+-- an end that is not misplaced stands after the sizes
+pub end-placed : (g : Progress) (s : List ℕ) → Passed g s → kind s ≡ 0 → 1 ≤ g .table .symbols
+end-placed g s p k = let n = rw k at (p .placed) in let z = eqb-false (g .table .symbols) 0 n in omega arith
+
 -- ---- what a fault of 0 says
 
 pub data Sound (g : Progress) (s : List ℕ) : Type 0 where
@@ -223,15 +289,11 @@ taken-not g j e =
 
 -- ---- one record of a parse
 
-pub parse-ended : (left p : ℕ) (g : Progress) (s : List ℕ) → length s ≡ 0 → parseFrom left p g s ≡ refused 1 p
+pub parse-refused : (left p : ℕ) (g : Progress) (s : List ℕ) → (left ≡ 0 → length s ≡ 0) → fault g s ≢ 0
+    → parseFrom left p g s ≡ refused (fault g s) (place (fault g s) p)
 unfolding parseFrom place
-parse-ended zero p g s e = refl
-parse-ended (suc left) p g s e = rw (fault-ended g s e)
-
-pub parse-refused : (left p : ℕ) (g : Progress) (s : List ℕ) → fault g s ≢ 0
-    → parseFrom (suc left) p g s ≡ refused (fault g s) (place (fault g s) p)
-unfolding parseFrom
-parse-refused left p g s n = rw (ne-eqb (fault g s) 0 n)
+parse-refused zero p g s e n = rw (fault-ended g s (e refl))
+parse-refused (suc left) p g s e n = rw (ne-eqb (fault g s) 0 n)
 
 pub parse-done : (left p : ℕ) (g : Progress) (s : List ℕ) → fault g s ≡ 0 → kind s ≡ 0 → parseFrom (suc left) p g s ≡ parsed (g .table)
 unfolding parseFrom
@@ -257,10 +319,12 @@ pub reaches-start : (bytes : List ℕ) → Reaches bytes 0 begun
 unfolding parse
 reaches-start bytes = record { left = length bytes; enough = omega arith; same = refl }
 
-pub reaches-ended : (bytes : List ℕ) (p : ℕ) (g : Progress) → Reaches bytes p g → length bytes ≤ p → parse bytes ≡ refused 1 p
-reaches-ended bytes p g r h =
+pub reaches-refused : (bytes : List ℕ) (p : ℕ) (g : Progress) → Reaches bytes p g → fault g (drop p bytes) ≢ 0
+    → parse bytes ≡ refused (fault g (drop p bytes)) (place (fault g (drop p bytes)) p)
+reaches-refused bytes p g r n =
     let len = length-drop p bytes in
-    sym (r .same) ∙ parse-ended (r .left) p g (drop p bytes) (omega arith)
+    let e = r .enough in
+    sym (r .same) ∙ parse-refused (r .left) p g (drop p bytes) (λ z. omega arith) n
 
 -- there is a record to come, so `left` is not used up
 more : (left : ℕ) (bytes : List ℕ) (p : ℕ) → length bytes ≤ p + left → p < length bytes → suc (left - 1) ≡ left
@@ -269,9 +333,6 @@ more left bytes p e h = omega arith
 module _ (bytes : List ℕ) (p : ℕ) (g : Progress) (r : Reaches bytes p g) (h : p < length bytes) where
   next : parseFrom (suc (r .left - 1)) p g (drop p bytes) ≡ parse bytes
   next = rw (more (r .left) bytes p (r .enough) h) (r .same)
-
-  pub reaches-refused : fault g (drop p bytes) ≢ 0 → parse bytes ≡ refused (fault g (drop p bytes)) (place (fault g (drop p bytes)) p)
-  reaches-refused n = sym next ∙ parse-refused (r .left - 1) p g (drop p bytes) n
 
   pub reaches-done : fault g (drop p bytes) ≡ 0 → kind (drop p bytes) ≡ 0 → parse bytes ≡ parsed (g .table)
   reaches-done z k = sym next ∙ parse-done (r .left - 1) p g (drop p bytes) z k

@@ -56,15 +56,14 @@ first i j = getD (getD certificate i []) (2 * j) 0
 second : ℕ → ℕ → ℕ
 second i j = getD (getD certificate i []) (2 * j + 1) 0
 
--- of the table for i + 1, at the shift j + 1
-meets : ℕ → ℕ → Bool
-meets i j =
-    let rs = triangleRows (take i columns) (suc i) in
+-- of the table for i + 1 with the rows rs, at the shift j + 1
+meets : List ℕ → ℕ → ℕ → Bool
+meets rs i j =
     ltb (first i j) (2 ^ suc i) && ltb (second i j) (2 ^ suc i)
     && eqb (image rs (first i j) ⊕ shifted (2 * suc i) (suc j) (image rs (second i j))) (2 ^ j)
     && xor (commonParity (suc i) (getD columns i 0) (first i j)) (bit (2 * suc i - suc j) (image rs (second i j)))
 
-all-meet : every (λ i. every (meets i) (suc i)) 15 ≡ true
+all-meet : every (λ i. every (meets (triangleRows (take i columns) (suc i)) i) (suc i)) 15 ≡ true
 unfolding every meets first second certificate columns upper madeRow madeRows image combination shifted commonParity bit odd xor _⊕_
 all-meet = refl
 
@@ -113,7 +112,7 @@ pair-here i j hi hj =
     let t2 = ltb q (2 ^ suc i) in
     let t3 = eqb (image rs p ⊕ shifted (2 * suc i) (suc j) (image rs q)) (2 ^ j) in
     let t4 = xor (commonParity (suc i) (getD columns i 0) p) (bit (2 * suc i - suc j) (image rs q)) in
-    let all : t1 && t2 && t3 && t4 ≡ true = every-at (meets i) (suc i) (every-at (λ i. every (meets i) (suc i)) 15 all-meet i hi) j hj in
+    let all : t1 && t2 && t3 && t4 ≡ true = every-at (meets rs i) (suc i) (every-at (λ i. every (meets (triangleRows (take i columns) (suc i)) i) (suc i)) 15 all-meet i hi) j hj in
     let e3 = and-left (t1 && t2 && t3) t4 all in
     let e2 = and-left (t1 && t2) t3 e3 in
     let one : j ≡ suc j - 1 = omega arith in (

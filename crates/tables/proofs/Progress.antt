@@ -157,7 +157,7 @@ pub parse-step : (left p : ℕ) (g : Progress) (s : List ℕ) (t : Table) → pa
 parse-step left p g s t e = go (eqb (fault g s) 0) refl (eqb (kind s) 0) refl
   where
     go : (a : Bool) → eqb (fault g s) 0 ≡ a → (b : Bool) → eqb (kind s) 0 ≡ b → Step left p g s t
-    go false z b k = never-refused (sym (parse-refused left p g s (eqb-false (fault g s) 0 z)) ∙ e)
+    go false z b k = never-refused (sym (parse-refused (suc left) p g s (λ e. absurd (omega arith)) (eqb-false (fault g s) 0 z)) ∙ e)
     go true z true k =
         let f = eqb-true (fault g s) 0 z in
         let d = eqb-true (kind s) 0 k in

@@ -8,7 +8,7 @@ use span::eliminate::least_relation;
 ghost use mathlib.Core.Path.{_≡_};
 ghost use mathlib.Core.List.{_++_, map};
 ghost use Prim.Native.Nat.{_+_, _≤_, _<_};
-ghost use lib.ListN.{length, take};
+ghost use lib.ListN.{getD, take};
 ghost use Rattle.span.specs.Word.{shifted};
 ghost use Rattle.tables.specs.Table.{codeRows};
 ghost use Rattle.tables.specs.Judging.{Judged, Searched};
@@ -21,21 +21,30 @@ pub enum Judgement {
     Sound,
 }
 
-// The n shifted rows, then the n rows, the parity's last: each row is fetched and shifted once.
+// Row i + 1 of the code: a stored one, or the parity's.
+fn code_row(rows: [u64; 15], n: usize, i: usize) -> u64
+    requires { ⌜ (i < n) × (n ≤ 16) ⌝ }
+    ensures { λ r. ⌜ r ≡ getD (codeRows n rows) i 0 ⌝ }
+{
+    if i < n - 1 {
+        return rows[i];
+    }
+    1
+}
+
+// The n shifted rows, then the n rows: each row is fetched once.
 fn clash_words(rows: [u64; 15], n: usize, span: usize, l: usize) -> [u64; 32]
     requires { ⌜ (2 ≤ n) × (n ≤ 16) × (span ≤ 64) ⌝ }
     ensures { λ r. ⌜ take (n + n) r ≡ map (shifted span l) (codeRows n rows) ++ codeRows n rows ⌝ }
 {
     let mut words = [0u64; 32];
     let mut i = 0;
-    while i < n - 1 {
-        let row = rows[i];
+    while i < n {
+        let row = code_row(rows, n, i);
         words[i] = shift(row, l, span);
         words[n + i] = row;
         i += 1;
     }
-    words[n - 1] = shift(1, l, span);
-    words[n + (n - 1)] = 1;
     words
 }
 

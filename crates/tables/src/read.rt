@@ -7,8 +7,11 @@ use crate::table::zero_table;
 use span::bits::mask;
 ghost use mathlib.Core.Path.{_≡_};
 ghost use mathlib.Core.Logic.{_≢_};
-ghost use Prim.Native.Nat.{_+_, _^_, _≤_, _<_};
+ghost use mathlib.Core.Bool.{cond, not};
+ghost use Prim.Native.Nat.{_+_, _-_, _^_, _≤_, _<_};
+ghost use lib.Dec.{leb, ltb, eqb};
 ghost use lib.ListN.{length, getD, drop};
+ghost use Rattle.tables.specs.Table.{sizesFit};
 ghost use Rattle.tables.specs.Format.{kind, size, rowWord, allGiven, taken, fault, place, sized, rowed, after, refused, parse};
 ghost use Rattle.tables.specs.Reading.{outcome, Read};
 
@@ -33,67 +36,52 @@ struct Progress {
 }
 
 // Byte k of the record at `at`, and 0 past the end.
-fn byte(bytes: &[u8], at: usize, k: usize) -> u8
+fn byte(bytes: &[u8], at: usize, k: usize) -> usize
+    requires { ⌜ at ≤ length (now bytes) ⌝ }
     ensures { λ r. ⌜ r ≡ getD (drop at (now (bytes .entry))) k 0 ⌝ }
 {
-    if at < bytes.len() {
-        if k < bytes.len() - at {
-            return bytes[at + k];
-        }
+    if k < bytes.len() - at {
+        return bytes[at + k] as usize;
     }
     0
 }
 
-fn wide(x: u8) -> u64
-    ensures { λ r. ⌜ r ≡ x ⌝ }
-{
-    x as u64
-}
-
-fn number(bytes: &[u8], at: usize, k: usize) -> usize
-    ensures { λ r. ⌜ r ≡ getD (drop at (now (bytes .entry))) k 0 ⌝ }
-{
-    byte(bytes, at, k) as usize
-}
-
 // The length of a record of this kind.
-fn size(kind: u8) -> usize
+fn size(kind: usize) -> usize
     ensures { λ r. ⌜ r ≡ size kind ⌝ }
 {
-    if kind == 0 {
-        return 1;
+    match kind {
+        0 => 1,
+        1 => 4,
+        _ => 10,
     }
-    if kind == 1 {
-        return 4;
-    }
-    10
 }
 
 fn row_word(bytes: &[u8], at: usize) -> u64
+    requires { ⌜ at ≤ length (now bytes) ⌝ }
     ensures { λ r. ⌜ r ≡ rowWord (drop at (now (bytes .entry))) ⌝ }
 {
     let mut word: u64 = 0;
     let mut k = 10;
     while 2 < k {
         k -= 1;
-        word = word * 256 + wide(byte(bytes, at, k));
+        word = word * 256 + byte(bytes, at, k) as u64;
     }
     word
 }
 
 // Whether rows 1 to `count` were given.
-fn all_given(given: &[bool; 15], count: usize) -> bool
+fn all_given(given: [bool; 15], count: usize) -> bool
     requires { ⌜ count ≤ 15 ⌝ }
-    ensures { λ r. ⌜ r ≡ allGiven (now (given .entry)) count ⌝ }
+    ensures { λ r. ⌜ r ≡ allGiven given count ⌝ }
 {
+    let mut all = true;
     let mut i = 0;
     while i < count {
-        if !given[i] {
-            return false;
-        }
+        all = all & given[i];
         i += 1;
     }
-    true
+    all
 }
 
 // Whether row j is none of 1 to n − 1, or was given.
@@ -101,69 +89,66 @@ fn taken(g: Progress, j: usize) -> bool
     requires { ⌜ g .table .symbols ≤ 16 ⌝ }
     ensures { λ r. ⌜ r ≡ taken g j ⌝ }
 {
-    let t = g.table;
-    if j < 1 {
-        return true;
+    if (1 <= j) & (j < g.table.symbols) {
+        return g.given[j - 1];
     }
-    if t.symbols <= j {
-        return true;
-    }
-    g.given[j - 1]
+    true
 }
 
-// The fault of a whole sizes record.
-fn sizes_fault(bytes: &[u8], at: usize, g: Progress) -> u64
-    requires { ⌜ (kind (drop at (now bytes)) ≡ 1) × (4 ≤ length (drop at (now bytes))) ⌝ }
-    ensures { λ r. ⌜ r ≡ fault g (drop at (now (bytes .entry))) ⌝ }
+// The number of the first test that holds, or 0.
+fn first(j: u64, a: bool, k: u64, b: bool) -> u64
+    ensures { λ r. ⌜ r ≡ cond a j (cond b k 0) ⌝ }
 {
-    let t = g.table;
-    if 0 < t.symbols {
-        return 4;
+    if a {
+        return j;
     }
-    if !sizes_fit(
-        number(bytes, at, 1),
-        number(bytes, at, 2),
-        number(bytes, at, 3),
-    ) {
-        return 5;
+    if b {
+        return k;
     }
     0
 }
 
-// The fault of a whole row record.
+// The faults that a record of any kind may have.
+fn header_fault(kind: usize, left: usize, symbols: usize) -> u64
+    ensures { λ r. ⌜ r ≡ cond (eqb left 0) 1 (cond (ltb 2 kind) 2 (cond (ltb left (size kind)) 3 (cond (cond (eqb kind 1) (not (eqb symbols 0)) (eqb symbols 0)) 4 0))) ⌝ }
+{
+    if left < 1 {
+        return 1;
+    }
+    if 2 < kind {
+        return 2;
+    }
+    first(3, left < size(kind), 4, (kind == 1) == (0 < symbols))
+}
+
+// The other faults of a sizes record.
+fn sizes_fault(bytes: &[u8], at: usize) -> u64
+    requires { ⌜ at ≤ length (now bytes) ⌝ }
+    ensures { λ r. ⌜ r ≡ cond (sizesFit (getD (drop at (now (bytes .entry))) 1 0) (getD (drop at (now (bytes .entry))) 2 0) (getD (drop at (now (bytes .entry))) 3 0)) 0 5 ⌝ }
+{
+    if sizes_fit(byte(bytes, at, 1), byte(bytes, at, 2), byte(bytes, at, 3)) {
+        0
+    } else {
+        5
+    }
+}
+
+// The other faults of a row record.
 fn row_fault(bytes: &[u8], at: usize, g: Progress) -> u64
-    requires { ⌜ (kind (drop at (now bytes)) ≡ 2) × (10 ≤ length (drop at (now bytes))) × (g .table .symbols ≤ 16) × (g .table .span ≤ 64) ⌝ }
-    ensures { λ r. ⌜ r ≡ fault g (drop at (now (bytes .entry))) ⌝ }
+    requires { ⌜ (at ≤ length (now bytes)) × (g .table .symbols ≤ 16) × (g .table .span ≤ 64) ⌝ }
+    ensures { λ r. ⌜ r ≡ cond (taken g (getD (drop at (now (bytes .entry))) 1 0)) 6 (cond (leb (2 ^ (g .table .span)) (rowWord (drop at (now (bytes .entry))))) 7 0) ⌝ }
 {
-    let t = g.table;
-    if t.symbols < 1 {
-        return 4;
-    }
-    if taken(g, number(bytes, at, 1)) {
-        return 6;
-    }
-    if mask(t.span) < row_word(bytes, at) {
-        return 7;
-    }
-    0
+    let misnumbered = taken(g, byte(bytes, at, 1));
+    first(6, misnumbered, 7, mask(g.table.span) < row_word(bytes, at))
 }
 
-// The fault of an end record.
-fn end_fault(bytes: &[u8], at: usize, g: Progress) -> u64
-    requires { ⌜ (kind (drop at (now bytes)) ≡ 0) × (at < length (now bytes)) × (g .table .symbols ≤ 16) ⌝ }
-    ensures { λ r. ⌜ r ≡ fault g (drop at (now (bytes .entry))) ⌝ }
+// The other faults of an end record.
+fn end_fault(left: usize, g: Progress) -> u64
+    requires { ⌜ (1 ≤ g .table .symbols) × (g .table .symbols ≤ 16) ⌝ }
+    ensures { λ r. ⌜ r ≡ cond (not (allGiven (g .given) (g .table .symbols - 1))) 8 (cond (ltb 1 left) 9 0) ⌝ }
 {
-    let t = g.table;
-    if t.symbols < 1 {
-        return 4;
-    }
-    if !all_given(&g.given, t.symbols - 1) {
-        return 8;
-    }
-    if 1 < bytes.len() - at {
-        return 9;
-    }
-    0
+    let given = g.given;
+    first(8, !all_given(given, g.table.symbols - 1), 9, 1 < left)
 }
 
 // The first refusal of 1 to 9 that applies to the record at `at`, or 0.
@@ -173,40 +158,34 @@ fn fault(bytes: &[u8], at: usize, g: Progress) -> u64
 {
     let kind = byte(bytes, at, 0);
     let left = bytes.len() - at;
-    if left < 1 {
-        return 1;
+    let header = header_fault(kind, left, g.table.symbols);
+    if header != 0 {
+        return header;
     }
-    if 2 < kind {
-        return 2;
+    match kind {
+        0 => end_fault(left, g),
+        1 => sizes_fault(bytes, at),
+        _ => row_fault(bytes, at, g),
     }
-    if left < size(kind) {
-        return 3;
-    }
-    if kind == 0 {
-        return end_fault(bytes, at, g);
-    }
-    if kind == 1 {
-        return sizes_fault(bytes, at, g);
-    }
-    row_fault(bytes, at, g)
 }
 
 fn sized(bytes: &[u8], at: usize, g: Progress) -> Progress
+    requires { ⌜ at ≤ length (now bytes) ⌝ }
     ensures { λ r. ⌜ r ≡ sized g (drop at (now (bytes .entry))) ⌝ }
 {
     let mut t = g.table;
-    t.symbols = number(bytes, at, 1);
-    t.span = number(bytes, at, 2);
-    t.depth = number(bytes, at, 3);
+    t.symbols = byte(bytes, at, 1);
+    t.span = byte(bytes, at, 2);
+    t.depth = byte(bytes, at, 3);
     let given = g.given;
     Progress { table: t, given }
 }
 
 fn rowed(bytes: &[u8], at: usize, g: Progress) -> Progress
-    requires { ⌜ (1 ≤ getD (drop at (now bytes)) 1 0) × (getD (drop at (now bytes)) 1 0 ≤ 15) ⌝ }
+    requires { ⌜ (at ≤ length (now bytes)) × (1 ≤ getD (drop at (now bytes)) 1 0) × (getD (drop at (now bytes)) 1 0 ≤ 15) ⌝ }
     ensures { λ r. ⌜ r ≡ rowed g (drop at (now (bytes .entry))) ⌝ }
 {
-    let i = number(bytes, at, 1) - 1;
+    let i = byte(bytes, at, 1) - 1;
     let mut t = g.table;
     t.rows[i] = row_word(bytes, at);
     let mut given = g.given;
@@ -214,31 +193,28 @@ fn rowed(bytes: &[u8], at: usize, g: Progress) -> Progress
     Progress { table: t, given }
 }
 
-fn place(number: u64, at: usize) -> usize
-    requires { ⌜ at + 1 < 2 ^ 64 ⌝ }
-    ensures { λ r. ⌜ r ≡ place number at ⌝ }
-{
-    if number == 9 { at + 1 } else { at }
-}
-
-fn refusal(number: u64, place: usize) -> Reading
-    ensures { λ r. ⌜ r ≡ outcome (refused number place) ⌝ }
-{
-    Reading {
-        answer: ReadAnswer::Refused(number, place),
-        table: zero_table(),
-    }
-}
-
 // The progress after a sound record that is not the end.
 fn after(bytes: &[u8], at: usize, g: Progress) -> Progress
-    requires { ⌜ (g .table .symbols ≤ 16) × (fault g (drop at (now bytes)) ≡ 0) × (kind (drop at (now bytes)) ≢ 0) ⌝ }
+    requires { ⌜ (at ≤ length (now bytes)) × (g .table .symbols ≤ 16) × (fault g (drop at (now bytes)) ≡ 0) × (kind (drop at (now bytes)) ≢ 0) ⌝ }
     ensures { λ r. ⌜ r ≡ after g (drop at (now (bytes .entry))) ⌝ }
 {
     if byte(bytes, at, 0) == 1 {
         return sized(bytes, at, g);
     }
     rowed(bytes, at, g)
+}
+
+// A refusal of the record at `at`.
+fn refusal(number: u64, at: usize) -> Reading
+    requires { ⌜ at + 1 < 2 ^ 64 ⌝ }
+    ensures { λ r. ⌜ r ≡ outcome (refused number (place number at)) ⌝ }
+{
+    let table = zero_table();
+    let place = if number == 9 { at + 1 } else { at };
+    Reading {
+        answer: ReadAnswer::Refused(number, place),
+        table,
+    }
 }
 
 // The records left to right: what the bytes say, before the table is judged.
@@ -250,23 +226,20 @@ fn parse(bytes: &[u8]) -> Reading
         given: [false; 15],
     };
     let mut at = 0;
-    while at < bytes.len() {
-        let number = fault(bytes, at, g);
-        if number != 0 {
-            return refusal(number, place(number, at));
-        }
-        let kind = byte(bytes, at, 0);
-        if kind == 0 {
-            let table = g.table;
-            return Reading {
-                answer: ReadAnswer::Accepted,
-                table,
-            };
-        }
+    let mut number = fault(bytes, at, g);
+    while (number == 0) & (byte(bytes, at, 0) != 0) {
         g = after(bytes, at, g);
-        at += size(kind);
+        at += size(byte(bytes, at, 0));
+        number = fault(bytes, at, g);
     }
-    refusal(1, at)
+    if number != 0 {
+        return refusal(number, at);
+    }
+    let table = g.table;
+    Reading {
+        answer: ReadAnswer::Accepted,
+        table,
+    }
 }
 
 // The parse, and then the judgement.

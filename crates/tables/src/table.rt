@@ -28,51 +28,30 @@ pub fn zero_table() -> Table
 pub fn sizes_fit(symbols: usize, span: usize, depth: usize) -> bool
     ensures { λ r. ⌜ r ≡ sizesFit symbols span depth ⌝ }
 {
-    if symbols < 2 {
-        return false;
-    }
-    if 16 < symbols {
-        return false;
-    }
-    if span < 2 {
-        return false;
-    }
-    if 64 < span {
-        return false;
-    }
-    if depth < 1 {
-        return false;
-    }
-    if 64 < depth {
-        return false;
-    }
-    true
+    (2 <= symbols) & (symbols <= 16) & (2 <= span) & (span <= 64) & (1 <= depth) & (depth <= 64)
 }
 
-fn rows_fit(rows: &[u64; 15], count: usize, span: usize) -> bool
+fn rows_fit(rows: [u64; 15], count: usize, span: usize) -> bool
     requires { ⌜ (count ≤ 15) × (span ≤ 64) ⌝ }
-    ensures { λ r. ⌜ r ≡ rowsFit span (take count (now (rows .entry))) ⌝ }
+    ensures { λ r. ⌜ r ≡ rowsFit span (take count rows) ⌝ }
 {
     let most = mask(span);
+    let mut fit = true;
     let mut i = 0;
     while i < count {
-        if most < rows[i] {
-            return false;
-        }
+        fit = fit & (rows[i] <= most);
         i += 1;
     }
-    true
+    fit
 }
 
 // Whether the table is fit: the condition of refusal 12 does not hold.
 pub fn is_fit(t: Table) -> bool
     ensures { λ r. ⌜ r ≡ fit t ⌝ }
 {
-    let symbols = t.symbols;
-    let span = t.span;
-    if sizes_fit(symbols, span, t.depth) {
-        rows_fit(&t.rows, symbols - 1, span)
-    } else {
-        false
+    if sizes_fit(t.symbols, t.span, t.depth) {
+        let rows = t.rows;
+        return rows_fit(rows, t.symbols - 1, t.span);
     }
+    false
 }

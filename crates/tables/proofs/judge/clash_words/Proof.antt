@@ -1,13 +1,13 @@
 -- `tables::judge::clash_words`: after i turns the first i rows stand shifted from the front, and as they are from n on. Assumes nothing.
-use mathlib.Core.Path.{_≡_, refl, sym, ap, _∙_, subst}
+use mathlib.Core.Path.{_≡_, sym, ap, _∙_, subst}
 use mathlib.Core.Logic.{_≢_}
-use mathlib.Core.List.{List, [], _∷_, _++_, map}
+use mathlib.Core.List.{List, _++_, map}
 use Prim.Native.Nat.{ℕ, _+_, _-_, _≤_, _<_, min}
 use native.Mathlib.Decide.{decLt, ℕ-discrete}
 use native.Mathlib.Omega.{arith}
 use borrow.Author.Needs.{needs}
-use lib.ListN.{length, getD, set, take, length-append, length-map, length-set, length-take, List·getD-append, List·getD-map}
-use lib.Seq.{ext-getD, getD-take, getD-append-add, getD-append-seam, getD-set-same, getD-set-other, length-take-le}
+use lib.ListN.{length, getD, set, take, length-append, length-map, length-set, List·getD-append, List·getD-map}
+use lib.Seq.{ext-getD, getD-take, getD-append-add, getD-set-same, getD-set-other, length-take-le}
 use Rattle.span.specs.Word.{shifted}
 use Rattle.span.proofs.Laws.{shifted-zero}
 use Rattle.tables.specs.Table.{codeRows}
@@ -20,10 +20,10 @@ Filled n N l rows i words =
     (k : ℕ) → k < i → (getD words k 0 ≡ shifted N l (getD rows k 0)) × (getD words (n + k) 0 ≡ getD rows k 0)
 
 abbrev Inv-loop : tie.InvT-loop
-Inv-loop n span l rows words₀ i₀ words i = (i ≤ n - 1) × (length words ≡ 32) × Filled n span l (codeRows n rows) i words
+Inv-loop rows n span l words₀ i₀ words i = (i ≤ n) × (length words ≡ 32) × Filled n span l (codeRows n rows) i words
 
 abbrev μ-loop : tie.MeasureT-loop
-μ-loop n span l rows words₀ i₀ words i = n - 1 - i
+μ-loop rows n span l words₀ i₀ words i = n - i
 
 -- one more row, stored twice
 filled-more : (n N l : ℕ) (rows : List ℕ) (i : ℕ) (words : List ℕ) (s r : ℕ) → i < n → n + i < length words → s ≡ shifted N l r → r ≡ getD rows i 0
@@ -76,28 +76,11 @@ map-at : (N l : ℕ) (rows : List ℕ) (k : ℕ) → getD (map (shifted N l) row
 map-at N l rows k =
     ap (getD (map (shifted N l) rows) k) (sym (shifted-zero N l)) ∙ List·getD-map (shifted N l) rows k 0
 
--- the stored rows are those of the code, and the parity's comes last
-stored-row : (n : ℕ) (rows : List ℕ) (i : ℕ) → n - 1 ≤ length rows → i < n - 1 → getD rows i 0 ≡ getD (codeRows n rows) i 0
-stored-row n rows i room h =
-    let size = length-take-le (n - 1) rows room in
-    sym (List·getD-append (take (n - 1) rows) (1 ∷ []) 0 i (subst (λ (m : ℕ). i < m) (sym size) h) ∙ getD-take (n - 1) rows i 0 h)
-
-parity-row : (n : ℕ) (rows : List ℕ) → n - 1 ≤ length rows → 1 ≡ getD (codeRows n rows) (n - 1) 0
-parity-row n rows room =
-    let size = length-take-le (n - 1) rows room in
-    sym (ap (λ (j : ℕ). getD (codeRows n rows) j 0) (sym size) ∙ getD-append-seam (take (n - 1) rows) 1 [] 0)
-
 loop-holds : tie.Need-loop-holds Inv-loop μ-loop
 loop-holds c = search needs
 
-sub-loop : tie.Need-sub-loop Inv-loop μ-loop
-sub-loop c = search needs
-
-mul-row : tie.Need-mul-row Inv-loop μ-loop
-mul-row c = search needs
-
-array-read-row : tie.Need-array-read-row Inv-loop μ-loop
-array-read-row c = search needs
+code-row-requires : tie.Need-code-row-requires Inv-loop μ-loop
+code-row-requires c κs = search needs
 
 shift-requires : tie.Need-shift-requires Inv-loop μ-loop
 shift-requires c κs = search needs
@@ -125,58 +108,25 @@ loop-less c = search needs
 
 loop-again : tie.Need-loop-again Inv-loop μ-loop
 loop-again c =
-    let l = c .before .before in
+    let r = c .before in
+    let l = r .before .before in
     let a = l .before .args in
-    let long : length (a .t1) ≡ 15 = l .before .good .0 .1 .0 .1 in
     let span : min (a .span) 64 ≡ a .span = omega arith in (
       omega arith,
       simp length-set (l .loop .inv .1),
-      filled-more (a .n) (a .span) (a .l) (codeRows (a .n) (a .t1)) (l .loop .i) (l .loop .words) (c .shift .result) (getD (a .t1) (l .loop .i) 0)
-          (omega arith) (omega arith) (c .shift .ensures ∙ ap (λ (N : ℕ). shifted N (a .l) (getD (a .t1) (l .loop .i) 0)) span)
-          (stored-row (a .n) (a .t1) (l .loop .i) (omega arith) (omega arith)) (l .loop .inv .2),
+      filled-more (a .n) (a .span) (a .l) (codeRows (a .n) (a .rows)) (l .loop .i) (l .loop .words) (c .shift .result) (r .code-row .result)
+          (omega arith) (omega arith) (c .shift .ensures ∙ ap (λ (N : ℕ). shifted N (a .l) (r .code-row .result)) span) (r .code-row .ensures) (l .loop .inv .2),
     )
-
-shift-requires-2 : tie.Need-shift-requires-2 Inv-loop μ-loop
-shift-requires-2 c κs = search needs
-
-sub-words : tie.Need-sub-words Inv-loop μ-loop
-sub-words c = search needs
-
-mul-words-3 : tie.Need-mul-words-3 Inv-loop μ-loop
-mul-words-3 c = search needs
-
-array-write-words-3 : tie.Need-array-write-words-3 Inv-loop μ-loop
-array-write-words-3 c = search needs
-
-sub-words-2 : tie.Need-sub-words-2 Inv-loop μ-loop
-sub-words-2 c = search needs
-
-add-words-2 : tie.Need-add-words-2 Inv-loop μ-loop
-add-words-2 c = search needs
-
-mul-words-4 : tie.Need-mul-words-4 Inv-loop μ-loop
-mul-words-4 c = search needs
-
-array-write-words-4 : tie.Need-array-write-words-4 Inv-loop μ-loop
-array-write-words-4 c = search needs
 
 returns : tie.Need-returns Inv-loop μ-loop
 returns c =
-    let l = c .before .before in
+    let l = c .before in
     let a = l .before .args in
-    let long : length (a .t1) ≡ 15 = l .before .good .0 .1 .0 .1 in
-    let span : min (a .span) 64 ≡ a .span = omega arith in
-    let R = codeRows (a .n) (a .t1) in
-    let words = set (set (l .loop .words) (a .n - 1) (c .shift2 .result)) (a .n + (a .n - 1)) 1 in
-    let room : length words ≡ 32 = simp length-set (l .loop .inv .1) in
-    let size : length R ≡ a .n = code-length (a .n) (a .t1) (omega arith) (omega arith) in
-    let last : a .n - 1 + 1 ≡ a .n = omega arith in
-    let full = filled-more (a .n) (a .span) (a .l) R (a .n - 1) (l .loop .words) (c .shift2 .result) 1 (omega arith) (omega arith)
-    (c .shift2 .ensures ∙ ap (λ (N : ℕ). shifted N (a .l) 1) span) (parity-row (a .n) (a .t1) (omega arith))
-    (λ k h. l .loop .inv .2 k (omega arith))
-    in
-    halves (a .n) words (map (shifted (a .span) (a .l)) R) R (length-map R (shifted (a .span) (a .l)) ∙ size) size (omega arith)
-    (λ k h. let f = full k (omega arith) in (f .0 ∙ sym (map-at (a .span) (a .l) R k), f .1))
+    let long : length (a .rows) ≡ 15 = l .before .good .0 .1 .0 .1 in
+    let R = codeRows (a .n) (a .rows) in
+    let size : length R ≡ a .n = code-length (a .n) (a .rows) (omega arith) (omega arith) in
+    halves (a .n) (l .loop .words) (map (shifted (a .span) (a .l)) R) R (length-map R (shifted (a .span) (a .l)) ∙ size) size (omega arith)
+    (λ k h. let f = l .loop .inv .2 k (omega arith) in (f .0 ∙ sym (map-at (a .span) (a .l) R k), f .1))
 
 pub clash-words-spec : {M : Type 1} → statement M
 clash-words-spec =
@@ -185,9 +135,7 @@ clash-words-spec =
     Inv-loop
     μ-loop
     loop-holds
-    sub-loop
-    mul-row
-    array-read-row
+    code-row-requires
     shift-requires
     mul-words
     array-write-words
@@ -197,12 +145,4 @@ clash-words-spec =
     add-i
     loop-less
     loop-again
-    shift-requires-2
-    sub-words
-    mul-words-3
-    array-write-words-3
-    sub-words-2
-    add-words-2
-    mul-words-4
-    array-write-words-4
     returns)

@@ -39,7 +39,8 @@ rowed-requires c κs =
     let a = b .before .before .args in
     let p = b .before .before .pre in
     let s = drop (a .at) (a .bytes .now) in
-    numbered (a .g) s (p .0) (fault-sound (a .g) s (p .1)) (p .2) (λ e. c .if1 .left (b .byte .ensures ∙ e))
+    let q = numbered (a .g) s (p .1) (fault-sound (a .g) s (p .2)) (p .3) (λ e. c .if1 .left (b .byte .ensures ∙ e)) in
+    (p .0, q .0, q .1)
 
 returns-2 : tie.Need-returns-2
 unfolding after

@@ -1,34 +1,27 @@
--- `tables::read::all_given`: after i turns the first i rows were given. Assumes nothing.
+-- `tables::read::all_given`: after i turns the first i rows are judged. Assumes nothing.
 use borrow.Author.Needs.{needs}
-use mathlib.Core.Path.{_≡_, refl, sym}
-use mathlib.Core.Bool.{true}
+use mathlib.Core.Path.{_≡_, refl, ap, _∙_}
+use mathlib.Core.Bool.{Bool, false, _&&_}
 use Prim.Native.Nat.{_-_, _≤_}
 use native.Mathlib.Omega.{arith}
 use native.Mathlib.Numerals.{add-one}
-use borrow.Author.Tests.{not-true, not-false}
+use lib.ListN.{getD}
 use Rattle.tables.specs.Format.{allGiven}
-use Rattle.tables.proofs.Format.{given-none}
 use Rattle.tables.proofs.read.all_given.Statement.{statement}
 use Rattle.tables.proofs.read.all_given.Tie as tie
 
 abbrev Inv-loop : tie.InvT-loop
-Inv-loop given count i₀ i = (i ≤ count) × (allGiven given i ≡ true)
+Inv-loop count given all₀ i₀ all i = (i ≤ count) × (all ≡ allGiven given i)
 
 abbrev μ-loop : tie.MeasureT-loop
-μ-loop given count i₀ i = count - i
+μ-loop count given all₀ i₀ all i = count - i
 
 loop-holds : tie.Need-loop-holds Inv-loop μ-loop
 unfolding allGiven
 loop-holds c = (omega arith, refl)
 
-element-copy-out-if1 : tie.Need-element-copy-out-if1 Inv-loop μ-loop
-element-copy-out-if1 c = search needs
-
-returns : tie.Need-returns Inv-loop μ-loop
-returns c =
-    let l = c .before .before .before in
-    let a = l .before .args in
-    sym (given-none (a .given .now) (l .loop .i) (a .count) (omega arith) (not-true _ (c .if1 .taken)))
+array-read-all : tie.Need-array-read-all Inv-loop μ-loop
+array-read-all c = search needs
 
 add-i : tie.Need-add-i Inv-loop μ-loop
 add-i c = search needs
@@ -39,26 +32,15 @@ loop-less c = search needs
 loop-again : tie.Need-loop-again Inv-loop μ-loop
 unfolding allGiven
 loop-again c =
-    let l = c .before .before .before in
-    let a = l .before .args in
-    (omega arith, rw (add-one (l .loop .i), allGiven, l .loop .inv .1) (not-false _ (c .if1 .left)))
-
-returns-2 : tie.Need-returns-2 Inv-loop μ-loop
-returns-2 c =
     let l = c .before in
-    let e : l .loop .i ≡ l .before .args .count = omega arith in
-    sym (rw e at (l .loop .inv .1))
+    let a = l .before .args in
+    (omega arith, rw (add-one (l .loop .i)) (ap (λ (s : Bool). s && getD (a .t1) (l .loop .i) false) (l .loop .inv .1)))
+
+returns : tie.Need-returns Inv-loop μ-loop
+returns c =
+    let l = c .before in
+    let done : l .loop .i ≡ l .before .args .count = omega arith in
+    l .loop .inv .1 ∙ ap (allGiven (l .before .args .t1)) done
 
 pub all-given-spec : {M : Type 1} → statement M
-all-given-spec =
-    tie.close
-    (tie.spec
-    Inv-loop
-    μ-loop
-    loop-holds
-    element-copy-out-if1
-    returns
-    add-i
-    loop-less
-    loop-again
-    returns-2)
+all-given-spec = tie.close (tie.spec Inv-loop μ-loop loop-holds array-read-all add-i loop-less loop-again returns)

@@ -1,10 +1,12 @@
--- `tables::read::fault`: the tests of a record that is not whole, then those of its kind. Assumes nothing.
+-- `tables::read::fault`: the faults of any record, then those of its kind. Assumes nothing.
 use borrow.Author.Needs.{needs}
-use mathlib.Core.Path.{_≡_, sym, ap, _∙_}
+use mathlib.Core.Path.{_≡_, sym, _∙_}
+use mathlib.Core.List.{List}
+use Prim.Native.Nat.{ℕ}
 use native.Mathlib.Omega.{arith}
-use lib.ListN.{drop, length-drop}
-use Rattle.tables.specs.Format.{kind, size}
-use Rattle.tables.proofs.Format.{fault-ended, fault-unknown, fault-cut, size-sizes, size-row}
+use lib.ListN.{length, drop, length-drop}
+use Rattle.tables.specs.Format.{kind}
+use Rattle.tables.proofs.Format.{header, fault-header, Passed, header-passed, passed-sizes, passed-row, passed-end, end-placed}
 use Rattle.tables.proofs.read.fault.Statement.{statement}
 use Rattle.tables.proofs.read.fault.Tie as tie
 
@@ -14,63 +16,54 @@ byte-requires c κs = search needs
 sub-left : tie.Need-sub-left
 sub-left c = search needs
 
+header-fault-requires : tie.Need-header-fault-requires
+header-fault-requires c κs = search needs
+
+abbrev rest : tie.After-header-fault → List ℕ
+rest z = let a = z .before .before .before .args in drop (a .at) (a .bytes .now)
+
+tested : (z : tie.After-header-fault) → z .header-fault .result ≡ header (kind (rest z)) (length (rest z)) (z .before .before .before .args .g .table .symbols)
+tested z =
+    let a = z .before .before .before .args in
+    rw (← z .before .byte .ensures, length-drop (a .at) (a .bytes .now)) (z .header-fault .ensures)
+
+passed : (c : tie.Else1) → Passed (c .before .before .before .before .args .g) (rest (c .before))
+passed c = header-passed (c .before .before .before .before .args .g) (rest (c .before)) (sym (tested (c .before)) ∙ c .if1 .left)
+
 returns : tie.Need-returns
 returns c =
-    let a = c .before .before .before .args in
-    let s = drop (a .at) (a .bytes .now) in
-    let len = length-drop (a .at) (a .bytes .now) in
-    sym (fault-ended (a .g) s (omega arith))
+    let z = c .before in
+    tested z ∙ sym (fault-header (z .before .before .before .args .g) (rest z) (λ e. c .if1 .taken (tested z ∙ e)))
+
+end-fault-requires : tie.Need-end-fault-requires
+end-fault-requires c κs =
+    let z = c .before .before in
+    let some = end-placed (z .before .before .before .args .g) (rest z) (passed (c .before)) (omega arith) in
+    omega arith
+
+sizes-fault-requires : tie.Need-sizes-fault-requires
+sizes-fault-requires c κs = search needs
+
+row-fault-requires : tie.Need-row-fault-requires
+row-fault-requires c κs = search needs
 
 returns-2 : tie.Need-returns-2
 returns-2 c =
-    let b = c .before .before in
-    let a = b .before .before .args in
-    let s = drop (a .at) (a .bytes .now) in
-    let len = length-drop (a .at) (a .bytes .now) in
-    sym (fault-unknown (a .g) s (omega arith) (omega arith))
-
-size-requires : tie.Need-size-requires
-size-requires c κs = search needs
+    let z = c .before .before .before in
+    let a = z .before .before .before .args in
+    rw (passed-end (a .g) (rest z) (passed (c .before .before)) (omega arith), length-drop (a .at) (a .bytes .now)) (c .end-fault .ensures)
 
 returns-3 : tie.Need-returns-3
 returns-3 c =
-    let z = c .before in
-    let b = z .before .before .before in
-    let a = b .before .before .args in
-    let s = drop (a .at) (a .bytes .now) in
-    let len = length-drop (a .at) (a .bytes .now) in
-    let whole : z .size .result ≡ size (kind s) = z .size .ensures ∙ ap size (b .byte .ensures) in
-    sym (fault-cut (a .g) s (omega arith) (omega arith) (omega arith))
-
-end-fault-requires : tie.Need-end-fault-requires
-end-fault-requires c κs = search needs
+    let z = c .before .before .before in
+    rw (passed-sizes (z .before .before .before .args .g) (rest z) (passed (c .before .before)) (omega arith)) (c .sizes-fault .ensures)
 
 returns-4 : tie.Need-returns-4
-returns-4 c = c .end-fault .ensures
-
-sizes-fault-requires : tie.Need-sizes-fault-requires
-sizes-fault-requires c κs =
+returns-4 c =
     let z = c .before .before .before in
-    let b = z .before .before .before in
-    let a = b .before .before .args in
-    let len = length-drop (a .at) (a .bytes .now) in
-    let whole = size-sizes (b .byte .result) (c .if5 .taken) in
-    omega arith
-
-returns-5 : tie.Need-returns-5
-returns-5 c = c .sizes-fault .ensures
-
-row-fault-requires : tie.Need-row-fault-requires
-row-fault-requires c κs =
-    let z = c .before .before .before in
-    let b = z .before .before .before in
-    let a = b .before .before .args in
-    let len = length-drop (a .at) (a .bytes .now) in
-    let whole = size-row (b .byte .result) (omega arith) in
-    omega arith
-
-returns-6 : tie.Need-returns-6
-returns-6 c = c .row-fault .ensures
+    let p = passed (c .before .before) in
+    let k = p .known in
+    rw (passed-row (z .before .before .before .args .g) (rest z) p (omega arith)) (c .row-fault .ensures)
 
 pub fault-spec : {M : Type 1} → statement M
 fault-spec =
@@ -78,13 +71,11 @@ fault-spec =
     (tie.spec
     byte-requires
     sub-left
+    header-fault-requires
     returns
-    returns-2
-    size-requires
-    returns-3
     end-fault-requires
-    returns-4
     sizes-fault-requires
-    returns-5
     row-fault-requires
-    returns-6)
+    returns-2
+    returns-3
+    returns-4)

@@ -51,15 +51,12 @@ mul-word c =
 byte-requires : tie.Need-byte-requires Inv-loop μ-loop
 byte-requires c κs = search needs
 
-wide-requires : tie.Need-wide-requires Inv-loop μ-loop
-wide-requires c κs = search needs
-
 add-word : tie.Need-add-word Inv-loop μ-loop
 add-word c =
-    let l = c .before .before .before in
+    let l = c .before .before in
     let a = l .before .before .args in
-    let h = fits (a .bytes .now) (λ i. omega (arith, l .before .shared-slice-known .given i)) (a .at) (l .loop .k) (l .loop .word) (c .wide .result)
-    (omega arith) (omega arith) (l .loop .inv .2) (c .wide .ensures ∙ c .before .byte .ensures) in
+    let h = fits (a .bytes .now) (λ i. omega (arith, l .before .shared-slice-known .given i)) (a .at) (l .loop .k) (l .loop .word) (c .byte .result)
+    (omega arith) (omega arith) (l .loop .inv .2) (c .byte .ensures) in
     omega arith
 
 loop-less : tie.Need-loop-less Inv-loop μ-loop
@@ -67,12 +64,12 @@ loop-less c = search needs
 
 loop-again : tie.Need-loop-again Inv-loop μ-loop
 loop-again c =
-    let l = c .before .before .before in
+    let l = c .before .before in
     let a = l .before .before .args in (
       omega arith,
       omega arith,
-      one-more (drop (a .at) (a .bytes .now)) (l .loop .k) (l .loop .word) (c .wide .result) (omega arith) (omega arith) (l .loop .inv .2)
-          (c .wide .ensures ∙ c .before .byte .ensures),
+      one-more (drop (a .at) (a .bytes .now)) (l .loop .k) (l .loop .word) (c .byte .result) (omega arith) (omega arith) (l .loop .inv .2)
+          (c .byte .ensures),
     )
 
 returns : tie.Need-returns Inv-loop μ-loop
@@ -92,7 +89,6 @@ row-word-spec =
     sub-k
     mul-word
     byte-requires
-    wide-requires
     add-word
     loop-less
     loop-again

@@ -4,8 +4,8 @@ use Rattle.tables.specs.Format.{rowed}
 use Rattle.tables.proofs.read.rowed.Statement.{statement}
 use Rattle.tables.proofs.read.rowed.Tie as tie
 
-number-requires : tie.Need-number-requires
-number-requires c κs = search needs
+byte-requires : tie.Need-byte-requires
+byte-requires c κs = search needs
 
 sub-i : tie.Need-sub-i
 sub-i c = search needs
@@ -26,13 +26,13 @@ returns : tie.Need-returns
 unfolding rowed
 returns c =
     let n = c .before .before .before in
-    rw (n .number .ensures, c .before .row-word .ensures)
+    rw (n .byte .ensures, c .before .row-word .ensures)
 
 pub rowed-spec : {M : Type 1} → statement M
 rowed-spec =
     tie.close
     (tie.spec
-    number-requires
+    byte-requires
     sub-i
     row-word-requires
     mul-t

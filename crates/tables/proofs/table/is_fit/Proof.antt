@@ -1,12 +1,12 @@
 -- `tables::table::is_fit`: the rows are looked at once the sizes fit. Assumes nothing.
-use mathlib.Core.Path.{_≡_, sym, ap, _∙_}
-use mathlib.Core.Bool.{Bool, true, false, _&&_}
+use mathlib.Core.Path.{sym, ap, _∙_}
+use mathlib.Core.Bool.{Bool, _&&_}
 use Prim.Native.Nat.{_-_}
 use native.Mathlib.Omega.{arith}
 use borrow.Author.Needs.{needs}
 use lib.ListN.{take}
-use Rattle.tables.specs.Table.{sizesFit, rowsFit, fit}
-use Rattle.tables.proofs.Fit.{Sizes, sizes-of}
+use Rattle.tables.specs.Table.{rowsFit, fit}
+use Rattle.tables.proofs.Fit.{sizes-of}
 use Rattle.tables.proofs.table.is_fit.Statement.{statement}
 use Rattle.tables.proofs.table.is_fit.Tie as tie
 
@@ -15,20 +15,20 @@ sizes-fit-requires c κs = search needs
 
 sub-rows-fit : tie.Need-sub-rows-fit
 sub-rows-fit c =
-    let t = c .before .before .before .before .args .t1 in
+    let t = c .before .before .before .before .args .t in
     let z = sizes-of (t .symbols) (t .span) (t .depth) (sym (c .before .before .before .sizes-fit .ensures) ∙ c .before .before .if1 .taken) in
     omega arith
 
 rows-fit-requires : tie.Need-rows-fit-requires
 rows-fit-requires c κs =
-    let t = c .before .before .before .before .args .t1 in
+    let t = c .before .before .before .before .args .t in
     let z = sizes-of (t .symbols) (t .span) (t .depth) (sym (c .before .before .before .sizes-fit .ensures) ∙ c .before .before .if1 .taken) in
     omega arith
 
 returns : tie.Need-returns
 unfolding fit
 returns c =
-    let t = c .before .before .before .before .before .args .t1 in
+    let t = c .before .before .before .before .before .args .t in
     c .rows-fit .ensures
     ∙ ap (λ (s : Bool). s && rowsFit (t .span) (take (t .symbols - 1) (t .rows)))
     (sym (c .before .before .before .if1 .taken) ∙ c .before .before .before .before .sizes-fit .ensures)
@@ -36,9 +36,8 @@ returns c =
 returns-2 : tie.Need-returns-2
 unfolding fit
 returns-2 c =
-    let t = c .before .before .args .t1 in
+    let t = c .before .before .args .t in
     ap (λ (s : Bool). s && rowsFit (t .span) (take (t .symbols - 1) (t .rows))) (sym (c .if1 .left) ∙ c .before .sizes-fit .ensures)
 
 pub is-fit-spec : {M : Type 1} → statement M
-is-fit-spec =
-    tie.close (tie.spec sizes-fit-requires sub-rows-fit rows-fit-requires returns returns-2)
+is-fit-spec = tie.close (tie.spec sizes-fit-requires sub-rows-fit rows-fit-requires returns returns-2)
