@@ -11,19 +11,17 @@ use native.Mathlib.Omega.{arith}
 use borrow.Author.Tests.{eq-eqb, ne-eqb, eqb-true, eqb-false}
 use lib.Count.{trailingZeros}
 use lib.Dec.{eqb}
-use lib.ListN.{length, getD, set, take, drop, length-append, length-set, length-take, take-append-drop, List·getD-append}
+use lib.ListN.{length, getD, set, take, drop, length-append, length-set, take-append-drop, List·getD-append}
 use lib.Pow.{pow-mono}
-use lib.Seq.{getD-set-same, getD-set-other, getD-append-seam, append-snoc, take-suc, take-all, take-take, length-take-le}
-use Rattle.span.specs.declared.eliminate.Least.{Least}
+use lib.Seq.{getD-set-same, getD-set-other, getD-append-seam, append-snoc, take-suc, length-take-le}
 use Rattle.span.specs.declared.eliminate.Least.the-variants.{Found, Missing}
 use Rattle.span.specs.declared.eliminate.Basis.{Basis}
 use Rattle.span.specs.declared.eliminate.Reduced.{Reduced}
-use Rattle.span.specs.Word.{_⊕_, bit, commonParity}
+use Rattle.span.specs.Word.{_⊕_, commonParity}
 use Rattle.span.specs.Combination.{combination, Below}
 use Rattle.span.specs.Relation.{leastRelation, leastCoefficients, IsLeast}
 use Rattle.span.specs.Basis.{basis, reducedBy, reducedTo, reduction, answer}
 use Rattle.span.specs.Elimination.{lowestOne, emptyBasis, grown, pickBasis, joined, extended, basisOf}
-use Rattle.span.specs.Combination.{counted}
 use Rattle.span.proofs.Word.{xor-twice, xor-lt, parity-pow, trailing-bit}
 use Rattle.span.proofs.Combination.{combination-lt}
 use Rattle.span.proofs.Relation.{least-unique, least-coefficients, relation-found, relation-none}

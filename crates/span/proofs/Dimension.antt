@@ -1,6 +1,6 @@
 -- Words below 2^N without a relation are at most N, and N of them span everything below 2^N: their combinations are all different, and
 -- there is no room for more than 2^N different numbers below 2^N. Assumes nothing.
-use mathlib.Core.Path.{_≡_, refl, sym, ap, _∙_, subst}
+use mathlib.Core.Path.{_≡_, refl, sym, ap, _∙_}
 use mathlib.Core.Bool.{Bool, true, false}
 use mathlib.Core.Logic.{_≢_}
 use mathlib.Core.List.{List}

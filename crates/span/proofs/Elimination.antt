@@ -6,7 +6,7 @@ use mathlib.Core.Path.{_≡_, refl, sym, ap, ap₂, _∙_, subst}
 use mathlib.Core.Bool.{Bool, true, false, xor}
 use mathlib.Core.Logic.{_≢_, _⊎_, inl, inr}
 use mathlib.Core.List.{List, [], _∷_, _++_}
-use Prim.Native.Nat.{ℕ, zero, suc, _+_, _-_, _^_, _≤_, _<_, zero-le}
+use Prim.Native.Nat.{ℕ, suc, _+_, _-_, _^_, _≤_, _<_, zero-le}
 use native.Mathlib.Nat.{le-refl, le-of-eq, le-of-lt, lt-of-lt-of-le, eq-zero-or-pos}
 use native.Mathlib.Numerals.{add-one}
 use native.Mathlib.Decide.{decLt}
@@ -17,7 +17,6 @@ use lib.Dec.{eqb}
 use lib.ListN.{length, length-append}
 use lib.Seq.{getD-append-seam}
 use lib.Pow.{pow-pos, pow-mono, pow-lt}
-use Rattle.span.specs.declared.eliminate.Least.{Least}
 use Rattle.span.specs.declared.eliminate.Least.the-variants.{Found, Missing}
 use Rattle.span.specs.Word.{_⊕_, bit, sel, commonParity}
 use Rattle.span.specs.Combination.{combination}

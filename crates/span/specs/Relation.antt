@@ -5,7 +5,6 @@
 --   leastCoefficients ws x    the least c below 2^k whose combination is x
 --   raised k r                the coefficients of a target as a relation that ends in it
 --   IsLeast P a b r           r is the least number from a to b − 1 of which P holds, or `Missing` where P holds of none
-use mathlib.Core.Path.{_≡_}
 use mathlib.Core.Bool.{Bool, true, false}
 use mathlib.Core.List.{List}
 use Prim.Native.Nat.{ℕ, zero, suc, _+_, _-_, _^_, _≤_, _<_}

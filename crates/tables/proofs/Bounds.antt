@@ -5,7 +5,7 @@
 --   making-room   and so does every table that making returns
 use mathlib.Core.Path.{_≡_, refl, sym, ap, _∙_}
 use mathlib.Core.Bool.{Bool, true, false, cond}
-use mathlib.Core.List.{List, _++_}
+use mathlib.Core.List.{List}
 use Prim.Native.Nat.{ℕ, zero, suc, _+_, _-_, _≤_}
 use native.Mathlib.Omega.{arith}
 use lib.Dec.{eqb}
@@ -13,7 +13,6 @@ use lib.ListN.{length, take, drop, getD, replicate, length-append, length-replic
 use Rattle.span.specs.Combination.{Below}
 use Rattle.tables.specs.declared.table.Table.{Table}
 use Rattle.tables.specs.declared.read.Progress.{Progress}
-use Rattle.tables.specs.declared.make.Making.{Making}
 use Rattle.tables.specs.declared.make.MakeAnswer.the-variants.{Made, OutOfRange}
 use Rattle.tables.specs.Table.{zeroTable, sizesFit, rowsFit, fit}
 use Rattle.tables.specs.Format.{Parse, refused, parsed, parse, parseFrom, after, sized, rowed, kind, size, place, fault, begun, rowWord}

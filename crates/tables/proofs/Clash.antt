@@ -1,8 +1,8 @@
 -- The question of refusal 10 at one shift is one about the least relation: among the shifted rows and the rows, a relation from n on is a
 -- clash, e0 above and e1 below. Assumes nothing.
-use mathlib.Core.Path.{_≡_, refl, sym, ap, ap₂, _∙_, subst}
+use mathlib.Core.Path.{_≡_, sym, ap, ap₂, _∙_, subst}
 use mathlib.Core.Logic.{_⊎_, inl, inr}
-use mathlib.Core.List.{List, [], _∷_, _++_, map}
+use mathlib.Core.List.{List, _++_, map}
 use Prim.Native.Nat.{ℕ, _+_, _-_, _*_, _/_, _%_, _^_, _≤_, _<_}
 use native.Mathlib.Nat.{eq-zero-or-pos, mod-lt, zero-mul, one-mul, mul-le-mul-right}
 use native.Mathlib.Omega.{arith}
@@ -10,7 +10,6 @@ use lib.Arith.{digits-lt}
 use lib.ListN.{length, take, length-append, length-map}
 use lib.Seq.{take-all}
 use lib.Pow.{pow-pos, pow-add, shr-lt, split, high, low}
-use Rattle.span.specs.declared.eliminate.Least.{Least}
 use Rattle.span.specs.declared.eliminate.Least.the-variants.{Found, Missing}
 use Rattle.span.specs.Word.{_⊕_, shifted}
 use Rattle.span.specs.Combination.{combination, Relation, counted}

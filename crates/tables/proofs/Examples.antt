@@ -1,7 +1,7 @@
 -- The examples T1 to T9, computed. That a small table is suitable is one test over all shifts and blocks. Assumes nothing.
 use mathlib.Core.Path.{_≡_, refl, sym, ap, _∙_}
-use mathlib.Core.Bool.{Bool, true, false, xor, not, _&&_}
-use mathlib.Core.List.{List, [], _∷_, _++_}
+use mathlib.Core.Bool.{Bool, true, xor, not, _&&_}
+use mathlib.Core.List.{List, [], _∷_}
 use Prim.Native.Nat.{ℕ, suc, _-_, _^_}
 use native.Mathlib.Omega.{arith}
 use borrow.Author.Tests.{leb-true, ltb-true, eqb-true, eqb-false, not-true}
@@ -10,10 +10,10 @@ use lib.ListN.{length, replicate}
 use Rattle.span.specs.Word.{_⊕_, odd, bit, shifted}
 use Rattle.span.specs.Combination.{combination}
 use Rattle.tables.specs.Code.{image, shiftedImage, Clashes, Suitable}
-use Rattle.tables.specs.Table.{table, rowsOf, sizesFit}
+use Rattle.tables.specs.Table.{table, sizesFit}
 use Rattle.tables.specs.Format.{size, word, allGiven, taken, firstOf, fault, place, sized, rowed, after, parseFrom, parse}
 use Rattle.tables.specs.Made.{columns, upper, madeRow, madeRows, madeTable, making}
-use Rattle.tables.specs.Examples.{EXAMPLES, row}
+use Rattle.tables.specs.Examples.{EXAMPLES}
 use Rattle.tables.proofs.Fit.{and-left, and-right}
 use Rattle.tables.proofs.Every.{every, every-at}
 

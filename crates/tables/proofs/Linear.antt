@@ -1,20 +1,20 @@
 -- Shifts, single bits and linear maps of words, from the laws of `span`: what the proof about the triangle rests on. A linear map is fixed by
 -- its values at single ones (`linear-same`), and one of k-bit words that maps only 0 to 0 reaches every word (`linear-onto`). Assumes nothing.
 use mathlib.Core.Path.{_≡_, refl, sym, ap, ap₂, _∙_, subst}
-use mathlib.Core.Bool.{Bool, true, false, xor, _&&_}
+use mathlib.Core.Bool.{Bool, true, false, xor}
 use mathlib.Core.Logic.{_≢_}
 use mathlib.Core.List.{List, [], _∷_, _++_}
 use Prim.Native.Nat.{ℕ, zero, suc, _+_, _-_, _*_, _/_, _%_, _^_, _≤_, _<_}
-use native.Mathlib.Nat.{add-zero, zero-mul, one-mul, mul-comm, mul-assoc, mul-mod-left, mod-lt, mod-eq-of-lt, zero-mod, zero-div, le-refl}
-use native.Mathlib.Numerals.{add-one, one-add}
+use native.Mathlib.Nat.{zero-mul, one-mul, mul-comm, mul-assoc, mul-mod-left, mod-lt, mod-eq-of-lt, zero-mod, zero-div, le-refl}
+use native.Mathlib.Numerals.{add-one}
 use native.Mathlib.Decide.{decLe}
 use native.Mathlib.Omega.{arith}
 use lib.ListN.{length, getD, length-append, List·getD-append}
-use lib.Pow.{pow-pos, pow-lt, pow-add, shl-shr, mod-pow-add, mod-mod-pow, field}
+use lib.Pow.{pow-pos, pow-lt, pow-add, shl-shr, mod-pow-add, mod-mod-pow}
 use lib.Seq.{getD-at}
 use Rattle.span.specs.Word.{_⊕_, odd, bit, sel, digit, commonParity, shifted}
 use Rattle.span.specs.Combination.{combination, Below, Independent}
-use Rattle.span.proofs.Laws.{xor-comm, xor-self, xor-zero-l, xor-zero-r, xor-eq, xor-lt, xor-swap, odd-of, odd-mod, odd-digit, bit-zero, bit-suc, bit-xor, bit-none, bit-pow, bit-pow-other, xor-shl, pow-add-xor, sel-xor, sel-lt, shifted-zero, parity-comm, parity-xor, combination-xor, combination-pow, spanning, xor-false-l, xor-false-r, mod-top, shifted-mod}
+use Rattle.span.proofs.Laws.{xor-self, xor-zero-l, xor-zero-r, xor-eq, xor-lt, xor-swap, odd-mod, odd-digit, bit-zero, bit-suc, bit-xor, bit-none, bit-pow, bit-pow-other, xor-shl, pow-add-xor, sel-xor, sel-lt, shifted-zero, parity-comm, parity-xor, combination-xor, combination-pow, spanning, xor-false-l, xor-false-r, mod-top, shifted-mod}
 
 -- ---- words
 

@@ -9,13 +9,12 @@ use mathlib.Core.Logic.{_≢_, _↔_}
 use mathlib.Core.List.{List, [], _∷_, _++_}
 use Prim.Native.Nat.{ℕ, zero, suc, _+_, _-_, _*_, _^_, _≤_, _<_}
 use native.Mathlib.Nat.{le-refl}
-use native.Mathlib.Decide.{ℕ-discrete}
 use native.Mathlib.Omega.{arith}
 use borrow.Author.Tests.{ltb-true, eqb-true}
 use lib.Dec.{ltb, eqb}
 use lib.ListN.{length, getD, take, replicate}
 use lib.Seq.{take-suc, take-at, length-take-le, getD-take, take-all}
-use Rattle.span.specs.Word.{_⊕_, odd, bit, sel, digit, commonParity, shifted}
+use Rattle.span.specs.Word.{_⊕_, odd, bit, digit, commonParity, shifted}
 use Rattle.span.specs.Combination.{combination, Below}
 use Rattle.tables.specs.declared.table.Table.{Table}
 use Rattle.tables.specs.declared.make.MakeAnswer.the-variants.{Made, OutOfRange}

@@ -8,7 +8,7 @@
 --   sizesFit n N m     n is 2 to 16, N is 2 to 64, m is 1 to 64
 --   rowsFit N rows     no row has a one at bit N or above
 --   fit t              refusal 12 does not apply
-use mathlib.Core.Bool.{Bool, true, false, _&&_}
+use mathlib.Core.Bool.{Bool, true, _&&_}
 use mathlib.Core.List.{List, [], _∷_, _++_}
 use Prim.Native.Nat.{ℕ, _-_, _^_}
 use lib.Dec.{leb, ltb}

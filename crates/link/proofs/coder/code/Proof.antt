@@ -1,6 +1,5 @@
 -- `link::coder::code`: a refusal, or a step that is taken. Assumes nothing.
-use mathlib.Core.Path.{_≡_, refl, sym, ap, _∙_}
-use Prim.Native.Nat.{ℕ}
+use mathlib.Core.Path.{sym, ap, _∙_}
 use native.Mathlib.Omega.{arith}
 use borrow.Author.Needs.{needs}
 use Rattle.link.specs.declared.coder.CodeAnswer.the-variants.{Coded}

@@ -1,5 +1,5 @@
 -- `link::decoder::decode`: a refusal, or a step that is taken. Assumes nothing.
-use mathlib.Core.Path.{_≡_, sym, _∙_}
+use mathlib.Core.Path.{sym, _∙_}
 use native.Mathlib.Omega.{arith}
 use borrow.Author.Needs.{needs}
 use Rattle.link.proofs.Faults.{decode-refuses, decodes}

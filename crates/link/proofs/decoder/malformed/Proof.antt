@@ -1,13 +1,12 @@
 -- `link::decoder::malformed`: turn, fill, and the words of the turn's stream. Assumes nothing.
-use mathlib.Core.Path.{_≡_, refl, sym, ap, ap₂, _∙_}
-use mathlib.Core.Bool.{Bool, true, _||_}
-use Prim.Native.Nat.{ℕ, _+_, _-_, _*_, _^_}
-use native.Mathlib.Nat.{mul-le-mul-right}
+use mathlib.Core.Path.{sym, ap, ap₂, _∙_}
+use mathlib.Core.Bool.{Bool, _||_}
+use Prim.Native.Nat.{_-_, _^_}
 use native.Mathlib.Omega.{arith}
 use borrow.Author.Needs.{needs}
 use borrow.Author.Tests.{le-leb, lt-leb, lt-ltb, le-ltb}
-use lib.Dec.{leb, ltb}
-use lib.ListN.{length, getD}
+use lib.Dec.{leb}
+use lib.ListN.{getD}
 use Rattle.tables.proofs.Bounds.{fit-facts}
 use Rattle.link.specs.Coder.{turnOf}
 use Rattle.link.specs.Decoder.{fillOf, delayOf, pendingOf, syndromeOf, delayedOut}

@@ -1,12 +1,11 @@
 -- `link::decoder::some_above`: the ones of the first i words together are above the bound exactly if one of them is. Assumes nothing.
-use mathlib.Core.Path.{_≡_, refl, sym, ap, _∙_}
+use mathlib.Core.Path.{_≡_, sym, ap, _∙_}
 use mathlib.Core.Bool.{Bool, _||_}
-use Prim.Native.Nat.{ℕ, _+_, _-_, _^_, _≤_}
+use Prim.Native.Nat.{_+_, _-_, _^_, _≤_}
 use native.Mathlib.Numerals.{add-one}
 use native.Mathlib.Omega.{arith}
 use borrow.Author.Needs.{needs}
 use borrow.Author.Tests.{lt-leb}
-use lib.Bits.{bitOr}
 use lib.Dec.{leb}
 use lib.ListN.{getD}
 use lib.Pow.{pow-pos}

@@ -5,7 +5,7 @@ use Prim.Native.Nat.{ℕ, suc, _+_, _-_, _≤_, _<_}
 use native.Mathlib.Numerals.{add-one}
 use native.Mathlib.Omega.{arith}
 use borrow.Author.Needs.{needs}
-use lib.ListN.{length, set, drop, replicate, length-append, length-drop, length-replicate, length-set, replicate-append-replicate, drop-of-length-le}
+use lib.ListN.{length, set, drop, replicate, length-replicate, length-set, replicate-append-replicate, drop-of-length-le}
 use lib.Seq.{drop-cons, set-at}
 use Rattle.link.proofs.start.clear.Statement.{statement}
 use Rattle.link.proofs.start.clear.Tie as tie

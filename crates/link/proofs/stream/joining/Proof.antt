@@ -1,5 +1,5 @@
 -- `link::stream::joining`: the exclusive or of the pending word and the combination of the rows. Assumes nothing.
-use mathlib.Core.Path.{_≡_, ap}
+use mathlib.Core.Path.{ap}
 use Prim.Native.Nat.{ℕ}
 use borrow.Author.Needs.{needs}
 use Rattle.span.specs.Word.{_⊕_}

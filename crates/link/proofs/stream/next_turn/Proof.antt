@@ -1,12 +1,11 @@
 -- `link::stream::next_turn`: a turn that is one is followed by the next, or by 0. Assumes nothing.
 use mathlib.Core.Path.{_≡_, refl, sym, ap, _∙_}
 use mathlib.Core.Bool.{Bool, cond}
-use Prim.Native.Nat.{ℕ, suc, _+_, _≤_, _<_}
+use Prim.Native.Nat.{suc}
 use native.Mathlib.Omega.{arith}
 use native.Mathlib.Numerals.{add-one}
 use borrow.Author.Needs.{needs}
 use borrow.Author.Tests.{eq-eqb, ne-eqb}
-use lib.Dec.{eqb}
 use Rattle.link.proofs.stream.next_turn.Statement.{statement}
 use Rattle.link.proofs.stream.next_turn.Tie as tie
 

@@ -1,11 +1,11 @@
 -- `tables::make::made_rows`: after i turns the first i rows stand, and zeros after them. Assumes nothing.
-use mathlib.Core.Path.{_≡_, refl, sym, ap, _∙_}
-use mathlib.Core.List.{List, [], _∷_, _++_}
-use Prim.Native.Nat.{ℕ, zero, suc, _+_, _-_, _≤_, _<_}
+use mathlib.Core.Path.{_≡_, sym, ap, _∙_}
+use mathlib.Core.List.{List, _++_}
+use Prim.Native.Nat.{ℕ, suc, _+_, _-_, _≤_, _<_}
 use native.Mathlib.Numerals.{add-one}
 use native.Mathlib.Omega.{arith}
 use borrow.Author.Needs.{needs}
-use lib.ListN.{length, set, replicate}
+use lib.ListN.{set, replicate}
 use lib.Seq.{set-at, append-snoc}
 use Rattle.tables.specs.Made.{columns, madeRow, madeRows}
 use Rattle.tables.proofs.Triangle.{made-length}
