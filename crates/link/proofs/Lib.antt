@@ -13,6 +13,7 @@ mod Convolution
 mod Register
 mod Interleaving
 mod Runs
+mod Calls
 mod Memory
 mod Room
 mod Lent

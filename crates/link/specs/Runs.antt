@@ -7,9 +7,11 @@
 --   ran fault next           the memory after all the steps
 --   coderAfter s cs, decoderAfter s ds   that of the coder and that of the decoder
 --   sentAt xs p, takenAt xs p   entry p of such a list, counted from 1; past its end noneSent and noneTaken
+--   RUN-CODES, RUN-DECODES   the steps of a run are the calls of the functions
 --   RUN-APPEND               a run over two lists is one over the first, and then one over the second from the memory after it
 use mathlib.Core.Path.{_≡_}
 use mathlib.Core.Bool.{true, false}
+use mathlib.Core.Logic.{_≢_}
 use mathlib.Core.List.{List, [], _∷_, _++_}
 use Prim.Native.Nat.{ℕ, _-_}
 use lib.Dec.{eqb}
@@ -17,9 +19,10 @@ use lib.ListN.{getD}
 use Rattle.tables.specs.declared.table.Table.{Table}
 use Rattle.tables.specs.Table.{zeroTable}
 use Rattle.link.specs.declared.decoder.DecodeAnswer.{DecodeAnswer}
-use Rattle.link.specs.declared.decoder.DecodeAnswer.the-variants.{NothingYet}
-use Rattle.link.specs.Coder.{coderFault, codedBlock, coderNext}
-use Rattle.link.specs.Decoder.{decoderFault, delivery, decoderNext}
+use Rattle.link.specs.declared.decoder.DecodeAnswer.the-variants.{NothingYet, Refused as DecodeRefused}
+use Rattle.link.specs.declared.coder.CodeAnswer.the-variants.{Coded, Refused as CodeRefused}
+use Rattle.link.specs.Coder.{coderFault, codedBlock, coderNext, codeAnswer, codeMemory}
+use Rattle.link.specs.Decoder.{decoderFault, delivery, decoderNext, decodeAnswer, decodeMemory}
 
 pub record Call : Type 0 where
   pub table : Table
@@ -90,3 +93,23 @@ RUN-APPEND =
     (X : Type 0) (fault : Table → List ℕ → ℕ → ℕ) (next : Table → List ℕ → ℕ → List ℕ) (entry : Table → List ℕ → ℕ → X) (s : List ℕ) (cs cs′ : List Call)
     → (run fault next entry s (cs ++ cs′) ≡ run fault next entry s cs ++ run fault next entry (ran fault next s cs) cs′)
     × (ran fault next s (cs ++ cs′) ≡ ran fault next (ran fault next s cs) cs′)
+
+-- The steps of a run are the calls of the functions: each gets the memory that the one before it left, and of those that are not refused the run
+-- keeps the answer. (`code` and `decode` promise `codeAnswer`, `codeMemory`, `decodeAnswer` and `decodeMemory`.)
+abbrev pub RUN-CODES : Type 0
+RUN-CODES =
+    (s : List ℕ) (c : Call) (cs : List Call) →
+    let answer = codeAnswer (c .table) s (c .block) in
+    let after = codeMemory (c .table) s (c .block) in
+    ((k : ℕ) → answer ≡ CodeRefused k → sentBy s (c ∷ cs) ≡ sentBy after cs)
+    × ((x : ℕ) → answer ≡ Coded x → sentBy s (c ∷ cs) ≡ record { table = c .table; info = c .block; block = x } ∷ sentBy after cs)
+    × (coderAfter s (c ∷ cs) ≡ coderAfter after cs)
+
+abbrev pub RUN-DECODES : Type 0
+RUN-DECODES =
+    (s : List ℕ) (d : Call) (ds : List Call) →
+    let answer = decodeAnswer (d .table) s (d .block) in
+    let after = decodeMemory (d .table) s (d .block) in
+    ((k : ℕ) → answer ≡ DecodeRefused k → takenBy s (d ∷ ds) ≡ takenBy after ds)
+    × (((k : ℕ) → answer ≢ DecodeRefused k) → takenBy s (d ∷ ds) ≡ record { table = d .table; block = d .block; answer = answer } ∷ takenBy after ds)
+    × (decoderAfter s (d ∷ ds) ≡ decoderAfter after ds)
