@@ -11,6 +11,7 @@ use mathlib.Core.Bool.{Bool, true, false, xor}
 use mathlib.Core.Logic.{_≢_}
 use mathlib.Core.List.{List, [], _∷_, _++_, map}
 use Prim.Native.Nat.{ℕ, suc, _+_, _*_, _/_, _%_, _^_, _≤_, _<_, min}
+use lib.Bits.{bitXor}
 use lib.ListN.{length, getD, take}
 use Rattle.span.specs.declared.eliminate.Reduced.{Reduced}
 use Rattle.span.specs.declared.eliminate.Least.the-variants.{Found, Missing}
@@ -52,6 +53,10 @@ xor-self = Word.xor-self
 
 pub xor-zero-l : (a : ℕ) → 0 ⊕ a ≡ a
 xor-zero-l = Word.xor-zero-l
+
+-- the exclusive or of the code's words
+pub xor-code : (a b : ℕ) → bitXor a b ≡ a ⊕ b
+xor-code = Word.xor-code
 
 pub xor-zero-r : (a : ℕ) → a ⊕ 0 ≡ a
 xor-zero-r = Word.xor-zero-r

@@ -123,6 +123,10 @@ odd-xor a b =
 
 -- ---- the group
 
+pub xor-code : (a b : ℕ) → bitXor a b ≡ a ⊕ b
+unfolding _⊕_
+xor-code a b = refl
+
 pub xor-zero-l : (a : ℕ) → 0 ⊕ a ≡ a
 unfolding _⊕_
 xor-zero-l a = refl

@@ -1,9 +1,11 @@
 -- `link::decoder::decode_stream`: the turn's part as the step leaves it, and all else as it was. Assumes nothing.
 use mathlib.Core.Path.{_≡_, ap₂, _∙_}
-use Prim.Native.Nat.{ℕ, _+_}
+use Prim.Native.Nat.{ℕ, _+_, _≤_}
 use native.Mathlib.Omega.{arith}
 use borrow.Author.Needs.{needs}
 use borrow.Rule.Slice.PartMut.{mid-len}
+use lib.ListN.{length}
+use Rattle.tables.proofs.Bounds.{Fitting}
 use Rattle.link.specs.declared.decoder.Mark.{Mark}
 use Rattle.link.specs.declared.decoder.Delivered.{Delivered}
 use Rattle.link.specs.Coder.{turnOf}
@@ -14,67 +16,52 @@ use Rattle.link.proofs.Lent.{syndrome-is, oldest-is, lent-info, lent-ma
 use Rattle.link.proofs.decoder.decode_stream.Statement.{statement}
 use Rattle.link.proofs.decoder.decode_stream.Tie as tie
 
+-- the turn's part lies inside, and nothing overflows
+room : (c : tie.Start)
+    → let t = c .args .t1 in
+    let s = c .args .state .now in
+    Fitting t × (streamAt t (turnOf s) + (t .span + 1) ≤ length s) × (length s ≤ 4162)
+room c =
+    let s = c .args .state .now in
+    let k = decoder-taken (c .args .t1) s (c .args .received) (c .pre) in
+    let z = k .sizes in
+    let most = fit-room (c .args .t1) z in
+    let inside = turn-room (c .args .t1) z (turnOf s) (k .turn) in
+    (z, omega arith, omega arith)
+
 slice-read-turn : tie.Need-slice-read-turn
 slice-read-turn c =
-    let a = c .before .before .args in
-    let s = a .state .now in
-    let k = decoder-taken (a .t1) s (a .received) (c .before .before .pre) in
+    let r = room (c .before .before) in
     omega arith
 
 add-at : tie.Need-add-at
 add-at c =
-    let a = c .before .before .args in
-    let s = a .state .now in
-    let k = decoder-taken (a .t1) s (a .received) (c .before .before .pre) in
-    let z = k .sizes in
+    let r = room (c .before .before) in
     record { fits = omega arith }
 
 mul-at : tie.Need-mul-at
 mul-at c =
-    let a = c .before .before .args in
-    let s = a .state .now in
-    let k = decoder-taken (a .t1) s (a .received) (c .before .before .pre) in
-    let z = k .sizes in
-    let room = fit-room (a .t1) z in
-    let inside = turn-room (a .t1) z (turnOf s) (k .turn) in
+    let r = room (c .before .before) in
     record { fits = omega arith }
 
 add-at-2 : tie.Need-add-at-2
 add-at-2 c =
-    let a = c .before .before .args in
-    let s = a .state .now in
-    let k = decoder-taken (a .t1) s (a .received) (c .before .before .pre) in
-    let z = k .sizes in
-    let room = fit-room (a .t1) z in
-    let inside = turn-room (a .t1) z (turnOf s) (k .turn) in
+    let r = room (c .before .before) in
     record { fits = omega arith }
 
 add-end : tie.Need-add-end
 add-end c =
-    let a = c .before .before .args in
-    let s = a .state .now in
-    let k = decoder-taken (a .t1) s (a .received) (c .before .before .pre) in
-    let z = k .sizes in
+    let r = room (c .before .before) in
     record { fits = omega arith }
 
 add-end-2 : tie.Need-add-end-2
 add-end-2 c =
-    let a = c .before .before .args in
-    let s = a .state .now in
-    let k = decoder-taken (a .t1) s (a .received) (c .before .before .pre) in
-    let z = k .sizes in
-    let room = fit-room (a .t1) z in
-    let inside = turn-room (a .t1) z (turnOf s) (k .turn) in
+    let r = room (c .before .before) in
     record { fits = omega arith }
 
 mul-step : tie.Need-mul-step
 mul-step c =
-    let a = c .before .before .args in
-    let s = a .state .now in
-    let k = decoder-taken (a .t1) s (a .received) (c .before .before .pre) in
-    let z = k .sizes in
-    let room = fit-room (a .t1) z in
-    let inside = turn-room (a .t1) z (turnOf s) (k .turn) in
+    let r = room (c .before .before) in
     record { fits = omega arith }
 
 sub-step : tie.Need-sub-step
@@ -85,11 +72,7 @@ part-step-start c = search needs
 
 part-step-end : tie.Need-part-step-end
 part-step-end c =
-    let a = c .before .before .args in
-    let s = a .state .now in
-    let k = decoder-taken (a .t1) s (a .received) (c .before .before .pre) in
-    let z = k .sizes in
-    let inside = turn-room (a .t1) z (turnOf s) (k .turn) in
+    let r = room (c .before .before) in
     omega arith
 
 step-requires : tie.Need-step-requires

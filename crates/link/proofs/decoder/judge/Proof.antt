@@ -1,7 +1,7 @@
 -- `link::decoder::judge`: the four cases of a register. Assumes nothing.
 use mathlib.Core.Path.{_≡_, sym, ap, _∙_}
 use mathlib.Core.Bool.{true, false}
-use Prim.Native.Nat.{_≤_}
+use Prim.Native.Nat.{_^_, _≤_, _<_}
 use native.Mathlib.Omega.{arith}
 use borrow.Author.Needs.{needs}
 use lib.ListN.{length}
@@ -25,27 +25,22 @@ least-error-requires c κs = search needs
 enum-known-least : tie.Need-enum-known-least
 enum-known-least c = search needs
 
-cast-t8 : tie.Need-cast-t8
-cast-t8 c =
+-- an error block has 16 bits at most
+error-fits : (c : tie.After-known-told) → c .before .least .given .0 .0 < 2 ^ 16
+error-fits c =
     let a = c .before .before .before .before .before .before .args in
     let R = codeRows (a .n) (a .rows .now) in
-    let e = c .before .least .given .0 .0 in
     let size : length R ≡ a .n = code-size (a .n) (a .rows .now) (omega arith) (omega arith) in
-    let l = found-lt R (a .x) e (sym (c .before .before .before .least-error .ensures) ∙ c .before .least .given .1) in
+    let l = found-lt R (a .x) (c .before .least .given .0 .0) (sym (c .before .before .before .least-error .ensures) ∙ c .before .least .given .1) in
     let h : length R ≤ 16 = omega arith in
     let m = pow-mono h in
-    record { fits = omega arith }
+    omega arith
+
+cast-t8 : tie.Need-cast-t8
+cast-t8 c = record { fits = error-fits c }
 
 cast-t9 : tie.Need-cast-t9
-cast-t9 c =
-    let a = c .before .before .before .before .before .before .args in
-    let R = codeRows (a .n) (a .rows .now) in
-    let e = c .before .least .given .0 .0 in
-    let size : length R ≡ a .n = code-size (a .n) (a .rows .now) (omega arith) (omega arith) in
-    let l = found-lt R (a .x) e (sym (c .before .before .before .least-error .ensures) ∙ c .before .least .given .1) in
-    let h : length R ≤ 16 = omega arith in
-    let m = pow-mono h in
-    record { fits = omega arith }
+cast-t9 c = record { fits = error-fits c }
 
 returns-2 : tie.Need-returns-2
 returns-2 c =

@@ -4,20 +4,22 @@ use mathlib.Core.Bool.{Bool, xor}
 use Prim.Native.Nat.{ℕ, suc, _+_, _-_, _*_, _/_, _%_, _^_, _≤_, _<_}
 use native.Mathlib.Omega.{arith}
 use borrow.Author.Needs.{needs}
+use lib.Bits.{bitXor}
 use lib.Pow.{pow-mono}
 use Rattle.span.specs.Word.{_⊕_, odd, digit}
-use Rattle.span.proofs.Laws.{odd-mod, odd-xor, bit-odd}
+use Rattle.span.proofs.Laws.{xor-code, odd-mod, odd-xor, bit-odd}
 use Rattle.link.specs.Stream.{rawTerm}
 use Rattle.link.proofs.Words.{bit-most, bit-shifted}
 use Rattle.link.proofs.decoder.register.Statement.{statement}
 use Rattle.link.proofs.decoder.register.Tie as tie
 
 -- bit 0 of the two together is the raw term
-raw-is : (w n r : ℕ) → (w ⊕ r / 2 ^ (n - 1)) % 2 ≡ digit (rawTerm w n r)
+raw-is : (w n r : ℕ) → bitXor w (r / 2 ^ (n - 1)) % 2 ≡ digit (rawTerm w n r)
 raw-is w n r =
-    odd-mod (w ⊕ r / 2 ^ (n - 1)) ∙ ap digit (odd-xor w (r / 2 ^ (n - 1)) ∙ ap (λ (b : Bool). xor (odd w) b) (sym (bit-odd (n - 1) r)))
+    let high = r / 2 ^ (n - 1) in
+    ap (λ (x : ℕ). x % 2) (xor-code w high) ∙ odd-mod (w ⊕ high) ∙ ap digit (odd-xor w high ∙ ap (λ (b : Bool). xor (odd w) b) (sym (bit-odd (n - 1) r)))
 
-raised : (w n r k : ℕ) → k < 64 → (w ⊕ r / 2 ^ (n - 1)) % 2 * 2 ^ k % 2 ^ 64 ≡ digit (rawTerm w n r) * 2 ^ k
+raised : (w n r k : ℕ) → k < 64 → bitXor w (r / 2 ^ (n - 1)) % 2 * 2 ^ k % 2 ^ 64 ≡ digit (rawTerm w n r) * 2 ^ k
 raised w n r k h = ap (λ (x : ℕ). x * 2 ^ k % 2 ^ 64) (raw-is w n r) ∙ bit-shifted (rawTerm w n r) k h
 
 sub-raw : tie.Need-sub-raw
@@ -33,7 +35,6 @@ shl-result : tie.Need-shl-result
 shl-result c = search needs
 
 add-result : tie.Need-add-result
-unfolding _⊕_
 add-result c =
     let a = c .args in
     let k = a .span - 1 in
@@ -44,7 +45,6 @@ add-result c =
     record { fits = omega arith }
 
 returns : tie.Need-returns
-unfolding _⊕_
 returns c =
     let a = c .args in
     ap (λ (x : ℕ). a .syndrome + x) (raised (a .w) (a .n) (a .received) (a .span - 1) (omega arith))

@@ -5,10 +5,11 @@ use Prim.Native.Nat.{ℕ, _-_, _/_, _^_, _≤_, _<_}
 use native.Mathlib.Nat.{mod-lt}
 use native.Mathlib.Omega.{arith}
 use borrow.Author.Needs.{needs}
+use lib.Bits.{xor-lt}
 use lib.ListN.{length, getD, set, take, drop, length-set, length-append, length-drop}
 use lib.Pow.{pow-pos, pow-mono}
 use Rattle.span.specs.Word.{_⊕_}
-use Rattle.span.proofs.Laws.{xor-lt}
+use Rattle.span.proofs.Laws.{xor-code}
 use Rattle.tables.specs.Table.{codeRows}
 use Rattle.link.specs.Stream.{joining, information, rawTerm, register, streamJoining, streamNext, found, errorOf, keptOf, markOf}
 use Rattle.link.proofs.decoder.step.Statement.{statement}
@@ -65,7 +66,6 @@ information-requires-2 : tie.Need-information-requires-2
 information-requires-2 c κs = search needs
 
 cast-t23 : tie.Need-cast-t23
-unfolding _⊕_
 cast-t23 c =
     let a = c .before .before .before .before .before .before .before .before .before .before .before .before .before .before .before .args in
     let some = pow-pos (a .n - 1) in
@@ -100,7 +100,6 @@ same-length c =
     ap length (part-is c) ∙ omega arith
 
 returns : tie.Need-returns
-unfolding _⊕_
 returns c =
     let a = c .before .before .before .before .before .before .before .before .before .before .before .before .before .before .before .args in
     let p = a .part .now in
@@ -108,7 +107,8 @@ returns c =
     let w = joined (a .n) (a .rows .now) (getD p 0 0) (a .received) (c .before .before .before .before .before .before .before .before .before .before .before .before .information .result) (c .before .before .before .before .before .before .before .before .before .before .joining .result) (c .before .before .before .before .before .before .before .before .before .before .before .before .information .ensures)
     (c .before .before .before .before .before .before .before .before .before .before .joining .ensures) in
     let x = c .before .before .before .before .before .before .before .before .register .ensures ∙ ap (λ (y : ℕ). register (a .span) (getD p 1 0) (rawTerm y (a .n) (a .received))) w in (
-      ap (λ (y : ℕ). getD p 2 0 ⊕ y) (c .information2 .ensures ∙ ap (information (a .n)) (c .before .before .before .before .before .before .before .judge .ensures .0 ∙ ap (λ (y : ℕ). errorOf (found R y)) x)),
+      xor-code (getD p 2 0) (c .information2 .result)
+          ∙ ap (λ (y : ℕ). getD p 2 0 ⊕ y) (c .information2 .ensures ∙ ap (information (a .n)) (c .before .before .before .before .before .before .before .judge .ensures .0 ∙ ap (λ (y : ℕ). errorOf (found R y)) x)),
       (c .before .before .before .before .before .before .before .judge .ensures .1 .1 ∙ ap (λ (y : ℕ). markOf (found R y) y) x, part-is c),
     )
 
