@@ -3,7 +3,7 @@ use mathlib.Core.Logic.{_⊎_, inl, inr}
 use mathlib.Core.List.{List, [], _∷_}
 use Prim.Native.Nat.{ℕ, _+_, _<_}
 use native.Mathlib.Omega.{arith}
-use Rattle.link.specs.Recovery.{Stretch, Apart, Chosen, Within, Bursts, Separated}
+use Rattle.link.specs.Recovery.{Stretch, Apart, Chosen, Within, Bursts, Separated, BURSTS-SEPARATED}
 
 module _ (wrong : ℕ → Type 0) (long gap count : ℕ) where
   -- what lies in a later burst lies beyond the gap
@@ -22,6 +22,9 @@ module _ (wrong : ℕ → Type 0) (long gap count : ℕ) where
   far-apart (d ∷ bs) c p q l (inr a) (inl b) = absurd (let z = beyond d bs (c .1) (c .2) p a in omega arith)
   far-apart (d ∷ bs) c p q l (inr a) (inr b) = far-apart bs (c .2) p q l a b
 
-  pub bursts-apart : Bursts wrong long gap count → Separated wrong long gap count
+  bursts-apart : Bursts wrong long gap count → Separated wrong long gap count
   bursts-apart b p q from l to u v =
       far-apart (b .chosen) (b .apart) p q l (b .covered p from (omega arith) u) (b .covered q (omega arith) to v)
+
+pub bursts-separated : BURSTS-SEPARATED
+bursts-separated wrong long gap count b = bursts-apart wrong long gap count b

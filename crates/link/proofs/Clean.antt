@@ -19,7 +19,7 @@ use Rattle.link.specs.Clean.{Clean, Undisturbed, CLEAN, STARTED-CLEAN}
 use Rattle.link.proofs.Started.{started-word}
 use Rattle.link.proofs.Runs.{before-first, coderBefore, decoderBefore}
 use Rattle.link.proofs.OneTable.{from-one}
-use Rattle.link.proofs.Bursts.{bursts-apart}
+use Rattle.link.proofs.Bursts.{bursts-separated}
 use Rattle.link.proofs.Fade.{WrongApart, Sure, delivers, delivers-first, clean-first}
 use Rattle.link.proofs.Recovery.{answer, separated, linked, recovered}
 
@@ -51,7 +51,7 @@ module _ {t : Table} {coder decoder : List ℕ} {cs ds : List Call} (f : Running
       ∙ sym (ap (λ (s : List ℕ). pendingAt s ((turnOf s + d) % t .depth)) coder-first)
 
   apart : WrongApart (blockTaken taken) (blockSent sent) (t .depth) (delayOf t) (length taken)
-  apart = separated f (bursts-apart (Wrong sent taken) (t .depth) (delayOf t) (length taken) b)
+  apart = separated f (bursts-separated (Wrong sent taken) (t .depth) (delayOf t) (length taken) b)
 
   -- no block is asked to be right
   none : (p : ℕ) → p < 0 * t .depth → p < length taken → blockTaken taken p ≡ blockSent sent p

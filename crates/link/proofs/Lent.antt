@@ -5,19 +5,16 @@
 --   lent-info, lent-mark   information and mark of the record
 --   lent-memory  the memory with that part in its place
 use mathlib.Core.Path.{_≡_, sym, ap, ap₂, _∙_}
-use mathlib.Core.List.{List, [], _∷_, _++_}
-use Prim.Native.Nat.{ℕ, _+_, _-_, _/_, _≤_, _<_}
+use mathlib.Core.List.{List}
+use Prim.Native.Nat.{ℕ, _+_, _-_, _≤_, _<_}
 use native.Mathlib.Nat.{add-zero}
 use native.Mathlib.Omega.{arith}
 use borrow.Rule.Slice.PartMut.{midOf, putMid}
-use lib.ListN.{length, getD, take, drop}
-use Rattle.span.specs.declared.eliminate.Least.{Least}
-use Rattle.span.specs.Word.{_⊕_}
+use lib.ListN.{length, getD, drop}
 use Rattle.tables.specs.declared.table.Table.{Table}
-use Rattle.tables.specs.Table.{rowsOf}
-use Rattle.link.specs.Stream.{information, found, errorOf, keptOf, markOf, streamJoining, streamRegister, streamFound, streamNext, streamInfo, streamMark}
+use Rattle.link.specs.Stream.{streamNext, streamInfo, streamMark}
 use Rattle.link.specs.Coder.{turnOf}
-use Rattle.link.specs.Decoder.{streamAt, pendingOf, syndromeOf, delayedOf, decoderJoining, decoderRegister, decoderFound, partNext, delivered}
+use Rattle.link.specs.Decoder.{streamAt, pendingOf, syndromeOf, delayedOf, partNext, streamReplaced, delivered}
 use Rattle.link.proofs.Parts.{mid-word, mid-drop, put-part}
 
 module _ (t : Table) (s : List ℕ) (r : ℕ) (span-from : 2 ≤ t .span) (room : streamAt t (turnOf s) + (t .span + 1) ≤ length s) where
@@ -42,33 +39,23 @@ module _ (t : Table) (s : List ℕ) (r : ℕ) (span-from : 2 ≤ t .span) (room 
   pub oldest-is : getD part 2 0 ≡ delayedOf t s (turnOf s) 0
   oldest-is = word 2 (omega arith) ∙ ap (λ (i : ℕ). getD s i 0) (sym (add-zero (at + 2)))
 
-  joining-is : streamJoining (t .symbols) (t .rows) (getD part 0 0) r ≡ decoderJoining t s r
-  unfolding decoderJoining
-  joining-is = ap (λ (p : ℕ). streamJoining (t .symbols) (t .rows) p r) pending-is
-
-  register-is : streamRegister (t .symbols) (t .span) (t .rows) (getD part 0 0) (getD part 1 0) r ≡ decoderRegister t s r
-  unfolding decoderRegister decoderJoining
-  register-is = ap₂ (λ (p q : ℕ). streamRegister (t .symbols) (t .span) (t .rows) p q r) pending-is syndrome-is
-
-  found-is : streamFound (t .symbols) (t .span) (t .rows) part r ≡ decoderFound t s r
-  unfolding decoderFound
-  found-is = ap (found (rowsOf t)) register-is
-
-  pub lent-part : streamNext (t .symbols) (t .span) (t .rows) part r ≡ partNext t s r
+  pub lent-part : streamNext (t .symbols) (t .span) (t .rows) (getD part 0 0) (getD part 1 0) (drop 3 part) r ≡ partNext t s r
   unfolding partNext
   lent-part =
-      ap₂ (λ (w k : ℕ). w / 2 ∷ k ∷ (drop 3 part ++ (information (t .symbols) r ∷ []))) joining-is (ap₂ keptOf found-is register-is)
-      ∙ ap (λ (l : List ℕ). decoderJoining t s r / 2 ∷ keptOf (decoderFound t s r) (decoderRegister t s r) ∷ (l ++ (information (t .symbols) r ∷ [])))
+      ap₂ (λ (p q : ℕ). streamNext (t .symbols) (t .span) (t .rows) p q (drop 3 part) r) pending-is syndrome-is
+      ∙ ap (λ (l : List ℕ). streamNext (t .symbols) (t .span) (t .rows) (pendingOf t s (turnOf s)) (syndromeOf t s (turnOf s)) l r)
       (mid-drop s at end 3 (omega arith) room)
 
-  pub lent-info : streamInfo (t .symbols) (t .span) (t .rows) part r ≡ delivered t s r .info
+  pub lent-info : streamInfo (t .symbols) (t .span) (t .rows) (getD part 0 0) (getD part 1 0) (getD part 2 0) r ≡ delivered t s r .info
   unfolding delivered
-  lent-info = ap₂ (λ (x : ℕ) (f : Least). x ⊕ information (t .symbols) (errorOf f)) oldest-is found-is
+  lent-info =
+      ap₂ (λ (p q : ℕ). streamInfo (t .symbols) (t .span) (t .rows) p q (getD part 2 0) r) pending-is syndrome-is
+      ∙ ap (λ (o : ℕ). streamInfo (t .symbols) (t .span) (t .rows) (pendingOf t s (turnOf s)) (syndromeOf t s (turnOf s)) o r) oldest-is
 
-  pub lent-mark : streamMark (t .symbols) (t .span) (t .rows) part r ≡ delivered t s r .mark
+  pub lent-mark : streamMark (t .symbols) (t .span) (t .rows) (getD part 0 0) (getD part 1 0) r ≡ delivered t s r .mark
   unfolding delivered
-  lent-mark = ap₂ markOf found-is register-is
+  lent-mark = ap₂ (λ (p q : ℕ). streamMark (t .symbols) (t .span) (t .rows) p q r) pending-is syndrome-is
 
-  pub lent-memory : (last : List ℕ) → last ≡ streamNext (t .symbols) (t .span) (t .rows) part r
-      → putMid at (end - at) s last ≡ take at s ++ (partNext t s r ++ drop end s)
+  pub lent-memory : (last : List ℕ) → last ≡ streamNext (t .symbols) (t .span) (t .rows) (getD part 0 0) (getD part 1 0) (drop 3 part) r
+      → putMid at (end - at) s last ≡ streamReplaced t s r
   lent-memory last e = ap (putMid at (end - at) s) (e ∙ lent-part) ∙ put-part s (partNext t s r) at end (omega arith)

@@ -387,12 +387,8 @@ decoder-step t s r e = record {
     to = nextTurn (t .depth) (turnOf s)
 
 pub decoder-length : (t : Table) (s : List ℕ) (r : ℕ) → decoderFault t s r ≡ 0 → length (decoderNext t s r) ≡ length s
-unfolding decoderNext partNext
-decoder-length t s r e =
-    let k = decoder-taken t s r e in
-    simp length-set
-    (body-length (t .span) (t .depth) s (decoderJoining t s r / 2) (keptOf (decoderFound t s r) (decoderRegister t s r)) (r % 2 ^ (t .symbols - 1))
-    (fillNext t (fillOf s)) (nextTurn (t .depth) (turnOf s)) (k .sizes .N-from) (k .size) (k .turn))
+unfolding decoderNext
+decoder-length t s r e = simp length-set (replaced-front t s r (decoder-taken t s r e) .0)
 
 pub record Verdict (n N : ℕ) (infos : List ℕ) (s : List ℕ) (r : ℕ) (raw : Bool) (register : ℕ) (error : Least) : Type 0 where
   pub raw-is : raw ≡ xor (odd (joining infos (pendingIn N s) (r % 2 ^ (n - 1)))) (bit (n - 1) r)

@@ -20,7 +20,7 @@ use Rattle.link.specs.Massey.{infoSent, blockSent, blockTaken}
 use Rattle.link.proofs.Origin.{origin-coding}
 use Rattle.link.proofs.Runs.{coderBefore, decoderBefore}
 use Rattle.link.proofs.OneTable.{coded, decoded}
-use Rattle.link.proofs.Bursts.{bursts-apart}
+use Rattle.link.proofs.Bursts.{bursts-separated}
 use Rattle.link.proofs.Fade.{Linked, WrongApart, Sure, recovers}
 
 module _ {t : Table} {coder decoder : List ℕ} {cs ds : List Call} (f : Running t coder decoder cs ds) where
@@ -75,4 +75,4 @@ running f = record { origin = f .origin; coder-tables = f .coder-tables; decoder
 pub recovery : RECOVERY
 recovery t coder decoder cs ds f =
     recovery-any-memory t coder decoder cs ds (running f) (f .guard)
-    (bursts-apart (Wrong (sentBy coder cs) (takenBy decoder ds)) (t .depth) (delayOf t) (length (takenBy decoder ds)) (f .bursts))
+    (bursts-separated (Wrong (sentBy coder cs) (takenBy decoder ds)) (t .depth) (delayOf t) (length (takenBy decoder ds)) (f .bursts))

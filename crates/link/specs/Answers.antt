@@ -4,13 +4,15 @@
 --
 --   markNumber k, markError k   the number of a mark, and its e or 0
 --   startNumbers, codeNumbers, decodeNumbers   the numbers of an answer
---   Answered fault values next before ns after   the numbers and the memory after a call that has this fault
+--   Answered fault values next before ns after   the numbers and the memory after a call that has this fault; every function promises it
+--   decodeValues t s r          the values of a decoder's step that is taken
 --   START-NUMBERS, CODE-NUMBERS, DECODE-NUMBERS  those of every start and of every step
 use mathlib.Core.Path.{_≡_}
+use mathlib.Core.Bool.{true, false}
 use mathlib.Core.Logic.{_≢_}
 use mathlib.Core.List.{List, [], _∷_}
-use Prim.Native.Nat.{ℕ, _≤_, _<_}
-use lib.ListN.{getD}
+use Prim.Native.Nat.{ℕ}
+use lib.Dec.{ltb}
 use Rattle.tables.specs.declared.table.Table.{Table}
 use Rattle.link.specs.declared.start.StartAnswer.{StartAnswer}
 use Rattle.link.specs.declared.start.StartAnswer.the-variants.{Started, Refused as StartRefused}
@@ -58,7 +60,6 @@ decodeNumbers (DecodeRefused k) = k ∷ []
 -- "A refusal returns its number .. It writes no lent word, so a sequence goes on as if the call had not come." A call that is not refused returns
 -- 0 and its values, and the memory after it is `next`.
 pub record Answered (fault : ℕ) (values next before ns after : List ℕ) : Type 0 where
-  pub number : getD ns 0 0 ≡ fault
   pub refused : fault ≢ 0 → (ns ≡ fault ∷ []) × (after ≡ before)
   pub taken : fault ≡ 0 → (ns ≡ 0 ∷ values) × (after ≡ next)
 
@@ -73,10 +74,10 @@ CODE-NUMBERS =
     → Answered (coderFault t s b) (codedBlock t s b ∷ []) (coderNext t s b) s (codeNumbers (codeAnswer t s b)) (codeMemory t s b)
 
 -- "If fill was complete, the oldest delayed block, corrected by e, is delivered in a record with its mark; if not, the answer is "nothing yet""
+abbrev pub decodeValues : Table → List ℕ → ℕ → List ℕ
+decodeValues t s r = elim (ltb (fillOf s) (delayOf t)) [ true ↦ 0 ∷ 0 ∷ 0 ∷ [] | false ↦ recordNumbers (delivered t s r) ]
+
 abbrev pub DECODE-NUMBERS : Type 0
 DECODE-NUMBERS =
     (t : Table) (s : List ℕ) (r : ℕ)
-    → (fillOf s < delayOf t
-    → Answered (decoderFault t s r) (0 ∷ 0 ∷ 0 ∷ []) (decoderNext t s r) s (decodeNumbers (decodeAnswer t s r)) (decodeMemory t s r))
-    × (delayOf t ≤ fillOf s
-    → Answered (decoderFault t s r) (recordNumbers (delivered t s r)) (decoderNext t s r) s (decodeNumbers (decodeAnswer t s r)) (decodeMemory t s r))
+    → Answered (decoderFault t s r) (decodeValues t s r) (decoderNext t s r) s (decodeNumbers (decodeAnswer t s r)) (decodeMemory t s r)

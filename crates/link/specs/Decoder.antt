@@ -22,15 +22,14 @@ use Prim.Native.Nat.{ℕ, zero, suc, _+_, _-_, _*_, _^_, _≤_, _<_}
 use lib.Dec.{leb, ltb, eqb}
 use lib.ListN.{length, getD, set, take, drop}
 use Rattle.span.specs.declared.eliminate.Least.{Least}
-use Rattle.span.specs.Word.{_⊕_}
 use Rattle.tables.specs.declared.table.Table.{Table}
-use Rattle.tables.specs.Table.{rowsOf, fit}
+use Rattle.tables.specs.Table.{fit}
 use Rattle.tables.specs.Format.{firstOf}
 use Rattle.link.specs.declared.decoder.Delivered.{Delivered}
 use Rattle.link.specs.declared.decoder.DecodeAnswer.{DecodeAnswer}
 use Rattle.link.specs.declared.decoder.DecodeAnswer.the-variants.{Delivery, NothingYet, Refused}
-use Rattle.link.specs.Stream.{joining, nextPending, information, rawTerm, register, found, errorOf, keptOf, markOf, nextTurn}
-use Rattle.link.specs.Coder.{infoRows, turnOf}
+use Rattle.link.specs.Stream.{streamJoining, streamRegister, streamFound, streamNext, streamInfo, streamMark, nextTurn}
+use Rattle.link.specs.Coder.{turnOf}
 
 -- "Decoder: 2 + m × (N + 1) words"
 abbrev pub decoderWords : Table → ℕ
@@ -79,24 +78,23 @@ unfoldable pub decoderFault : Table → List ℕ → ℕ → ℕ
 decoderFault t s r =
     firstOf 12 (not (fit t) ∷ not (eqb (length s) (decoderWords t)) ∷ decoderMalformed t s ∷ leb (2 ^ t .symbols) r ∷ [])
 
--- the four lines of a decoding step, at the turn's stream
+-- the four lines of a decoding step (`Stream`), on the words of the turn's stream
 unfoldable pub decoderJoining : Table → List ℕ → ℕ → ℕ
-decoderJoining t s r = joining (infoRows t) (pendingOf t s (turnOf s)) (information (t .symbols) r)
+decoderJoining t s r = streamJoining (t .symbols) (t .rows) (pendingOf t s (turnOf s)) r
 
 unfoldable pub decoderRegister : Table → List ℕ → ℕ → ℕ
-decoderRegister t s r =
-    register (t .span) (syndromeOf t s (turnOf s)) (rawTerm (decoderJoining t s r) (t .symbols) r)
+decoderRegister t s r = streamRegister (t .symbols) (t .span) (t .rows) (pendingOf t s (turnOf s)) (syndromeOf t s (turnOf s)) r
 
 unfoldable pub decoderFound : Table → List ℕ → ℕ → Least
-decoderFound t s r = found (rowsOf t) (decoderRegister t s r)
+decoderFound t s r = streamFound (t .symbols) (t .span) (t .rows) (pendingOf t s (turnOf s)) (syndromeOf t s (turnOf s)) r
 
 -- "Each stream owns a part of the lent words that begins in its middle, and a step writes that part, the turn and the fill only." The part after a
 -- step: pending word, syndrome word, and the delayed blocks: "the oldest delayed block of that stream leaves and the received information,
 -- uncorrected, joins as the youngest"
 unfoldable pub partNext : Table → List ℕ → ℕ → List ℕ
 partNext t s r =
-    nextPending (decoderJoining t s r) ∷ keptOf (decoderFound t s r) (decoderRegister t s r)
-    ∷ (drop (streamAt t (turnOf s) + 3) (take (streamAt t (turnOf s) + (t .span + 1)) s) ++ (information (t .symbols) r ∷ []))
+    let at = streamAt t (turnOf s) in
+    streamNext (t .symbols) (t .span) (t .rows) (pendingOf t s (turnOf s)) (syndromeOf t s (turnOf s)) (drop (at + 3) (take (at + (t .span + 1)) s)) r
 
 abbrev pub fillNext : Table → ℕ → ℕ
 fillNext t fill = cond (ltb fill (delayOf t)) (fill + 1) fill
@@ -111,17 +109,17 @@ unfoldable pub decoderNext : Table → List ℕ → ℕ → List ℕ
 decoderNext t s r = set (set (streamReplaced t s r) 1 (fillNext t (fillOf s))) 0 (nextTurn (t .depth) (turnOf s))
 
 -- 4. "If fill was complete, the oldest delayed block, corrected by e, is delivered in a record with its mark; if not, the answer is "nothing yet"
--- and fill grows by one. Blocks from before the start are judged too." The information is corrected, so e without its parity symbol.
+-- and fill grows by one. Blocks from before the start are judged too."
 unfoldable pub delivered : Table → List ℕ → ℕ → Delivered
 delivered t s r = record {
-  info = delayedOf t s (turnOf s) 0 ⊕ information (t .symbols) (errorOf (decoderFound t s r));
-  mark = markOf (decoderFound t s r) (decoderRegister t s r);
+  info = streamInfo (t .symbols) (t .span) (t .rows) (pendingOf t s (turnOf s)) (syndromeOf t s (turnOf s)) (delayedOf t s (turnOf s) 0) r;
+  mark = streamMark (t .symbols) (t .span) (t .rows) (pendingOf t s (turnOf s)) (syndromeOf t s (turnOf s)) r;
 }
 
 unfoldable pub delivery : Table → List ℕ → ℕ → DecodeAnswer
 delivery t s r = elim (ltb (fillOf s) (delayOf t)) [ true ↦ NothingYet | false ↦ Delivery (delivered t s r) ]
 
--- "A refusal returns its number. .. It writes no lent word"
+-- "A refusal returns its number .. It writes no lent word"
 unfoldable pub decodeAnswer : Table → List ℕ → ℕ → DecodeAnswer
 decodeAnswer t s r = elim (eqb (decoderFault t s r) 0) [ true ↦ delivery t s r | false ↦ Refused (decoderFault t s r) ]
 

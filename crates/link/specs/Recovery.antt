@@ -14,6 +14,7 @@
 --   CoderTables, DecoderTables   each step that is not refused uses a table that is the same as t
 --   Running                  the premises on the lists of steps alone: nothing of the memories, and nothing of what is right
 --   Separated wrong long gap count   two wrong places lie in one stretch of `long`, or have the gap between them
+--   BURSTS-SEPARATED         wrong places that lie in bursts so chosen are so separated
 --   RECOVERY-ANY-MEMORY      the theorem from any memory, and without a choice of bursts
 use mathlib.Core.Path.{_≡_}
 use mathlib.Core.Logic.{_≢_, _⊎_}
@@ -132,6 +133,9 @@ pub record Running (t : Table) (coder decoder : List ℕ) (cs ds : List Call) : 
 -- Two wrong places are fewer than `long` places from one another, or more than `gap`. Bursts so chosen give it; here none is chosen.
 abbrev pub Separated : (ℕ → Type 0) → ℕ → ℕ → ℕ → Type 0
 Separated wrong long gap count = (p q : ℕ) → 1 ≤ p → p < q → q ≤ count → wrong p → wrong q → (q < p + long) ⊎ (p + gap < q)
+
+abbrev pub BURSTS-SEPARATED : Type 1
+BURSTS-SEPARATED = (wrong : ℕ → Type 0) (long gap count : ℕ) → Bursts wrong long gap count → Separated wrong long gap count
 
 -- Stronger than RECOVERY: the memories are any lists of words, well-formed or not, and any two wrong places stand as two of one burst, or of two
 -- bursts, would.

@@ -1,5 +1,7 @@
--- 01's bounds are sharp. Three runs on Z (n = 2, N = 4, row 10, m = 1; m × (N − 1) is 3), the coder started and sending zeros, have one right
--- place too few at first, one place too few between two bursts, and one place too many in a burst; all else is as recovery asks for it.
+-- 01's numbers cannot be had smaller, or greater. Three runs on Z (n = 2, N = 4, row 10, m = 1; m × (N − 1) is 3), the coder started and sending
+-- zeros, show it: with one right place too few at first, the claim beginning right after them, there is a doubtful mark; with one place too few
+-- between two bursts, or one too many in a burst, wrong information is delivered. All else is as recovery asks for it. (That the guard could not
+-- be shorter with the claim left where it is, is not said.)
 --
 --   filled pending              a decoder memory of Z with that pending word, its fill complete and all else 0
 --   zerosSent count             what the coder sends
@@ -9,7 +11,7 @@
 --   SHARP-RUNS                  the three runs
 --   RecoveryWith right long gap recovery with other numbers in place of 01's
 --   BOUNDS                      it holds with 01's
---   GUARD-SHARP, GAP-SHARP, LENGTH-SHARP   and with none of the three replaced by the next one
+--   GUARD-SHARP, GAP-SHARP, LENGTH-SHARP   and with none of the three replaced by the next one; claim and guard move together
 use mathlib.Core.Path.{_≡_}
 use mathlib.Core.List.{List, [], _∷_, _++_}
 use Prim.Native.Nat.{ℕ, _+_, _-_, _*_, _≤_, _<_}

@@ -1,4 +1,4 @@
--- 01, "Coder and decoder memory": "Starting sets every word to zero." The coder's memory and the decoder's differ in their length only.
+-- 01, "Coder and decoder memory": "Starting sets every word to zero." For a start the coder's memory and the decoder's differ in their length only.
 --
 --   startFault t words s    the first of refusals 12 and 13 that applies to a start, or 0
 --   started words           the memory after a start

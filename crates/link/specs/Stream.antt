@@ -11,13 +11,12 @@
 --   errorOf f, keptOf f x         the error, and the syndrome word that stays
 --   markOf f x                    the mark
 --   nextTurn m turn               the turn after a step
---   streamFound, streamNext, streamInfo, streamMark   a decoding step on a stream's part: the error found, the part after it, the
---                                 information and the mark of its record
+--   streamFound, streamNext, streamInfo, streamMark   the error found, the stream's part after the step, and information and mark of its record
 use mathlib.Core.Bool.{Bool, true, false, cond, xor}
 use mathlib.Core.List.{List, [], _∷_, _++_}
 use Prim.Native.Nat.{ℕ, suc, _+_, _-_, _*_, _/_, _%_, _^_}
 use lib.Dec.{eqb}
-use lib.ListN.{getD, take, drop}
+use lib.ListN.{take}
 use Rattle.span.specs.declared.eliminate.Least.{Least}
 use Rattle.span.specs.declared.eliminate.Least.the-variants.{Found, Missing}
 use Rattle.span.specs.Word.{_⊕_, odd, bit, digit}
@@ -81,18 +80,18 @@ markOf Missing x = elim (odd x) [ true ↦ Doubtful | false ↦ Held ]
 abbrev pub nextTurn : ℕ → ℕ → ℕ
 nextTurn m turn = cond (eqb (suc turn) m) 0 (suc turn)
 
--- the four lines on a stream's part: what the part is after the step, and the record that the step has to deliver
-abbrev pub streamFound : ℕ → ℕ → List ℕ → List ℕ → ℕ → Least
-streamFound n N rows part r = found (codeRows n rows) (streamRegister n N rows (getD part 0 0) (getD part 1 0) r)
+-- lines 3 and 4 on the words of a stream: what is found; the part after the step, in which `stay` are the delayed blocks but the oldest; and
+-- information and mark of the record, "the oldest delayed block, corrected by e". The information is corrected, so e without its parity symbol.
+abbrev pub streamFound : ℕ → ℕ → List ℕ → ℕ → ℕ → ℕ → Least
+streamFound n N rows p s r = found (codeRows n rows) (streamRegister n N rows p s r)
 
-abbrev pub streamNext : ℕ → ℕ → List ℕ → List ℕ → ℕ → List ℕ
-streamNext n N rows part r =
-    nextPending (streamJoining n rows (getD part 0 0) r)
-    ∷ keptOf (streamFound n N rows part r) (streamRegister n N rows (getD part 0 0) (getD part 1 0) r)
-    ∷ (drop 3 part ++ (information n r ∷ []))
+abbrev pub streamNext : ℕ → ℕ → List ℕ → ℕ → ℕ → List ℕ → ℕ → List ℕ
+streamNext n N rows p s stay r =
+    nextPending (streamJoining n rows p r) ∷ keptOf (streamFound n N rows p s r) (streamRegister n N rows p s r)
+    ∷ (stay ++ (information n r ∷ []))
 
-abbrev pub streamInfo : ℕ → ℕ → List ℕ → List ℕ → ℕ → ℕ
-streamInfo n N rows part r = getD part 2 0 ⊕ information n (errorOf (streamFound n N rows part r))
+abbrev pub streamInfo : ℕ → ℕ → List ℕ → ℕ → ℕ → ℕ → ℕ → ℕ
+streamInfo n N rows p s oldest r = oldest ⊕ information n (errorOf (streamFound n N rows p s r))
 
-abbrev pub streamMark : ℕ → ℕ → List ℕ → List ℕ → ℕ → Mark
-streamMark n N rows part r = markOf (streamFound n N rows part r) (streamRegister n N rows (getD part 0 0) (getD part 1 0) r)
+abbrev pub streamMark : ℕ → ℕ → List ℕ → ℕ → ℕ → ℕ → Mark
+streamMark n N rows p s r = markOf (streamFound n N rows p s r) (streamRegister n N rows p s r)

@@ -5,11 +5,13 @@ use span::bits::mask;
 use tables::table::Table;
 use tables::table::is_fit;
 ghost use mathlib.Core.Path.{_≡_};
+ghost use mathlib.Core.List.{[], _∷_};
 ghost use Prim.Native.Nat.{_+_, _-_, _/_, _≤_};
 ghost use lib.ListN.{length, getD, set, take};
 ghost use Rattle.span.specs.Word.{odd, digit};
 ghost use Rattle.link.specs.Stream.{joining};
 ghost use Rattle.link.specs.Coder.{coderMalformed, coderFault, codedBlock, coderNext, codeAnswer, codeMemory};
+ghost use Rattle.link.specs.Answers.{codeNumbers, Answered};
 
 pub enum CodeAnswer {
     // The coded block: information and parity.
@@ -79,6 +81,7 @@ fn taken(t: Table, state: &mut [u64], info: u64) -> u64
 pub fn code(t: Table, state: &mut [u64], info: u16) -> CodeAnswer
     ensures answer { λ r. ⌜ r ≡ codeAnswer t (now (state .entry)) info ⌝ }
     ensures memory { λ r. ⌜ now (state .exit) ≡ codeMemory t (now (state .entry)) info ⌝ }
+    ensures numbers { λ r. ⌜ Answered (coderFault t (now (state .entry)) info) (codedBlock t (now (state .entry)) info ∷ []) (coderNext t (now (state .entry)) info) (now (state .entry)) (codeNumbers r) (now (state .exit)) ⌝ }
 {
     let block = info as u64;
     let number = fault(t, state, block);

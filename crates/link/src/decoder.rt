@@ -15,6 +15,7 @@ ghost use lib.ListN.{length, getD, set, take, drop};
 ghost use Rattle.tables.specs.Table.{codeRows, fit};
 ghost use Rattle.link.specs.Stream.{nextTurn, information, rawTerm, register, found, errorOf, keptOf, markOf, streamNext, streamInfo, streamMark};
 ghost use Rattle.link.specs.Decoder.{decoderWords, someAbove, decoderMalformed, decoderFault, streamReplaced, decoderNext, delivered, delivery, decodeAnswer, decodeMemory};
+ghost use Rattle.link.specs.Answers.{decodeNumbers, decodeValues, Answered};
 
 pub enum Mark {
     Clean,
@@ -207,9 +208,9 @@ fn push(part: &mut [u64], youngest: u64)
 // One block of the turn's stream, whose part is its pending word, its syndrome word and its delayed blocks.
 fn step(part: &mut [u64], rows: &[u64], n: usize, span: usize, received: u64) -> Delivered
     requires { ⌜ (length (now part) ≡ span + 1) × (2 ≤ n) × (n ≤ 16) × (2 ≤ span) × (span ≤ 64) × (n - 1 ≤ length (now rows)) × (getD (now part) 1 0 < 2 ^ (span - 1)) × (getD (now part) 2 0 < 2 ^ (n - 1)) ⌝ }
-    ensures info { λ r. ⌜ r .info ≡ streamInfo n span (now (rows .entry)) (now (part .entry)) received ⌝ }
-    ensures mark { λ r. ⌜ r .mark ≡ streamMark n span (now (rows .entry)) (now (part .entry)) received ⌝ }
-    ensures part { λ r. ⌜ now (part .exit) ≡ streamNext n span (now (rows .entry)) (now (part .entry)) received ⌝ }
+    ensures info { λ r. ⌜ r .info ≡ streamInfo n span (now (rows .entry)) (getD (now (part .entry)) 0 0) (getD (now (part .entry)) 1 0) (getD (now (part .entry)) 2 0) received ⌝ }
+    ensures mark { λ r. ⌜ r .mark ≡ streamMark n span (now (rows .entry)) (getD (now (part .entry)) 0 0) (getD (now (part .entry)) 1 0) received ⌝ }
+    ensures part { λ r. ⌜ now (part .exit) ≡ streamNext n span (now (rows .entry)) (getD (now (part .entry)) 0 0) (getD (now (part .entry)) 1 0) (drop 3 (now (part .entry))) received ⌝ }
 {
     let info = information(n, received);
     let w = joining(rows, n - 1, part[0], info);
@@ -275,6 +276,7 @@ fn taken(t: Table, state: &mut [u64], received: u64) -> DecodeAnswer
 pub fn decode(t: Table, state: &mut [u64], received: u16) -> DecodeAnswer
     ensures answer { λ r. ⌜ r ≡ decodeAnswer t (now (state .entry)) received ⌝ }
     ensures memory { λ r. ⌜ now (state .exit) ≡ decodeMemory t (now (state .entry)) received ⌝ }
+    ensures numbers { λ r. ⌜ Answered (decoderFault t (now (state .entry)) received) (decodeValues t (now (state .entry)) received) (decoderNext t (now (state .entry)) received) (now (state .entry)) (decodeNumbers r) (now (state .exit)) ⌝ }
 {
     let block = received as u64;
     let number = fault(t, state, block);

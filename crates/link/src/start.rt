@@ -3,12 +3,14 @@ use tables::table::Table;
 use tables::table::is_fit;
 ghost use mathlib.Core.Path.{_≡_};
 ghost use mathlib.Core.Bool.{true};
+ghost use mathlib.Core.List.{[]};
 ghost use lib.ListN.{length, replicate};
 ghost use Rattle.tables.specs.declared.table.Table.{Table};
 ghost use Rattle.tables.specs.Table.{fit};
-ghost use Rattle.link.specs.Start.{startAnswer, startMemory};
+ghost use Rattle.link.specs.Start.{startFault, started, startAnswer, startMemory};
 ghost use Rattle.link.specs.Coder.{coderWords};
 ghost use Rattle.link.specs.Decoder.{decoderWords};
+ghost use Rattle.link.specs.Answers.{startNumbers, Answered};
 
 pub enum StartAnswer {
     Started,
@@ -41,6 +43,7 @@ fn start(state: &mut [u64], words: usize) -> StartAnswer
 pub fn start_coder(t: Table, state: &mut [u64]) -> StartAnswer
     ensures answer { λ r. ⌜ r ≡ startAnswer t (coderWords t) (now (state .entry)) ⌝ }
     ensures memory { λ r. ⌜ now (state .exit) ≡ startMemory t (coderWords t) (now (state .entry)) ⌝ }
+    ensures numbers { λ r. ⌜ Answered (startFault t (coderWords t) (now (state .entry))) [] (started (coderWords t)) (now (state .entry)) (startNumbers r) (now (state .exit)) ⌝ }
 {
     if is_fit(t) {
         start(state, 1 + t.depth)
@@ -52,6 +55,7 @@ pub fn start_coder(t: Table, state: &mut [u64]) -> StartAnswer
 pub fn start_decoder(t: Table, state: &mut [u64]) -> StartAnswer
     ensures answer { λ r. ⌜ r ≡ startAnswer t (decoderWords t) (now (state .entry)) ⌝ }
     ensures memory { λ r. ⌜ now (state .exit) ≡ startMemory t (decoderWords t) (now (state .entry)) ⌝ }
+    ensures numbers { λ r. ⌜ Answered (startFault t (decoderWords t) (now (state .entry))) [] (started (decoderWords t)) (now (state .entry)) (startNumbers r) (now (state .exit)) ⌝ }
 {
     if is_fit(t) {
         start(state, 2 + t.depth * (t.span + 1))

@@ -2,7 +2,8 @@
 use mathlib.Core.Path.{sym, ap, _∙_}
 use native.Mathlib.Omega.{arith}
 use borrow.Author.Needs.{needs}
-use Rattle.link.specs.declared.coder.CodeAnswer.the-variants.{Coded}
+use Rattle.link.specs.declared.coder.CodeAnswer.the-variants.{Coded, Refused}
+use Rattle.link.proofs.Answers.{code-told}
 use Rattle.link.proofs.Faults.{code-refuses, codes}
 use Rattle.link.proofs.Memory.{coded-fits}
 use Rattle.link.proofs.coder.code.Statement.{statement}
@@ -17,7 +18,9 @@ same-length c = search needs
 returns : tie.Need-returns
 returns c =
     let a = c .before .before .before .before .args in
-    code-refuses (a .t) (a .state .now) (a .info) (c .before .fault .result) (sym (c .before .fault .ensures)) (omega arith)
+    let k = c .before .fault .result in
+    let e = code-refuses (a .t) (a .state .now) (a .info) k (sym (c .before .fault .ensures)) (omega arith) in
+    code-told (a .t) (a .state .now) (a .info) (Refused k) (a .state .now) (e .0) (e .1)
 
 taken-requires : tie.Need-taken-requires
 taken-requires c κs = search needs
@@ -38,7 +41,8 @@ returns-2 : tie.Need-returns-2
 returns-2 c =
     let a = c .before .before .before .before .before .before .before .before .args in
     let e = codes (a .t) (a .state .now) (a .info) (sym (c .before .before .before .before .before .fault .ensures) ∙ c .before .before .before .before .if1 .left) in
-    (ap Coded (c .before .before .taken .ensures .0) ∙ e .0, c .before .before .taken .ensures .1 ∙ e .1)
+    code-told (a .t) (a .state .now) (a .info) (Coded (c .before .before .taken .result)) (c .before .before .taken .last .1 .0)
+    (ap Coded (c .before .before .taken .ensures .0) ∙ e .0) (c .before .before .taken .ensures .1 ∙ e .1)
 
 pub code-spec : {M : Type 1} → statement M
 code-spec =

@@ -2,6 +2,8 @@
 use mathlib.Core.Path.{sym, _∙_}
 use native.Mathlib.Omega.{arith}
 use borrow.Author.Needs.{needs}
+use Rattle.link.specs.declared.decoder.DecodeAnswer.the-variants.{Refused}
+use Rattle.link.proofs.Answers.{decode-told}
 use Rattle.link.proofs.Faults.{decode-refuses, decodes}
 use Rattle.link.proofs.decoder.decode.Statement.{statement}
 use Rattle.link.proofs.decoder.decode.Tie as tie
@@ -15,7 +17,9 @@ same-length c = search needs
 returns : tie.Need-returns
 returns c =
     let a = c .before .before .before .before .args in
-    decode-refuses (a .t) (a .state .now) (a .received) (c .before .fault .result) (sym (c .before .fault .ensures)) (omega arith)
+    let k = c .before .fault .result in
+    let e = decode-refuses (a .t) (a .state .now) (a .received) k (sym (c .before .fault .ensures)) (omega arith) in
+    decode-told (a .t) (a .state .now) (a .received) (Refused k) (a .state .now) (e .0) (e .1)
 
 taken-requires : tie.Need-taken-requires
 taken-requires c κs = search needs
@@ -27,7 +31,8 @@ returns-2 : tie.Need-returns-2
 returns-2 c =
     let a = c .before .before .before .before .before .before .before .before .args in
     let e = decodes (a .t) (a .state .now) (a .received) (sym (c .before .before .before .before .before .fault .ensures) ∙ c .before .before .before .before .if1 .left) in
-    (c .before .before .taken .ensures .0 ∙ e .0, c .before .before .taken .ensures .1 ∙ e .1)
+    decode-told (a .t) (a .state .now) (a .received) (c .before .before .taken .result) (c .before .before .taken .last .1 .0)
+    (c .before .before .taken .ensures .0 ∙ e .0) (c .before .before .taken .ensures .1 ∙ e .1)
 
 pub decode-spec : {M : Type 1} → statement M
 decode-spec =

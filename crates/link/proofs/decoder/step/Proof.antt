@@ -79,7 +79,7 @@ cast-t23 c =
 -- the part as it comes back
 part-is : (c : tie.After-information2)
     → let a = c .before .before .before .before .before .before .before .before .before .before .before .before .before .before .before .args in
-    c .before .before .before .push .last .0 ≡ streamNext (a .n) (a .span) (a .rows .now) (a .part .now) (a .received)
+    c .before .before .before .push .last .0 ≡ streamNext (a .n) (a .span) (a .rows .now) (getD (a .part .now) 0 0) (getD (a .part .now) 1 0) (drop 3 (a .part .now)) (a .received)
 part-is c =
     let a = c .before .before .before .before .before .before .before .before .before .before .before .before .before .before .before .args in
     let p = a .part .now in

@@ -5,6 +5,8 @@ use borrow.Author.Needs.{needs}
 use Rattle.tables.proofs.Bounds.{fit-facts}
 use Rattle.link.specs.Coder.{coderWords}
 use Rattle.link.proofs.Faults.{start-fault, start-refuses}
+use Rattle.link.proofs.Answers.{start-told}
+use Rattle.link.specs.declared.start.StartAnswer.the-variants.{Refused}
 use Rattle.link.proofs.start.start_coder.Statement.{statement}
 use Rattle.link.proofs.start.start_coder.Tie as tie
 
@@ -27,13 +29,15 @@ returns : tie.Need-returns
 returns c =
     let a = c .before .before .before .before .before .before .before .before .args in
     let f = sym (c .before .before .before .before .before .before .is-fit .ensures) ∙ c .before .before .before .before .before .if1 .taken in
-    (c .before .before .start .ensures .0 (a .t) f, c .before .before .start .ensures .1 (a .t) f)
+    start-told (a .t) (coderWords (a .t)) (a .state .now) (c .before .before .start .result) (c .before .before .start .last .0)
+    (c .before .before .start .ensures .0 (a .t) f) (c .before .before .start .ensures .1 (a .t) f)
 
 returns-2 : tie.Need-returns-2
 returns-2 c =
     let a = c .before .before .before .args in
     let f = sym (c .before .is-fit .ensures) ∙ c .if1 .left in
-    start-refuses (a .t) (coderWords (a .t)) (a .state .now) 12 (start-fault (a .t) (coderWords (a .t)) (a .state .now) ∙ simp f) (omega arith)
+    let e = start-refuses (a .t) (coderWords (a .t)) (a .state .now) 12 (start-fault (a .t) (coderWords (a .t)) (a .state .now) ∙ simp f) (omega arith) in
+    start-told (a .t) (coderWords (a .t)) (a .state .now) (Refused 12) (a .state .now) (e .0) (e .1)
 
 pub start-coder-spec : {M : Type 1} → statement M
 start-coder-spec =
