@@ -2,7 +2,8 @@
 --
 --   coder-parity, coder-zero          a stream of the coder: the parity, and the sum over all symbols
 --   decoder-raw, decoder-register     a stream of the decoder: the raw term, and the register
---   parity, syndromes, syndrome-errors, registers   the theorems
+--   decoder-delivers                  what a decoder delivers, from any memory
+--   parity, syndromes, syndrome-errors, registers, deliveries   the theorems
 use mathlib.Core.Path.{_≡_, sym, ap, ap₂, _∙_, subst}
 use mathlib.Core.Bool.{Bool, false, cond, xor}
 use mathlib.Core.Logic.{_⊎_, inl, inr}
@@ -14,26 +15,28 @@ use lib.ListN.{length, getD, length-append, length-take}
 use lib.Seq.{length-take-le}
 use Rattle.span.specs.declared.eliminate.Least.{Least}
 use Rattle.span.specs.declared.eliminate.Least.the-variants.{Found, Missing}
-use Rattle.span.specs.Word.{odd, bit, digit}
+use Rattle.span.specs.Word.{_⊕_, odd, bit, digit}
 use Rattle.span.specs.Combination.{combination}
 use Rattle.span.proofs.Laws.{xor-false-r, combination-lt}
 use Rattle.tables.specs.declared.table.Table.{Table}
 use Rattle.tables.specs.Table.{rowsOf}
 use Rattle.link.specs.declared.decoder.DecodeAnswer.{DecodeAnswer}
-use Rattle.link.specs.Stream.{joining, keptOf}
+use Rattle.link.specs.declared.decoder.DecodeAnswer.the-variants.{Delivery}
+use Rattle.link.specs.Stream.{joining, information, errorOf, keptOf, markOf}
 use Rattle.link.specs.Start.{started}
 use Rattle.link.specs.Coder.{infoRows, coderWords, turnOf, pendingAt, coderFault, coderNext}
-use Rattle.link.specs.Decoder.{decoderWords, decoderFault, decoderNext}
-use Rattle.link.specs.Runs.{Call, sentBy, takenBy}
-use Rattle.link.specs.Massey.{convolution, stream, blockSent, blockTaken, rawAt, registerAt, foundAt, PARITY, SYNDROME, SYNDROME-ERRORS, REGISTER}
+use Rattle.link.specs.Decoder.{decoderWords, delayOf, decoderFault, decoderNext}
+use Rattle.link.specs.Runs.{Call, sentBy, takenBy, takenAt}
+use Rattle.link.specs.Massey.{convolution, stream, blockSent, blockTaken, rawAt, registerAt, foundAt, PARITY, SYNDROME, SYNDROME-ERRORS, REGISTER, DELIVERY}
 use Rattle.link.proofs.Origin.{below-snoc}
 use Rattle.link.proofs.Step.{topped-low, topped-bit, joined-half, joined-odd, coder-half, coder-even}
 use Rattle.link.proofs.Started.{started-word}
 use Rattle.link.proofs.Interleaving.{place-first, place-next, place-earlier}
 use Rattle.link.proofs.Runs.{coderBefore, decoderBefore, before-first}
-use Rattle.link.proofs.Memory.{Fits, CoderStep, Verdict, streamIn, pendingIn, syndromeIn}
+use Rattle.link.proofs.Memory.{Fits, CoderStep, Verdict, streamIn, pendingIn, syndromeIn, delayedIn}
 use Rattle.link.proofs.OneTable.{coded, decoded, verdict}
 use Rattle.link.proofs.Turn.{CoderRun, DecoderRun, coder-again, coder-first, pending-again, pending-first, syndrome-again, syndrome-first}
+use Rattle.link.proofs.Delay.{fill-complete, oldest}
 use Rattle.link.proofs.Convolution.{convolution-xor, stream-convolution}
 use Rattle.link.proofs.Register.{register-lt, register-bit}
 
@@ -172,6 +175,20 @@ module _ {n N m : ℕ} {infos : List ℕ} {S : ℕ → List ℕ} {R : ℕ → �
             (omega arith),
       )
 
+-- ---- what is delivered
+
+module _ {n N m : ℕ} {infos : List ℕ} {S : ℕ → List ℕ} {R : ℕ → ℕ} {A : ℕ → DecodeAnswer} {count : ℕ} (l : DecoderRun n N m infos S R A count)
+    (raw : ℕ → Bool) (register : ℕ → ℕ) (error : ℕ → Least)
+    (judges : (p : ℕ) → p < count → Verdict n N infos (S p) (R p) (raw p) (register p) (error p)) where
+  pub decoder-delivers : (p q : ℕ) → p < count → q + m * (N - 1) ≡ p
+      → A p ≡ Delivery (record { info = R q % 2 ^ (n - 1) ⊕ errorOf (error p) % 2 ^ (n - 1); mark = markOf (error p) (register p) })
+  decoder-delivers p q h e =
+      let v = judges p h in
+      l .decodes p h .answers (fill-complete l p h (omega arith))
+      ∙ ap₂ (λ (f : Least) (x : ℕ). Delivery (record { info = delayedIn N (S p) 0 ⊕ errorOf f % 2 ^ (n - 1); mark = markOf f x })) (sym (v .found-is))
+      (sym (v .register-is))
+      ∙ ap (λ (x : ℕ). Delivery (record { info = x ⊕ errorOf (error p) % 2 ^ (n - 1); mark = markOf (error p) (register p) })) (oldest l p q h e)
+
 -- ---- runs from started memories
 
 info-size : (t : Table) → t .symbols - 1 ≤ length (t .rows) → length (infoRows t) ≡ t .symbols - 1
@@ -211,3 +228,18 @@ registers t ds tables r b c low inside =
     decoder-register (decoded t (started (decoderWords t)) ds tables) (rawAt (started (decoderWords t)) ds) (registerAt (started (decoderWords t)) ds)
     (foundAt (started (decoderWords t)) ds) (verdict t (started (decoderWords t)) ds tables) (decoder-zeros t ds) r b low
     inside c
+
+pub deliveries : DELIVERY
+deliveries t s ds tables p late inside =
+    let taken = takenBy s ds in
+    let error = foundAt s ds (p - 1) in
+    -- places count from 1
+    let here : suc (p - 1) ≡ p = omega arith in
+    let there : suc (p - delayOf t - 1) ≡ p - delayOf t = omega arith in
+    ap (λ (k : ℕ). takenAt taken k .answer) (sym here)
+    ∙ decoder-delivers (decoded t s ds tables) (rawAt s ds) (registerAt s ds) (foundAt s ds) (verdict t s ds tables) (p - 1) (p - delayOf t - 1)
+    (omega arith) (omega arith)
+    ∙ ap (λ (k : ℕ). Delivery (record {
+      info = information (t .symbols) (takenAt taken k .block) ⊕ information (t .symbols) (errorOf error);
+      mark = markOf error (registerAt s ds (p - 1));
+    })) there

@@ -12,6 +12,7 @@
 --   SYNDROME                          the raw terms, whatever was received
 --   SYNDROME-ERRORS                   000, eq. 3
 --   REGISTER                          the register holds the last N raw terms since the word was last cleared
+--   DELIVERY                          which block a delivery is of, from any memory
 use mathlib.Core.Path.{_≡_}
 use mathlib.Core.Bool.{Bool, false, cond, xor, _&&_}
 use mathlib.Core.Logic.{_⊎_}
@@ -24,10 +25,11 @@ use Rattle.span.specs.declared.eliminate.Least.the-variants.{Found, Missing}
 use Rattle.span.specs.Word.{_⊕_, bit}
 use Rattle.tables.specs.declared.table.Table.{Table}
 use Rattle.tables.specs.Table.{rowsOf}
-use Rattle.link.specs.Stream.{information, parity, rawTerm}
+use Rattle.link.specs.declared.decoder.DecodeAnswer.the-variants.{Delivery}
+use Rattle.link.specs.Stream.{information, parity, rawTerm, errorOf, markOf}
 use Rattle.link.specs.Start.{started}
 use Rattle.link.specs.Coder.{infoRows, coderWords}
-use Rattle.link.specs.Decoder.{decoderWords, decoderFault, decoderNext, decoderJoining, decoderRegister, decoderFound}
+use Rattle.link.specs.Decoder.{decoderWords, delayOf, decoderFault, decoderNext, decoderJoining, decoderRegister, decoderFound}
 use Rattle.link.specs.Runs.{Call, Sent, Taken, run, sentBy, takenBy, sentAt, takenAt}
 use Rattle.link.specs.Recovery.{CoderTables, DecoderTables}
 
@@ -132,3 +134,19 @@ REGISTER =
     (c ≡ 0) ⊎ ((e : ℕ) × (found (c - 1) ≡ Found e)) → ((d : ℕ) → c ≤ d → d < b → found d ≡ Missing)
     → (register b < 2 ^ t .span)
     × ((k : ℕ) → k < t .span → bit (t .span - 1 - k) (register b) ≡ cond (leb (c + k) b) (raw (b - k)) false)
+
+-- 01, "the oldest delayed block of that stream leaves and the received information, uncorrected, joins as the youngest, so a delivery is of the
+-- block taken m × (N − 1) calls before", and "the oldest delayed block, corrected by e, is delivered in a record with its mark": at every taken
+-- place above m × (N − 1), counted from 1, from any first memory.
+abbrev pub DELIVERY : Type 0
+DELIVERY =
+    (t : Table) (memory : List ℕ) (ds : List Call) →
+    let taken = takenBy memory ds in
+    DecoderTables t memory ds → (p : ℕ) → delayOf t < p → p ≤ length taken →
+    let register = registerAt memory ds (p - 1) in
+    let found = foundAt memory ds (p - 1) in
+    takenAt taken p .answer
+    ≡ Delivery (record {
+      info = information (t .symbols) (takenAt taken (p - delayOf t) .block) ⊕ information (t .symbols) (errorOf found);
+      mark = markOf found register;
+    })
