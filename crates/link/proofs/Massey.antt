@@ -1,9 +1,9 @@
 -- Demand 2: the streams of runs from memories of zeros, as the sequences of `Convolution` and `Register`. Assumes nothing.
 --
---   coder-parity, coder-zero          a stream of the coder: the parity, and the sum over all symbols
---   decoder-raw, decoder-register     a stream of the decoder: the raw term, and the register
+--   coder-pending, coder-parity, coder-zero   a stream of the coder: the pending word, the parity, and the sum over all symbols
+--   decoder-pending, decoder-raw, decoder-register   a stream of the decoder: the pending word, the raw term, and the register
 --   decoder-delivers                  what a decoder delivers, from any memory
---   parity, syndromes, syndrome-errors, registers, deliveries   the theorems
+--   parity, syndromes, syndrome-errors, registers, pendings, pendings-received, deliveries   the theorems
 use mathlib.Core.Path.{_≡_, sym, ap, ap₂, _∙_, subst}
 use mathlib.Core.Bool.{Bool, false, cond, xor}
 use mathlib.Core.Logic.{_⊎_, inl, inr}
@@ -25,19 +25,19 @@ use Rattle.link.specs.declared.decoder.DecodeAnswer.the-variants.{Delive
 use Rattle.link.specs.Stream.{joining, information, errorOf, keptOf, markOf}
 use Rattle.link.specs.Start.{started}
 use Rattle.link.specs.Coder.{infoRows, coderWords, turnOf, pendingAt, coderFault, coderNext}
-use Rattle.link.specs.Decoder.{decoderWords, delayOf, decoderFault, decoderNext}
+use Rattle.link.specs.Decoder.{decoderWords, delayOf, pendingOf, decoderFault, decoderNext}
 use Rattle.link.specs.Runs.{Call, sentBy, takenBy, takenAt}
-use Rattle.link.specs.Massey.{convolution, stream, blockSent, blockTaken, rawAt, registerAt, foundAt, PARITY, SYNDROME, SYNDROME-ERRORS, REGISTER, DELIVERY}
+use Rattle.link.specs.Massey.{convolution, pastSum, stream, blockSent, blockTaken, rawAt, registerAt, foundAt, PARITY, SYNDROME, SYNDROME-ERRORS, REGISTER, PENDING, PENDING-RECEIVED, DELIVERY}
 use Rattle.link.proofs.Origin.{below-snoc}
 use Rattle.link.proofs.Step.{topped-low, topped-bit, joined-half, joined-odd, coder-half, coder-even}
 use Rattle.link.proofs.Started.{started-word}
 use Rattle.link.proofs.Interleaving.{place-first, place-next, place-earlier}
-use Rattle.link.proofs.Runs.{coderBefore, decoderBefore, before-first}
+use Rattle.link.proofs.Runs.{coderBefore, decoderBefore, before-first, sent-place, taken-place}
 use Rattle.link.proofs.Memory.{Fits, CoderStep, Verdict, streamIn, pendingIn, syndromeIn, delayedIn}
-use Rattle.link.proofs.OneTable.{coded, decoded, verdict}
+use Rattle.link.proofs.OneTable.{coded, taken-table, decoded, verdict}
 use Rattle.link.proofs.Turn.{CoderRun, DecoderRun, coder-again, coder-first, pending-again, pending-first, syndrome-again, syndrome-first}
 use Rattle.link.proofs.Delay.{fill-complete, oldest}
-use Rattle.link.proofs.Convolution.{convolution-xor, stream-convolution}
+use Rattle.link.proofs.Convolution.{convolution-xor, stream-convolution, stream-pending}
 use Rattle.link.proofs.Register.{register-lt, register-bit}
 
 -- ---- images with the parity's row
@@ -75,6 +75,12 @@ module _ {n N m : ℕ} {infos : List ℕ} {M : ℕ → List ℕ} {B C : ℕ → 
   unfolding joining
   parity-sum size =
       stream-convolution (n - 1) N infos (stream m r B) pending (suc b) size
+      (λ c. combination-lt N infos c (step b (omega arith) .fits .below)) pending-start (λ k h. pending-on k (omega arith)) b (omega arith)
+
+  pub coder-pending : length infos ≤ n - 1 → (k : ℕ) → bit k (pending b) ≡ pastSum (n - 1) N infos (stream m r B) b k
+  unfolding joining
+  coder-pending size =
+      stream-pending (n - 1) N infos (stream m r B) pending (suc b) size
       (λ c. combination-lt N infos c (step b (omega arith) .fits .below)) pending-start (λ k h. pending-on k (omega arith)) b (omega arith)
 
   pub coder-parity : length infos ≤ n - 1
@@ -125,6 +131,12 @@ module _ {n N m : ℕ} {infos : List ℕ} {S : ℕ → List ℕ} {R : ℕ → �
       let z = place-earlier m r b (suc k) count inside h in
       let p = place-next m r k in
       ap (λ (q : ℕ). pendingIn N (S q)) p ∙ pending-again l (r + k * m) (omega arith)
+
+  pub decoder-pending : length infos ≤ n - 1 → (k : ℕ) → bit k (joins b) ≡ pastSum (n - 1) N infos (stream m r (λ p. R p % 2 ^ (n - 1))) b k
+  unfolding joining
+  decoder-pending size =
+      stream-pending (n - 1) N infos (stream m r (λ p. R p % 2 ^ (n - 1))) joins (suc b) size
+      (λ c. combination-lt N infos c (l .decodes (r + b * m) inside .fits .below)) joins-start (λ k h. joins-on k (omega arith)) b (omega arith)
 
   pub decoder-raw : length infos ≡ n - 1 → stream m r raw b ≡ convolution n N (infos ++ (1 ∷ [])) (stream m r R) b
   decoder-raw size =
@@ -228,6 +240,22 @@ registers t ds tables r b c low inside =
     decoder-register (decoded t (started (decoderWords t)) ds tables) (rawAt (started (decoderWords t)) ds) (registerAt (started (decoderWords t)) ds)
     (foundAt (started (decoderWords t)) ds) (verdict t (started (decoderWords t)) ds tables) (decoder-zeros t ds) r b low
     inside c
+
+pub pendings : PENDING
+pendings t cs tables r b low inside k =
+    let s = started (coderWords t) in
+    ap (bit k) (sent-place s cs (r + b * t .depth) inside .is (λ t s b. pendingAt s (turnOf s)) 0)
+    ∙ coder-pending (coded t s cs tables) (coder-zeros t cs) r b low inside (simp length-take (omega arith)) k
+
+pub pendings-received : PENDING-RECEIVED
+pendings-received t ds tables r b low inside k =
+    let s = started (decoderWords t) in
+    let p = r + b * t .depth in
+    let M = decoderBefore s ds p in
+    ap (bit k)
+    (taken-place s ds p inside .is (λ t s r. pendingOf t s (turnOf s)) 0 ∙ ap (λ (N : ℕ). pendingIn N M) (taken-table t s ds tables p inside .span))
+    ∙ decoder-pending (decoded t s ds tables) (rawAt s ds) (registerAt s ds) (foundAt s ds) (verdict t s ds tables) (decoder-zeros t ds) r b low inside
+    (simp length-take (omega arith)) k
 
 pub deliveries : DELIVERY
 deliveries t s ds tables p late inside =
