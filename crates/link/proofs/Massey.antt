@@ -27,7 +27,7 @@ use Rattle.link.specs.Start.{started}
 use Rattle.link.specs.Coder.{infoRows, coderWords, turnOf, pendingAt, coderFault, coderNext}
 use Rattle.link.specs.Decoder.{decoderWords, delayOf, pendingOf, decoderFault, decoderNext}
 use Rattle.link.specs.Runs.{Call, sentBy, takenBy, takenAt}
-use Rattle.link.specs.Massey.{convolution, pastSum, stream, blockSent, blockTaken, rawAt, registerAt, foundAt, PARITY, SYNDROME, SYNDROME-ERRORS, REGISTER, PENDING, PENDING-RECEIVED, DELIVERY}
+use Rattle.link.specs.Massey.{convolution, HoldsPast, stream, infoSent, blockSent, blockTaken, rawAt, registerAt, foundAt, PARITY, SYNDROME, SYNDROME-ERRORS, REGISTER, PENDING, PENDING-RECEIVED, DELIVERY}
 use Rattle.link.proofs.Origin.{below-snoc}
 use Rattle.link.proofs.Step.{topped-low, topped-bit, joined-half, joined-odd, coder-half, coder-even}
 use Rattle.link.proofs.Started.{started-word}
@@ -37,7 +37,7 @@ use Rattle.link.proofs.Memory.{Fits, CoderStep, Verdict, streamIn, pend
 use Rattle.link.proofs.OneTable.{coded, taken-table, decoded, verdict}
 use Rattle.link.proofs.Turn.{CoderRun, DecoderRun, coder-again, coder-first, pending-again, pending-first, syndrome-again, syndrome-first}
 use Rattle.link.proofs.Delay.{fill-complete, oldest}
-use Rattle.link.proofs.Convolution.{convolution-xor, stream-convolution, stream-pending}
+use Rattle.link.proofs.Convolution.{convolution-xor, stream-convolution, stream-past}
 use Rattle.link.proofs.Register.{register-lt, register-bit}
 
 -- ---- images with the parity's row
@@ -77,10 +77,10 @@ module _ {n N m : ℕ} {infos : List ℕ} {M : ℕ → List ℕ} {B C : ℕ → 
       stream-convolution (n - 1) N infos (stream m r B) pending (suc b) size
       (λ c. combination-lt N infos c (step b (omega arith) .fits .below)) pending-start (λ k h. pending-on k (omega arith)) b (omega arith)
 
-  pub coder-pending : length infos ≤ n - 1 → (k : ℕ) → bit k (pending b) ≡ pastSum (n - 1) N infos (stream m r B) b k
+  pub coder-pending : length infos ≤ n - 1 → HoldsPast (n - 1) N infos (stream m r B) b (pending b)
   unfolding joining
   coder-pending size =
-      stream-pending (n - 1) N infos (stream m r B) pending (suc b) size
+      stream-past (n - 1) N infos (stream m r B) pending (suc b) size
       (λ c. combination-lt N infos c (step b (omega arith) .fits .below)) pending-start (λ k h. pending-on k (omega arith)) b (omega arith)
 
   pub coder-parity : length infos ≤ n - 1
@@ -132,10 +132,10 @@ module _ {n N m : ℕ} {infos : List ℕ} {S : ℕ → List ℕ} {R : ℕ → �
       let p = place-next m r k in
       ap (λ (q : ℕ). pendingIn N (S q)) p ∙ pending-again l (r + k * m) (omega arith)
 
-  pub decoder-pending : length infos ≤ n - 1 → (k : ℕ) → bit k (joins b) ≡ pastSum (n - 1) N infos (stream m r (λ p. R p % 2 ^ (n - 1))) b k
+  pub decoder-pending : length infos ≤ n - 1 → HoldsPast (n - 1) N infos (stream m r (λ p. R p % 2 ^ (n - 1))) b (joins b)
   unfolding joining
   decoder-pending size =
-      stream-pending (n - 1) N infos (stream m r (λ p. R p % 2 ^ (n - 1))) joins (suc b) size
+      stream-past (n - 1) N infos (stream m r (λ p. R p % 2 ^ (n - 1))) joins (suc b) size
       (λ c. combination-lt N infos c (l .decodes (r + b * m) inside .fits .below)) joins-start (λ k h. joins-on k (omega arith)) b (omega arith)
 
   pub decoder-raw : length infos ≡ n - 1 → stream m r raw b ≡ convolution n N (infos ++ (1 ∷ [])) (stream m r R) b
@@ -242,20 +242,23 @@ registers t ds tables r b c low inside =
     inside c
 
 pub pendings : PENDING
-pendings t cs tables r b low inside k =
+pendings t cs tables r b low inside =
     let s = started (coderWords t) in
-    ap (bit k) (sent-place s cs (r + b * t .depth) inside .is (λ t s b. pendingAt s (turnOf s)) 0)
-    ∙ coder-pending (coded t s cs tables) (coder-zeros t cs) r b low inside (simp length-take (omega arith)) k
+    let info = stream (t .depth) r (infoSent (sentBy s cs)) in
+    subst (HoldsPast (t .symbols - 1) (t .span) (infoRows t) info b)
+    (sym (sent-place s cs (r + b * t .depth) inside .is (λ t s b. pendingAt s (turnOf s)) 0))
+    (coder-pending (coded t s cs tables) (coder-zeros t cs) r b low inside (simp length-take (omega arith)))
 
 pub pendings-received : PENDING-RECEIVED
-pendings-received t ds tables r b low inside k =
+pendings-received t ds tables r b low inside =
     let s = started (decoderWords t) in
     let p = r + b * t .depth in
-    let M = decoderBefore s ds p in
-    ap (bit k)
-    (taken-place s ds p inside .is (λ t s r. pendingOf t s (turnOf s)) 0 ∙ ap (λ (N : ℕ). pendingIn N M) (taken-table t s ds tables p inside .span))
-    ∙ decoder-pending (decoded t s ds tables) (rawAt s ds) (registerAt s ds) (foundAt s ds) (verdict t s ds tables) (decoder-zeros t ds) r b low inside
-    (simp length-take (omega arith)) k
+    let info = stream (t .depth) r (λ p. information (t .symbols) (blockTaken (takenBy s ds) p)) in
+    subst (HoldsPast (t .symbols - 1) (t .span) (infoRows t) info b)
+    (sym (taken-place s ds p inside .is (λ t s r. pendingOf t s (turnOf s)) 0
+    ∙ ap (λ (N : ℕ). pendingIn N (decoderBefore s ds p)) (taken-table t s ds tables p inside .span)))
+    (decoder-pending (decoded t s ds tables) (rawAt s ds) (registerAt s ds) (foundAt s ds) (verdict t s ds tables) (decoder-zeros t ds) r b low inside
+    (simp length-take (omega arith)))
 
 pub deliveries : DELIVERY
 deliveries t s ds tables p late inside =

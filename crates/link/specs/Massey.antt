@@ -5,7 +5,9 @@
 --   rowOf rows j, symbol j x          row j, and symbol j of a block
 --   ago x b k                         block b − k of a stream; blocks before the start are zero
 --   convolution last N rows x b       the sum of 000, eq. 1, over rows 1 to `last`, at block b of the stream x
---   pastSum last N rows x b k         what the blocks before block b add to that sum at block b + k
+--   past x b                          the blocks before block b alone
+--   pastSum last N rows x b k         what they add to that sum at block b + k, term by term
+--   HoldsPast last N rows x b word    bit k of the word is what they add to it, for every k
 --   stream m r at                     stream r of m, of what stands at the places of a run
 --   infoSent, blockSent, blockTaken   information and block sent at a place, and block taken
 --   pendingSent, pendingTaken         pending word of the turn's stream before the step there, of coder and of decoder
@@ -21,7 +23,7 @@ use mathlib.Core.Bool.{Bool, false, cond, xor, _&&_}
 use mathlib.Core.Logic.{_⊎_}
 use mathlib.Core.List.{List}
 use Prim.Native.Nat.{ℕ, zero, suc, _+_, _-_, _*_, _^_, _≤_, _<_}
-use lib.Dec.{leb}
+use lib.Dec.{leb, ltb}
 use lib.ListN.{length, getD}
 use Rattle.span.specs.declared.eliminate.Least.{Least}
 use Rattle.span.specs.declared.eliminate.Least.the-variants.{Found, Missing}
@@ -58,10 +60,17 @@ ago x b k = cond (leb k b) (x (b - k)) 0
 unfoldable pub convolution : ℕ → ℕ → List ℕ → (ℕ → ℕ) → ℕ → Bool
 convolution last N rows x b = sumOver 1 last (λ j. sumOver 0 N (λ k. bit k (rowOf rows j) && symbol j (ago x b k)))
 
--- 01, "what past blocks add to the parity k steps after the next one": the next block is b, and the terms of that sum at block b + k that are of
--- blocks b − 1, b − 2, ..: block b − i stands k + i before it.
+-- 01, "bit k of a pending word is what past blocks add to the parity k steps after the next one". The next block is b, so that this is the sum at
+-- block b + k of the blocks before b alone; and it is the terms of these, block b − i with bit k + i. At k above N − 2 it is zero.
+abbrev pub past : (ℕ → ℕ) → ℕ → ℕ → ℕ
+past x b c = cond (ltb c b) (x c) 0
+
 unfoldable pub pastSum : ℕ → ℕ → List ℕ → (ℕ → ℕ) → ℕ → ℕ → Bool
 pastSum last N rows x b k = sumOver 1 last (λ j. sumOver 1 (N - 1) (λ i. bit (k + i) (rowOf rows j) && symbol j (ago x b i)))
+
+abbrev pub HoldsPast : ℕ → ℕ → List ℕ → (ℕ → ℕ) → ℕ → ℕ → Type 0
+HoldsPast last N rows x b word =
+    (k : ℕ) → (bit k word ≡ convolution last N rows (past x b) (b + k)) × (bit k word ≡ pastSum last N rows x b k)
 
 -- ---- streams of a run
 
@@ -150,8 +159,8 @@ REGISTER =
     → (register b < 2 ^ t .span)
     × ((k : ℕ) → k < t .span → bit (t .span - 1 - k) (register b) ≡ cond (leb (c + k) b) (raw (b - k)) false)
 
--- 01, "one pending word a stream; bit k of a pending word is what past blocks add to the parity k steps after the next one": of every k, those
--- past N − 2 among them, where both are zero.
+-- 01, Coder and decoder memory: "one pending word a stream; bit k of a pending word is what past blocks add to the parity k steps after the next
+-- one". It is the word before the step that block b is handed to.
 abbrev pub PENDING : Type 0
 PENDING =
     (t : Table) (cs : List Call) →
@@ -160,7 +169,7 @@ PENDING =
     CoderTables t memory cs → (r b : ℕ) → r < t .depth → r + b * t .depth < length sent →
     let info = stream (t .depth) r (infoSent sent) in
     let pending = stream (t .depth) r (pendingSent memory cs) in
-    (k : ℕ) → bit k (pending b) ≡ pastSum (t .symbols - 1) (t .span) (infoRows t) info b k
+    HoldsPast (t .symbols - 1) (t .span) (infoRows t) info b (pending b)
 
 -- the decoder's "pending word (from received information)"
 abbrev pub PENDING-RECEIVED : Type 0
@@ -171,7 +180,7 @@ PENDING-RECEIVED =
     DecoderTables t memory ds → (r b : ℕ) → r < t .depth → r + b * t .depth < length taken →
     let info = stream (t .depth) r (λ p. information (t .symbols) (blockTaken taken p)) in
     let pending = stream (t .depth) r (pendingTaken memory ds) in
-    (k : ℕ) → bit k (pending b) ≡ pastSum (t .symbols - 1) (t .span) (infoRows t) info b k
+    HoldsPast (t .symbols - 1) (t .span) (infoRows t) info b (pending b)
 
 -- 01, "the oldest delayed block of that stream leaves and the received information, uncorrected, joins as the youngest, so a delivery is of the
 -- block taken m × (N − 1) calls before", and "the oldest delayed block, corrected by e, is delivered in a record with its mark": at every taken
