@@ -5,19 +5,22 @@
 --   convolution-xor       the convolution is linear in the blocks
 --   combination-bit       a bit of an image, as a sum over the rows
 --   stream-convolution    the theorem
-use mathlib.Core.Path.{_≡_, refl, sym, ap, ap₂, _∙_, subst}
+--   stream-past           P t holds what the blocks before t add to the convolutions from t on
+use mathlib.Core.Path.{_≡_, refl, sym, ap, ap₂, _∙_}
 use mathlib.Core.Bool.{Bool, true, false, cond, xor, _&&_}
 use mathlib.Core.List.{List, [], _∷_}
 use Prim.Native.Nat.{ℕ, zero, suc, _+_, _-_, _/_, _^_, _≤_, _<_}
-use native.Mathlib.Nat.{add-zero, mod-one}
+use native.Mathlib.Nat.{add-zero, div-one, mod-one}
+use native.Mathlib.Decide.{decLt}
 use native.Mathlib.Omega.{arith}
+use borrow.Author.Tests.{lt-ltb, le-ltb}
 use lib.Dec.{leb, leb·zero, leb·suc-zero, leb·suc-suc}
 use lib.ListN.{length, getD}
-use lib.Pow.{pow-pos}
+use lib.Pow.{pow-pos, pow-mono, shr-shr}
 use Rattle.span.specs.Word.{_⊕_, odd, bit, sel}
 use Rattle.span.specs.Combination.{combination}
-use Rattle.span.proofs.Laws.{xor-false-l, xor-comm-bool, xor-swap-bool, xor-zero-l, xor-lt, bit-zero, bit-suc, bit-xor, bit-none, combination-zero, combination-append, combination-last, combination-low}
-use Rattle.link.specs.Massey.{sumOver, rowOf, symbol, ago, convolution}
+use Rattle.span.proofs.Laws.{xor-false-l, xor-comm-bool, xor-swap-bool, xor-zero-l, xor-zero-r, xor-lt, bit-odd, bit-zero, bit-suc, bit-xor, bit-none, combination-zero, combination-append, combination-last, combination-low}
+use Rattle.link.specs.Massey.{sumOver, rowOf, symbol, ago, convolution, past, pastSum, HoldsPast}
 
 -- ---- exclusive or of two, and over a range
 
@@ -161,29 +164,87 @@ module _ (n N : ℕ) (rows : List ℕ) (x P : ℕ → ℕ) (count : ℕ) (size :
       ∙ ap₂ xor (ap₂ (λ (p c : ℕ). bit p (combination rows c)) (sym (add-zero i)) (sym (ago-now x t))) (rest ∙ sym (sum-shift 0 M (put t i)))
       ∙ sum-head 0 M (put t i)
 
-  -- bit i of that word is what the blocks back to the start put there, as far as their images reach
-  joining-bit : (t i M : ℕ) → i + M ≡ N → t < count → bit i (P t ⊕ combination rows (x t)) ≡ sumOver 0 M (put t i)
+  -- bit i of that word is what the blocks back to the start put there, as far as their images reach, if it is so of P t
+  joined-bit : (t i M : ℕ) → N ≤ i + M → t < count → ((K : ℕ) → N ≤ i + suc K → bit i (P t) ≡ sumOver 0 K (λ k. put t i (suc k)))
+      → bit i (P t ⊕ combination rows (x t)) ≡ sumOver 0 M (put t i)
   unfolding sumOver
-  joining-bit t i zero e h =
-      bit-none i (P t ⊕ combination rows (x t))
-      (subst (λ (p : ℕ). P t ⊕ combination rows (x t) < 2 ^ p) (sym e ∙ add-zero i)
-      (xor-lt N (P t) (combination rows (x t)) (pending-lt t h) (image-lt (x t))))
-  joining-bit zero i (suc M) e h =
-      put-now 0 i M
-      (ap (bit i) first ∙ bit-nothing i
+  joined-bit t i zero e h rest =
+      let low = xor-lt N (P t) (combination rows (x t)) (pending-lt t h) (image-lt (x t)) in
+      let reach : N ≤ i = omega arith in
+      let most = pow-mono reach in
+      bit-none i (P t ⊕ combination rows (x t)) (omega arith)
+  joined-bit t i (suc M) e h rest = put-now t i M (rest M e)
+
+  -- it is so of P t
+  pending-bit : (t i M : ℕ) → N ≤ i + suc M → t < count → bit i (P t) ≡ sumOver 0 M (λ k. put t i (suc k))
+  pending-bit zero i M e h =
+      ap (bit i) first ∙ bit-nothing i
       ∙ sym (sum-false 0 M (λ k. put 0 i (suc k))
-      (λ k. ap (λ (c : ℕ). bit (i + suc k) (combination rows c)) (ago-none x k) ∙ ap (bit (i + suc k)) (combination-zero rows) ∙ bit-nothing (i + suc k))))
-  joining-bit (suc t) i (suc M) e h =
-      put-now (suc t) i M
-      (ap (bit i) (next t h) ∙ sym (bit-suc i (P t ⊕ combination rows (x t)))
-      ∙ joining-bit t (suc i) M (omega arith) (omega arith)
+      (λ k. ap (λ (c : ℕ). bit (i + suc k) (combination rows c)) (ago-none x k) ∙ ap (bit (i + suc k)) (combination-zero rows) ∙ bit-nothing (i + suc k)))
+  pending-bit (suc t) i M e h =
+      ap (bit i) (next t h) ∙ sym (bit-suc i (P t ⊕ combination rows (x t)))
+      ∙ joined-bit t (suc i) M (omega arith) (omega arith) (λ K f. pending-bit t (suc i) K f (omega arith))
       ∙ sum-ext 0 M (put t (suc i)) (λ k. put (suc t) i (suc k))
-      (λ k. ap₂ (λ (p c : ℕ). bit p (combination rows c)) (let z : suc i + k ≡ i + suc k = omega arith in z) (sym (ago-later x t k))))
+      (λ k. ap₂ (λ (p c : ℕ). bit p (combination rows c)) (let z : suc i + k ≡ i + suc k = omega arith in z) (sym (ago-later x t k)))
+
+  pending-past : (t : ℕ) → t < count → (k : ℕ) → bit k (P t) ≡ pastSum n N rows x t k
+  unfolding pastSum
+  pending-past t h k =
+      pending-bit t k (N - 1) (omega arith) h ∙ sym (sum-shift 0 (N - 1) (put t k))
+      ∙ sum-ext 1 (N - 1) (put t k) (λ i. sumOver 1 n (λ j. bit (k + i) (rowOf rows j) && symbol j (ago x t i)))
+      (λ i. combination-bit n rows (k + i) (ago x t i) size)
+      ∙ sym (sum-swap 1 n 1 (N - 1) (λ j i. bit (k + i) (rowOf rows j) && symbol j (ago x t i)))
 
   pub stream-convolution : (t : ℕ) → t < count → odd (P t ⊕ combination rows (x t)) ≡ convolution n N rows x t
   unfolding convolution
   stream-convolution t h =
-      sym (bit-zero (P t ⊕ combination rows (x t))) ∙ joining-bit t 0 N (omega arith) h
+      sym (bit-zero (P t ⊕ combination rows (x t))) ∙ joined-bit t 0 N (omega arith) h (λ K f. pending-bit t 0 K f h)
       ∙ sum-ext 0 N (λ k. bit (0 + k) (combination rows (ago x t k))) (λ k. sumOver 1 n (λ j. bit k (rowOf rows j) && symbol j (ago x t k)))
       (λ k. ap (λ (p : ℕ). bit p (combination rows (ago x t k))) (let e : 0 + k ≡ k = omega arith in e) ∙ combination-bit n rows k (ago x t k) size)
       ∙ sym (sum-swap 1 n 0 N (λ j k. bit k (rowOf rows j) && symbol j (ago x t k)))
+
+-- The blocks before block t alone. Their pending words are P up to block t; then nothing joins, and each is the one before it halved.
+module _ (n N : ℕ) (rows : List ℕ) (x P : ℕ → ℕ) (count : ℕ) (size : length rows ≤ n) (image-lt : (c : ℕ) → combination rows c < 2 ^ N) (first : P 0 ≡ 0)
+    (next : (t : ℕ) → suc t < count → P (suc t) ≡ (P t ⊕ combination rows (x t)) / 2) (t : ℕ) (h : t < count) where
+  past-before : (c : ℕ) → c < t → past x t c ≡ x c
+  past-before c l = ap (λ (s : Bool). cond s (x c) 0) (lt-ltb c t l)
+
+  past-after : (c : ℕ) → t ≤ c → combination rows (past x t c) ≡ 0
+  past-after c l = ap (λ (s : Bool). combination rows (cond s (x c) 0)) (le-ltb c t l) ∙ combination-zero rows
+
+  left : ℕ → ℕ
+  left c = P (c - (c - t)) / 2 ^ (c - t)
+
+  left-before : (c : ℕ) → c ≤ t → left c ≡ P c
+  unfolding left
+  left-before c l =
+      ap₂ (λ (i d : ℕ). P i / 2 ^ d) (let e : c - (c - t) ≡ c = omega arith in e) (let e : c - t ≡ 0 = omega arith in e) ∙ div-one (P c)
+
+  left-after : (d : ℕ) → left (t + d) ≡ P t / 2 ^ d
+  unfolding left
+  left-after d =
+      ap₂ (λ (i d : ℕ). P i / 2 ^ d) (let e : t + d - (t + d - t) ≡ t = omega arith in e) (let e : t + d - t ≡ d = omega arith in e)
+
+  left-joined : (c : ℕ) → t ≤ c → left c ⊕ combination rows (past x t c) ≡ left c
+  left-joined c l = ap (λ (z : ℕ). left c ⊕ z) (past-after c l) ∙ xor-zero-r (left c)
+
+  left-next : (c : ℕ) → left (suc c) ≡ (left c ⊕ combination rows (past x t c)) / 2
+  left-next c = go (decLt c t)
+    where
+      go : Dec (c < t) → left (suc c) ≡ (left c ⊕ combination rows (past x t c)) / 2
+      go (yes l) =
+          left-before (suc c) (omega arith) ∙ next c (omega arith)
+          ∙ sym (ap₂ (λ (p z : ℕ). (p ⊕ combination rows z) / 2) (left-before c (omega arith)) (past-before c l))
+      go (no l) =
+          let d = c - t in
+          let here : t + d ≡ c = omega arith in
+          let on : suc c ≡ t + (d + 1) = omega arith in
+          ap left on ∙ left-after (d + 1) ∙ sym (shr-shr (P t) d 1) ∙ sym (ap (λ (z : ℕ). z / 2) (left-joined c (omega arith) ∙ ap left (sym here) ∙ left-after d))
+
+  past-bit : (k : ℕ) → bit k (P t) ≡ convolution n N rows (past x t) (t + k)
+  past-bit k =
+      bit-odd k (P t) ∙ ap odd (sym (left-joined (t + k) (omega arith) ∙ left-after k))
+      ∙ stream-convolution n N rows (past x t) left (suc (t + k)) size image-lt (left-before 0 (omega arith) ∙ first) (λ c l. left-next c) (t + k) (omega arith)
+
+  pub stream-past : HoldsPast n N rows x t (P t)
+  stream-past k = (past-bit k, pending-past n N rows x P count size image-lt first next t h k)

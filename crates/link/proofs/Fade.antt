@@ -9,14 +9,12 @@
 --   recovers               the claim past the guard
 --   clean-first            streams that are clean in the first memory
 use mathlib.Core.Path.{_≡_, refl, sym, ap, ap₂, _∙_, subst}
-use mathlib.Core.Bool.{Bool, true, false, cond}
+use mathlib.Core.Bool.{Bool}
 use mathlib.Core.Logic.{_≢_, _⊎_, inl, inr}
 use mathlib.Core.List.{List, [], _∷_, _++_}
-use Prim.Native.Nat.{ℕ, zero, suc, _+_, _-_, _*_, _/_, _%_, _^_, _≤_, _<_}
-use native.Mathlib.Nat.{add-zero, zero-add, zero-mod, add-mod-mod, div-lt-iff-lt-mul, add-mul, suc-mul, one-mul, mul-comm, mul-le-mul-right, mod-lt, div-add-mod', le-div-iff-mul-le, eq-zero-or-pos}
+use Prim.Native.Nat.{ℕ, suc, _+_, _-_, _*_, _/_, _%_, _^_, _≤_, _<_}
+use native.Mathlib.Nat.{zero-mod, add-mul, suc-mul, one-mul, mul-comm, mul-le-mul-right, mod-lt, div-add-mod', le-div-iff-mul-le, eq-zero-or-pos}
 use native.Mathlib.Omega.{arith}
-use borrow.Author.Tests.{ltb-false}
-use lib.Dec.{ltb}
 use lib.ListN.{length, getD}
 use Rattle.span.specs.Word.{_⊕_, odd, digit}
 use Rattle.span.specs.Combination.{combination}
@@ -33,7 +31,8 @@ use Rattle.link.proofs.Step.{both-half, both-odd, coder-info, topped-lt
 use Rattle.link.proofs.Sequence.{Stream, guard-clean, guard-syndrome, stream-judged}
 use Rattle.link.proofs.Interleaving.{place-first, place-next, place-earlier}
 use Rattle.link.proofs.Memory.{streamIn, pendingIn, syndromeIn, delayedIn, registerIn}
-use Rattle.link.proofs.Turn.{CoderRun, DecoderRun, coder-again, coder-first, pending-again, pending-first, syndrome-again, syndrome-first, delayed-again, delayed-first}
+use Rattle.link.proofs.Turn.{CoderRun, DecoderRun, coder-again, coder-first, pending-again, pending-first, syndrome-again, syndrome-first}
+use Rattle.link.proofs.Delay.{fill-complete, oldest, oldest-first}
 
 pub record Linked (n N m : ℕ) (infos : List ℕ) (S M : ℕ → List ℕ) (R B C : ℕ → ℕ) (A : ℕ → DecodeAnswer) (count : ℕ) : Type 0 where
   pub n-from : 2 ≤ n
@@ -140,54 +139,6 @@ module _ {n N m : ℕ} {infos : List ℕ} {S M : ℕ → List ℕ} {R B C : ℕ 
 
   -- ---- what is delivered
 
-  fill-grows : (p : ℕ) → p ≤ count → (p ≤ fillOf (S p)) ⊎ (m * (N - 1) ≤ fillOf (S p))
-  fill-grows zero h = inl (omega arith)
-  fill-grows (suc p) h = go (ltb (fillOf (S p)) (m * (N - 1))) refl (l .decoding .decodes p (omega arith) .fill-on) (fill-grows p (omega arith))
-    where
-      go : (b : Bool) → ltb (fillOf (S p)) (m * (N - 1)) ≡ b → fillOf (S (suc p)) ≡ cond b (fillOf (S p) + 1) (fillOf (S p))
-          → (p ≤ fillOf (S p)) ⊎ (m * (N - 1) ≤ fillOf (S p)) → (suc p ≤ fillOf (S (suc p))) ⊎ (m * (N - 1) ≤ fillOf (S (suc p)))
-      go true q e (inl z) = inl (omega arith)
-      go true q e (inr z) = inr (omega arith)
-      go false q e z = inr (let y = ltb-false (fillOf (S p)) (m * (N - 1)) q in omega arith)
-
-  fill-complete : (p : ℕ) → p < count → m * (N - 1) ≤ p → m * (N - 1) ≤ fillOf (S p)
-  fill-complete p h full = go (fill-grows p (omega arith))
-    where
-      go : (p ≤ fillOf (S p)) ⊎ (m * (N - 1) ≤ fillOf (S p)) → m * (N - 1) ≤ fillOf (S p)
-      go (inl z) = omega arith
-      go (inr z) = z
-
-  -- a delayed block, k blocks of its stream before
-  delayed-before : (q k i : ℕ) → i + k < N - 1 → q + k * m < count → dl i (q + k * m) ≡ dl (i + k) q
-  delayed-before q zero i b h =
-      ap₂ dl (sym (add-zero i)) (place-first m q)
-  delayed-before q (suc k) i b h =
-      let step = place-next m q k in
-      ap (dl i) (place-next m q k) ∙ delayed-again (l .decoding) i (q + k * m) (omega arith) (omega arith) ∙ l .decoding .decodes (q + k * m) (omega arith) .delayed-on i (omega arith)
-      ∙ delayed-before q k (suc i) (omega arith) (omega arith) ∙ ap (λ (j : ℕ). dl j q) (let e : suc i + k ≡ i + suc k = omega arith in e)
-
-  -- the oldest is the information received m × (N − 1) places before
-  oldest : (p q : ℕ) → p < count → q + m * (N - 1) ≡ p → dl 0 p ≡ R q % 2 ^ (n - 1)
-  oldest p q h e =
-      let from = l .N-from in
-      let many : suc (N - 2) ≡ N - 1 = omega arith in
-      let place : p ≡ q + m + (N - 2) * m = omega (arith, ap (λ (k : ℕ). k * m) many, suc-mul (N - 2) m, mul-comm m (N - 1)) in
-      ap (dl 0) place ∙ delayed-before (q + m) (N - 2) 0 (omega arith) (omega arith) ∙ delayed-again (l .decoding) (0 + (N - 2)) q (omega arith) (omega arith)
-      ∙ l .decoding .decodes q (omega arith) .youngest (0 + (N - 2)) (omega arith)
-
-  -- where there is no such place it is a block of the first memory
-  oldest-first : (p : ℕ) → p < count → p < m * (N - 1) → dl 0 p ≡ getD (S 0) (streamIn N ((turnOf (S 0) + p) % m) + 2 + p / m) 0
-  oldest-first p h early =
-      let some = l .m-from in
-      let r = p % m in
-      let k = p / m in
-      let first : r < m = mod-lt p (omega arith) in
-      let whole = div-add-mod' p m in
-      let here : p ≡ r + k * m = omega arith in
-      let few : k < N - 1 = div-lt-iff-lt-mul {k = m} (omega arith) .1 (omega (arith, mul-comm m (N - 1))) in
-      ap (dl 0) here ∙ delayed-before r k 0 (omega arith) (omega arith) ∙ ap (λ (i : ℕ). dl i r) (zero-add k) ∙ delayed-first (l .decoding) k r few first (omega arith)
-      ∙ ap (λ (j : ℕ). getD (S 0) (streamIn N j + 2 + k) 0) (add-mod-mod (turnOf (S 0)) p m)
-
   corrected : (q : ℕ) → q < count → R q % 2 ^ (n - 1) ⊕ er q % 2 ^ (n - 1) ≡ B q
   corrected q h =
       let c = l .coding .codes q h in
@@ -270,15 +221,15 @@ module _ {n N m : ℕ} {infos : List ℕ} {S M : ℕ → List ℕ} {R B C : ℕ 
 
     pub delivers : (p q : ℕ) → p < count → start * m ≤ p → q + m * (N - 1) ≡ p → Sure (A p) (B q)
     delivers p q h late e =
-        sure p (er q) (B q) h late (λ i d. ap er (let same : i ≡ q = omega arith in same)) (λ few. absurd (omega arith)) (fill-complete p h (omega arith))
-        (ap (λ (x : ℕ). x ⊕ er q % 2 ^ (n - 1)) (oldest p q h e) ∙ corrected q (omega arith))
+        sure p (er q) (B q) h late (λ i d. ap er (let same : i ≡ q = omega arith in same)) (λ few. absurd (omega arith)) (fill-complete (l .decoding) p h (omega arith))
+        (ap (λ (x : ℕ). x ⊕ er q % 2 ^ (n - 1)) (oldest (l .decoding) p q h e) ∙ corrected q (omega arith))
 
     -- a block of the first memory leaves as it is
     pub delivers-first : (p : ℕ) → p < count → start * m ≤ p → p < m * (N - 1) → m * (N - 1) ≤ fillOf (S p)
         → Sure (A p) (getD (S 0) (streamIn N ((turnOf (S 0) + p) % m) + 2 + p / m) 0)
     delivers-first p h late early full =
         sure p 0 (getD (S 0) (streamIn N ((turnOf (S 0) + p) % m) + 2 + p / m) 0) h late (λ q e. absurd (omega arith)) (λ few. refl) full
-        (ap (λ (y : ℕ). dl 0 p ⊕ y) (zero-mod (2 ^ (n - 1))) ∙ xor-zero-r (dl 0 p) ∙ oldest-first p h early)
+        (ap (λ (y : ℕ). dl 0 p ⊕ y) (zero-mod (2 ^ (n - 1))) ∙ xor-zero-r (dl 0 p) ∙ oldest-first (l .decoding) p h early)
 
   -- the guard makes every stream clean
   pub recovers : WrongApart R C m (m * (N - 1)) count

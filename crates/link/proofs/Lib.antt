@@ -20,6 +20,7 @@ mod Lent
 mod Answers
 mod Streams
 mod Turn
+mod Delay
 mod OneTable
 mod Formed
 mod Massey

@@ -1,8 +1,9 @@
 -- Demand 2: the streams of runs from memories of zeros, as the sequences of `Convolution` and `Register`. Assumes nothing.
 --
---   coder-parity, coder-zero          a stream of the coder: the parity, and the sum over all symbols
---   decoder-raw, decoder-register     a stream of the decoder: the raw term, and the register
---   parity, syndromes, syndrome-errors, registers   the theorems
+--   coder-pending, coder-parity, coder-zero   a stream of the coder: the pending word, the parity, and the sum over all symbols
+--   decoder-pending, decoder-raw, decoder-register   a stream of the decoder: the pending word, the raw term, and the register
+--   decoder-delivers                  what a decoder delivers, from any memory
+--   parity, syndromes, syndrome-errors, registers, pendings, pendings-received, deliveries   the theorems
 use mathlib.Core.Path.{_≡_, sym, ap, ap₂, _∙_, subst}
 use mathlib.Core.Bool.{Bool, false, cond, xor}
 use mathlib.Core.Logic.{_⊎_, inl, inr}
@@ -14,27 +15,29 @@ use lib.ListN.{length, getD, length-append, length-take}
 use lib.Seq.{length-take-le}
 use Rattle.span.specs.declared.eliminate.Least.{Least}
 use Rattle.span.specs.declared.eliminate.Least.the-variants.{Found, Missing}
-use Rattle.span.specs.Word.{odd, bit, digit}
+use Rattle.span.specs.Word.{_⊕_, odd, bit, digit}
 use Rattle.span.specs.Combination.{combination}
 use Rattle.span.proofs.Laws.{xor-false-r, combination-lt}
 use Rattle.tables.specs.declared.table.Table.{Table}
 use Rattle.tables.specs.Table.{rowsOf}
 use Rattle.link.specs.declared.decoder.DecodeAnswer.{DecodeAnswer}
-use Rattle.link.specs.Stream.{joining, keptOf}
+use Rattle.link.specs.declared.decoder.DecodeAnswer.the-variants.{Delivery}
+use Rattle.link.specs.Stream.{joining, information, errorOf, keptOf, markOf}
 use Rattle.link.specs.Start.{started}
 use Rattle.link.specs.Coder.{infoRows, coderWords, turnOf, pendingAt, coderFault, coderNext}
-use Rattle.link.specs.Decoder.{decoderWords, decoderFault, decoderNext}
-use Rattle.link.specs.Runs.{Call, sentBy, takenBy}
-use Rattle.link.specs.Massey.{convolution, stream, blockSent, blockTaken, rawAt, registerAt, foundAt, PARITY, SYNDROME, SYNDROME-ERRORS, REGISTER}
+use Rattle.link.specs.Decoder.{decoderWords, delayOf, pendingOf, decoderFault, decoderNext}
+use Rattle.link.specs.Runs.{Call, sentBy, takenBy, takenAt}
+use Rattle.link.specs.Massey.{convolution, HoldsPast, stream, infoSent, blockSent, blockTaken, rawAt, registerAt, foundAt, PARITY, SYNDROME, SYNDROME-ERRORS, REGISTER, PENDING, PENDING-RECEIVED, DELIVERY}
 use Rattle.link.proofs.Origin.{below-snoc}
 use Rattle.link.proofs.Step.{topped-low, topped-bit, joined-half, joined-odd, coder-half, coder-even}
 use Rattle.link.proofs.Started.{started-word}
 use Rattle.link.proofs.Interleaving.{place-first, place-next, place-earlier}
-use Rattle.link.proofs.Runs.{coderBefore, decoderBefore, before-first}
-use Rattle.link.proofs.Memory.{Fits, CoderStep, Verdict, streamIn, pendingIn, syndromeIn}
-use Rattle.link.proofs.OneTable.{coded, decoded, verdict}
+use Rattle.link.proofs.Runs.{coderBefore, decoderBefore, before-first, sent-place, taken-place}
+use Rattle.link.proofs.Memory.{Fits, CoderStep, Verdict, streamIn, pendingIn, syndromeIn, delayedIn}
+use Rattle.link.proofs.OneTable.{coded, taken-table, decoded, verdict}
 use Rattle.link.proofs.Turn.{CoderRun, DecoderRun, coder-again, coder-first, pending-again, pending-first, syndrome-again, syndrome-first}
-use Rattle.link.proofs.Convolution.{convolution-xor, stream-convolution}
+use Rattle.link.proofs.Delay.{fill-complete, oldest}
+use Rattle.link.proofs.Convolution.{convolution-xor, stream-convolution, stream-past}
 use Rattle.link.proofs.Register.{register-lt, register-bit}
 
 -- ---- images with the parity's row
@@ -72,6 +75,12 @@ module _ {n N m : ℕ} {infos : List ℕ} {M : ℕ → List ℕ} {B C : ℕ → 
   unfolding joining
   parity-sum size =
       stream-convolution (n - 1) N infos (stream m r B) pending (suc b) size
+      (λ c. combination-lt N infos c (step b (omega arith) .fits .below)) pending-start (λ k h. pending-on k (omega arith)) b (omega arith)
+
+  pub coder-pending : length infos ≤ n - 1 → HoldsPast (n - 1) N infos (stream m r B) b (pending b)
+  unfolding joining
+  coder-pending size =
+      stream-past (n - 1) N infos (stream m r B) pending (suc b) size
       (λ c. combination-lt N infos c (step b (omega arith) .fits .below)) pending-start (λ k h. pending-on k (omega arith)) b (omega arith)
 
   pub coder-parity : length infos ≤ n - 1
@@ -123,6 +132,12 @@ module _ {n N m : ℕ} {infos : List ℕ} {S : ℕ → List ℕ} {R : ℕ → �
       let p = place-next m r k in
       ap (λ (q : ℕ). pendingIn N (S q)) p ∙ pending-again l (r + k * m) (omega arith)
 
+  pub decoder-pending : length infos ≤ n - 1 → HoldsPast (n - 1) N infos (stream m r (λ p. R p % 2 ^ (n - 1))) b (joins b)
+  unfolding joining
+  decoder-pending size =
+      stream-past (n - 1) N infos (stream m r (λ p. R p % 2 ^ (n - 1))) joins (suc b) size
+      (λ c. combination-lt N infos c (l .decodes (r + b * m) inside .fits .below)) joins-start (λ k h. joins-on k (omega arith)) b (omega arith)
+
   pub decoder-raw : length infos ≡ n - 1 → stream m r raw b ≡ convolution n N (infos ++ (1 ∷ [])) (stream m r R) b
   decoder-raw size =
       let f = l .decodes (r + b * m) inside .fits in
@@ -172,6 +187,20 @@ module _ {n N m : ℕ} {infos : List ℕ} {S : ℕ → List ℕ} {R : ℕ → �
             (omega arith),
       )
 
+-- ---- what is delivered
+
+module _ {n N m : ℕ} {infos : List ℕ} {S : ℕ → List ℕ} {R : ℕ → ℕ} {A : ℕ → DecodeAnswer} {count : ℕ} (l : DecoderRun n N m infos S R A count)
+    (raw : ℕ → Bool) (register : ℕ → ℕ) (error : ℕ → Least)
+    (judges : (p : ℕ) → p < count → Verdict n N infos (S p) (R p) (raw p) (register p) (error p)) where
+  pub decoder-delivers : (p q : ℕ) → p < count → q + m * (N - 1) ≡ p
+      → A p ≡ Delivery (record { info = R q % 2 ^ (n - 1) ⊕ errorOf (error p) % 2 ^ (n - 1); mark = markOf (error p) (register p) })
+  decoder-delivers p q h e =
+      let v = judges p h in
+      l .decodes p h .answers (fill-complete l p h (omega arith))
+      ∙ ap₂ (λ (f : Least) (x : ℕ). Delivery (record { info = delayedIn N (S p) 0 ⊕ errorOf f % 2 ^ (n - 1); mark = markOf f x })) (sym (v .found-is))
+      (sym (v .register-is))
+      ∙ ap (λ (x : ℕ). Delivery (record { info = x ⊕ errorOf (error p) % 2 ^ (n - 1); mark = markOf (error p) (register p) })) (oldest l p q h e)
+
 -- ---- runs from started memories
 
 info-size : (t : Table) → t .symbols - 1 ≤ length (t .rows) → length (infoRows t) ≡ t .symbols - 1
@@ -211,3 +240,37 @@ registers t ds tables r b c low inside =
     decoder-register (decoded t (started (decoderWords t)) ds tables) (rawAt (started (decoderWords t)) ds) (registerAt (started (decoderWords t)) ds)
     (foundAt (started (decoderWords t)) ds) (verdict t (started (decoderWords t)) ds tables) (decoder-zeros t ds) r b low
     inside c
+
+pub pendings : PENDING
+pendings t cs tables r b low inside =
+    let s = started (coderWords t) in
+    let info = stream (t .depth) r (infoSent (sentBy s cs)) in
+    subst (HoldsPast (t .symbols - 1) (t .span) (infoRows t) info b)
+    (sym (sent-place s cs (r + b * t .depth) inside .is (λ t s b. pendingAt s (turnOf s)) 0))
+    (coder-pending (coded t s cs tables) (coder-zeros t cs) r b low inside (simp length-take (omega arith)))
+
+pub pendings-received : PENDING-RECEIVED
+pendings-received t ds tables r b low inside =
+    let s = started (decoderWords t) in
+    let p = r + b * t .depth in
+    let info = stream (t .depth) r (λ p. information (t .symbols) (blockTaken (takenBy s ds) p)) in
+    subst (HoldsPast (t .symbols - 1) (t .span) (infoRows t) info b)
+    (sym (taken-place s ds p inside .is (λ t s r. pendingOf t s (turnOf s)) 0
+    ∙ ap (λ (N : ℕ). pendingIn N (decoderBefore s ds p)) (taken-table t s ds tables p inside .span)))
+    (decoder-pending (decoded t s ds tables) (rawAt s ds) (registerAt s ds) (foundAt s ds) (verdict t s ds tables) (decoder-zeros t ds) r b low inside
+    (simp length-take (omega arith)))
+
+pub deliveries : DELIVERY
+deliveries t s ds tables p late inside =
+    let taken = takenBy s ds in
+    let error = foundAt s ds (p - 1) in
+    -- places count from 1
+    let here : suc (p - 1) ≡ p = omega arith in
+    let there : suc (p - delayOf t - 1) ≡ p - delayOf t = omega arith in
+    ap (λ (k : ℕ). takenAt taken k .answer) (sym here)
+    ∙ decoder-delivers (decoded t s ds tables) (rawAt s ds) (registerAt s ds) (foundAt s ds) (verdict t s ds tables) (p - 1) (p - delayOf t - 1)
+    (omega arith) (omega arith)
+    ∙ ap (λ (k : ℕ). Delivery (record {
+      info = information (t .symbols) (takenAt taken k .block) ⊕ information (t .symbols) (errorOf error);
+      mark = markOf error (registerAt s ds (p - 1));
+    })) there

@@ -5,29 +5,36 @@
 --   rowOf rows j, symbol j x          row j, and symbol j of a block
 --   ago x b k                         block b − k of a stream; blocks before the start are zero
 --   convolution last N rows x b       the sum of 000, eq. 1, over rows 1 to `last`, at block b of the stream x
+--   past x b                          the blocks before block b alone
+--   pastSum last N rows x b k         what they add to that sum at block b + k, term by term
+--   HoldsPast last N rows x b word    bit k of the word is what they add to it, for every k
 --   stream m r at                     stream r of m, of what stands at the places of a run
 --   infoSent, blockSent, blockTaken   information and block sent at a place, and block taken
+--   pendingSent, pendingTaken         pending word of the turn's stream before the step there, of coder and of decoder
 --   rawAt, registerAt, foundAt        raw term, register and what was found there
 --   PARITY                            000, eq. 1
 --   SYNDROME                          the raw terms, whatever was received
 --   SYNDROME-ERRORS                   000, eq. 3
 --   REGISTER                          the register holds the last N raw terms since the word was last cleared
+--   PENDING, PENDING-RECEIVED         what a bit of a pending word is, of coder and of decoder
+--   DELIVERY                          which block a delivery is of, from any memory
 use mathlib.Core.Path.{_≡_}
 use mathlib.Core.Bool.{Bool, false, cond, xor, _&&_}
 use mathlib.Core.Logic.{_⊎_}
 use mathlib.Core.List.{List}
 use Prim.Native.Nat.{ℕ, zero, suc, _+_, _-_, _*_, _^_, _≤_, _<_}
-use lib.Dec.{leb}
+use lib.Dec.{leb, ltb}
 use lib.ListN.{length, getD}
 use Rattle.span.specs.declared.eliminate.Least.{Least}
 use Rattle.span.specs.declared.eliminate.Least.the-variants.{Found, Missing}
 use Rattle.span.specs.Word.{_⊕_, bit}
 use Rattle.tables.specs.declared.table.Table.{Table}
 use Rattle.tables.specs.Table.{rowsOf}
-use Rattle.link.specs.Stream.{information, parity, rawTerm}
+use Rattle.link.specs.declared.decoder.DecodeAnswer.the-variants.{Delivery}
+use Rattle.link.specs.Stream.{information, parity, rawTerm, errorOf, markOf}
 use Rattle.link.specs.Start.{started}
-use Rattle.link.specs.Coder.{infoRows, coderWords}
-use Rattle.link.specs.Decoder.{decoderWords, decoderFault, decoderNext, decoderJoining, decoderRegister, decoderFound}
+use Rattle.link.specs.Coder.{infoRows, coderWords, turnOf, pendingAt, coderFault, coderNext}
+use Rattle.link.specs.Decoder.{decoderWords, delayOf, pendingOf, decoderFault, decoderNext, decoderJoining, decoderRegister, decoderFound}
 use Rattle.link.specs.Runs.{Call, Sent, Taken, run, sentBy, takenBy, sentAt, takenAt}
 use Rattle.link.specs.Recovery.{CoderTables, DecoderTables}
 
@@ -53,6 +60,18 @@ ago x b k = cond (leb k b) (x (b - k)) 0
 unfoldable pub convolution : ℕ → ℕ → List ℕ → (ℕ → ℕ) → ℕ → Bool
 convolution last N rows x b = sumOver 1 last (λ j. sumOver 0 N (λ k. bit k (rowOf rows j) && symbol j (ago x b k)))
 
+-- 01, "bit k of a pending word is what past blocks add to the parity k steps after the next one". The next block is b, so that this is the sum at
+-- block b + k of the blocks before b alone; and it is the terms of these, block b − i with bit k + i. At k above N − 2 it is zero.
+abbrev pub past : (ℕ → ℕ) → ℕ → ℕ → ℕ
+past x b c = cond (ltb c b) (x c) 0
+
+unfoldable pub pastSum : ℕ → ℕ → List ℕ → (ℕ → ℕ) → ℕ → ℕ → Bool
+pastSum last N rows x b k = sumOver 1 last (λ j. sumOver 1 (N - 1) (λ i. bit (k + i) (rowOf rows j) && symbol j (ago x b i)))
+
+abbrev pub HoldsPast : ℕ → ℕ → List ℕ → (ℕ → ℕ) → ℕ → ℕ → Type 0
+HoldsPast last N rows x b word =
+    (k : ℕ) → (bit k word ≡ convolution last N rows (past x b) (b + k)) × (bit k word ≡ pastSum last N rows x b k)
+
 -- ---- streams of a run
 
 -- "Blocks are dealt in turn to m separate streams (000, III.A)."
@@ -68,6 +87,13 @@ blockSent xs p = sentAt xs (suc p) .block
 
 abbrev pub blockTaken : List Taken → ℕ → ℕ
 blockTaken xs p = takenAt xs (suc p) .block
+
+-- the words of the memory before a step that is not refused
+abbrev pub pendingSent : List ℕ → List Call → ℕ → ℕ
+pendingSent s cs p = getD (run coderFault coderNext (λ t s b. pendingAt s (turnOf s)) s cs) p 0
+
+abbrev pub pendingTaken : List ℕ → List Call → ℕ → ℕ
+pendingTaken s ds p = getD (run decoderFault decoderNext (λ t s r. pendingOf t s (turnOf s)) s ds) p 0
 
 -- 01, a decoding step, lines 1 to 3, at a step that is not refused
 abbrev pub rawAt : List ℕ → List Call → ℕ → Bool
@@ -132,3 +158,42 @@ REGISTER =
     (c ≡ 0) ⊎ ((e : ℕ) × (found (c - 1) ≡ Found e)) → ((d : ℕ) → c ≤ d → d < b → found d ≡ Missing)
     → (register b < 2 ^ t .span)
     × ((k : ℕ) → k < t .span → bit (t .span - 1 - k) (register b) ≡ cond (leb (c + k) b) (raw (b - k)) false)
+
+-- 01, Coder and decoder memory: "one pending word a stream; bit k of a pending word is what past blocks add to the parity k steps after the next
+-- one". It is the word before the step that block b is handed to.
+abbrev pub PENDING : Type 0
+PENDING =
+    (t : Table) (cs : List Call) →
+    let memory = started (coderWords t) in
+    let sent = sentBy memory cs in
+    CoderTables t memory cs → (r b : ℕ) → r < t .depth → r + b * t .depth < length sent →
+    let info = stream (t .depth) r (infoSent sent) in
+    let pending = stream (t .depth) r (pendingSent memory cs) in
+    HoldsPast (t .symbols - 1) (t .span) (infoRows t) info b (pending b)
+
+-- the decoder's "pending word (from received information)"
+abbrev pub PENDING-RECEIVED : Type 0
+PENDING-RECEIVED =
+    (t : Table) (ds : List Call) →
+    let memory = started (decoderWords t) in
+    let taken = takenBy memory ds in
+    DecoderTables t memory ds → (r b : ℕ) → r < t .depth → r + b * t .depth < length taken →
+    let info = stream (t .depth) r (λ p. information (t .symbols) (blockTaken taken p)) in
+    let pending = stream (t .depth) r (pendingTaken memory ds) in
+    HoldsPast (t .symbols - 1) (t .span) (infoRows t) info b (pending b)
+
+-- 01, "the oldest delayed block of that stream leaves and the received information, uncorrected, joins as the youngest, so a delivery is of the
+-- block taken m × (N − 1) calls before", and "the oldest delayed block, corrected by e, is delivered in a record with its mark": at every taken
+-- place above m × (N − 1), counted from 1, from any first memory.
+abbrev pub DELIVERY : Type 0
+DELIVERY =
+    (t : Table) (memory : List ℕ) (ds : List Call) →
+    let taken = takenBy memory ds in
+    DecoderTables t memory ds → (p : ℕ) → delayOf t < p → p ≤ length taken →
+    let register = registerAt memory ds (p - 1) in
+    let found = foundAt memory ds (p - 1) in
+    takenAt taken p .answer
+    ≡ Delivery (record {
+      info = information (t .symbols) (takenAt taken (p - delayOf t) .block) ⊕ information (t .symbols) (errorOf found);
+      mark = markOf found register;
+    })
