@@ -2,7 +2,7 @@
 -- use that definition." The first number is the refusal's, 12 to 15, or 0 where the call is not refused; then come the values. A refusal has its
 -- number only.
 --
---   markNumber k, markError k   the number of a mark, and its e or 0
+--   markNumber k, markError k, markWord k   the number of a mark, its e or 0, and its word
 --   startNumbers, codeNumbers, decodeNumbers   the numbers of an answer
 --   Answered fault values next before ns after   the numbers and the memory after a call that has this fault; every function promises it
 --   decodeValues t s r          the values of a decoder's step that is taken
@@ -39,6 +39,13 @@ markError Clean = 0
 markError Held = 0
 markError (Corrected e) = e
 markError Doubtful = 0
+
+-- its word, in bytes: 01 has "clean", "held", "corrected" and "doubtful"
+abbrev pub markWord : Mark → List ℕ
+markWord Clean = 99 ∷ 108 ∷ 101 ∷ 97 ∷ 110 ∷ []
+markWord Held = 104 ∷ 101 ∷ 108 ∷ 100 ∷ []
+markWord (Corrected e) = 99 ∷ 111 ∷ 114 ∷ 114 ∷ 101 ∷ 99 ∷ 116 ∷ 101 ∷ 100 ∷ []
+markWord Doubtful = 100 ∷ 111 ∷ 117 ∷ 98 ∷ 116 ∷ 102 ∷ 117 ∷ 108 ∷ []
 
 abbrev pub startNumbers : StartAnswer → List ℕ
 startNumbers Started = 0 ∷ []
