@@ -3,8 +3,8 @@
 -- number only.
 --
 --   markNumber k, markError k, markWord k   the number of a mark, its e or 0, and its word
---   startNumbers, codeNumbers, decodeNumbers   the numbers of an answer
---   Answered fault values next before ns after   the numbers and the memory after a call that has this fault; every function promises it
+--   startNumbers, codeNumbers, recordNumbers, decodeNumbers   the numbers of an answer, and of a record
+--   Answered fault values next before ns after   the numbers and the memory after a call that has this fault; every start and step promises it
 --   decodeValues t s r          the values of a decoder's step that is taken
 --   START-NUMBERS, CODE-NUMBERS, DECODE-NUMBERS  those of every start and of every step
 use mathlib.Core.Path.{_≡_}

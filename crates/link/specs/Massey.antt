@@ -1,5 +1,5 @@
--- Demand 2, Massey's code over runs of steps: what the pending words and the syndrome words compute is 000's code. Taken place p of a run, counted
--- from 0, is block p div m of stream p mod m, so that block b of stream r is place r + b × m.
+-- Demand 2, Massey's code over runs of steps: what the pending words and the syndrome words compute is 000's code. Taken place p of a run from a
+-- started memory, counted from 0, is block p div m of stream p mod m, so that block b of stream r is place r + b × m.
 --
 --   sumOver from count f              the exclusive or of f from, f (from + 1), ..: `count` of them
 --   rowOf rows j, symbol j x          row j, and symbol j of a block

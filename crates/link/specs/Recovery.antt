@@ -3,6 +3,7 @@
 --   SameTable u t            u and t have the same n, N, m and rows 1 to n − 1
 --   Origin t                 t is an accepted or a made table
 --   Right, Wrong sent taken p   taken block p is sent block p, and is not
+--   Stretch                  a first and a last place
 --   Burst wrong long count b a stretch of at most `long` places, none past `count`, that begins and ends with a wrong one
 --   Apart gap b bs           at least `gap` places lie between b and the first of bs
 --   Chosen wrong long gap count bs   bursts in order, so far apart
@@ -12,7 +13,7 @@
 --   Recovered sent taken delay p   what the step at place p answers
 --   RECOVERY                 the theorem
 --   CoderTables, DecoderTables   each step that is not refused uses a table that is the same as t
---   Running                  the premises on the lists of steps alone: nothing of the memories, and nothing of what is right
+--   Running                  the premises on the table and the lists of steps alone: nothing of the memories, and nothing of what is right
 --   Separated wrong long gap count   two wrong places lie in one stretch of `long`, or have the gap between them
 --   BURSTS-SEPARATED         wrong places that lie in bursts so chosen are so separated
 --   RECOVERY-ANY-MEMORY      the theorem from any memory, and without a choice of bursts

@@ -3,6 +3,7 @@
 --   Call                     what a step is handed: a table and a block
 --   Sent, Taken              what is kept of a coder step, and of a decoder step, that is not refused
 --   run fault next entry     the steps that are not refused, in order
+--   sentEntry, takenEntry    what is kept of one
 --   sentBy s cs, takenBy s ds   those of the coder and those of the decoder, from the memory s on
 --   ran fault next           the memory after all the steps
 --   coderAfter s cs, decoderAfter s ds   that of the coder and that of the decoder

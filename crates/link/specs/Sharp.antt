@@ -1,7 +1,7 @@
--- 01's numbers cannot be had smaller, or greater. Three runs on Z (n = 2, N = 4, row 10, m = 1; m × (N − 1) is 3), the coder started and sending
--- zeros, show it: with one right place too few at first, the claim beginning right after them, there is a doubtful mark; with one place too few
--- between two bursts, or one too many in a burst, wrong information is delivered. All else is as recovery asks for it. (That the guard could not
--- be shorter with the claim left where it is, is not said.)
+-- How far 01's numbers go: recovery fails with guard and begin of the claim both one place less, with a gap one place less, and with bursts one
+-- place longer. Three runs on Z (n = 2, N = 4, row 10, m = 1; m × (N − 1) is 3), the coder started and sending zeros, show it: right after the
+-- shorter guard a mark is doubtful, and in the other two wrong information is delivered. All else is as recovery asks for it. (Of the guard
+-- alone, or the begin of the claim alone, nothing is said.)
 --
 --   filled pending              a decoder memory of Z with that pending word, its fill complete and all else 0
 --   zerosSent count             what the coder sends
