@@ -3,13 +3,15 @@
 --   fit-facts     a fit table's sizes are in range, and its rows below 2^N
 --   parse-room    a parsed table holds 15 rows
 --   making-room   and so does every table that making returns
+--   made-whole    a made table is fit, and its other rows are 0
 use mathlib.Core.Path.{_≡_, refl, sym, ap, _∙_}
 use mathlib.Core.Bool.{Bool, true, false, cond}
-use mathlib.Core.List.{List}
+use mathlib.Core.List.{List, _++_}
 use Prim.Native.Nat.{ℕ, zero, suc, _+_, _-_, _≤_}
 use native.Mathlib.Omega.{arith}
 use lib.Dec.{eqb}
 use lib.ListN.{length, take, drop, getD, replicate, length-append, length-replicate, length-set}
+use lib.Seq.{getD-append-add}
 use Rattle.span.specs.Combination.{Below}
 use Rattle.tables.specs.declared.table.Table.{Table}
 use Rattle.tables.specs.declared.read.Progress.{Progress}
@@ -17,9 +19,11 @@ use Rattle.tables.specs.declared.make.MakeAnswer.the-variants.{Made, Out
 use Rattle.tables.specs.Table.{zeroTable, sizesFit, rowsFit, fit}
 use Rattle.tables.specs.Format.{Parse, refused, parsed, parse, parseFrom, after, sized, rowed, kind, size, place, fault, begun, rowWord}
 use Rattle.tables.specs.Made.{madeRows, madeTable, columns, making, pickMaking}
+use Rattle.tables.specs.Laws.{MADE-WHOLE}
 use Rattle.tables.proofs.Fit.{and-right, sizes-of, rows-below, fit-sizes}
 use Rattle.tables.proofs.Progress.{never-refused}
 use Rattle.tables.proofs.Triangle.{made-length}
+use Rattle.tables.proofs.Made.{made}
 
 -- ---- a fit table
 
@@ -89,3 +93,31 @@ making-room n m = go (sizesFit n 2 m) refl
         → length (pickMaking b (record { answer = Made; table = madeTable n m }) (record { answer = OutOfRange; table = zeroTable }) .table .rows) ≡ 15
     go true q = let z = sizes-of n 2 m q in made-room n m (omega arith) (z .n-to)
     go false q = refl
+
+-- ---- the other rows
+
+blank : (c i : ℕ) → _≡_ {A = ℕ} (getD (replicate c 0) i 0) 0
+blank zero i = refl
+blank (suc c) zero = refl
+blank (suc c) (suc i) = blank c i
+
+made-blank : (n m i : ℕ) → 1 ≤ n → n ≤ suc i → getD (madeTable n m .rows) i 0 ≡ 0
+unfolding madeTable
+made-blank n m i from h =
+    let rows = madeRows columns n (n - 1) in
+    let size = made-length columns n (n - 1) in
+    let e : i ≡ length rows + (i - (n - 1)) = omega arith in
+    ap (λ (k : ℕ). getD (rows ++ replicate (16 - n) 0) k 0) e ∙ getD-append-add rows (replicate (16 - n) 0) (i - (n - 1)) 0 ∙ blank (16 - n) (i - (n - 1))
+
+making-blank : (n m i : ℕ) → making n m .table .symbols ≤ suc i → getD (making n m .table .rows) i 0 ≡ 0
+unfolding making madeTable
+making-blank n m i = go (sizesFit n 2 m) refl
+  where
+    go : (b : Bool) → sizesFit n 2 m ≡ b
+        → pickMaking b (record { answer = Made; table = madeTable n m }) (record { answer = OutOfRange; table = zeroTable }) .table .symbols ≤ suc i
+        → getD (pickMaking b (record { answer = Made; table = madeTable n m }) (record { answer = OutOfRange; table = zeroTable }) .table .rows) i 0 ≡ 0
+    go true q h = let z = sizes-of n 2 m q in made-blank n m i (omega arith) h
+    go false q h = blank 15 i
+
+pub made-whole : MADE-WHOLE
+made-whole n m a = record { fits = made n m a .3; room = making-room n m; blank = making-blank n m }

@@ -1,7 +1,7 @@
 -- The theorems that a layer above may use of `tables`, stated in `specs/`, each proved in the file that the right side names. Assumes nothing.
-use Rattle.tables.specs.Reading.{ACCEPTED-SUITABLE, SUITABLE-ACCEPTED, REFUSED-NUMBERS, REFUSED-UNSUITABLE, UNSUITABLE-NUMBERS}
+use Rattle.tables.specs.Reading.{ACCEPTED-SUITABLE, SUITABLE-ACCEPTED, REFUSED-RANGE, REFUSED-NUMBERS, REFUSED-UNSUITABLE, UNSUITABLE-NUMBERS}
 use Rattle.tables.specs.Written.{PARSES-EXACTLY}
-use Rattle.tables.specs.Laws.{IMAGE, ALIKE, FIRST, FIRST-NONE, NESTED, NESTED-ROWS, FILLING, FORCED, UNIQUE, MADE, MADE-DEPTH, NOT-MADE}
+use Rattle.tables.specs.Laws.{IMAGE, ALIKE, FIRST, FIRST-NONE, NESTED, NESTED-ROWS, FILLING, FORCED, UNIQUE, MADE, MADE-WHOLE, MADE-DEPTH, NOT-MADE}
 use Rattle.tables.specs.Examples.{EXAMPLES}
 use Rattle.tables.proofs.Clash as Clash
 use Rattle.tables.proofs.Format as Format
@@ -11,6 +11,7 @@ use Rattle.tables.proofs.Triangle as Triangle
 use Rattle.tables.proofs.Filling as Filling
 use Rattle.tables.proofs.Made as Made
 use Rattle.tables.proofs.Examples as Examples
+use Rattle.tables.proofs.Bounds as Bounds
 
 -- ---- images
 
@@ -34,6 +35,9 @@ accepted-suitable = Reading.accepted-suitable
 pub suitable-accepted : SUITABLE-ACCEPTED
 suitable-accepted = Reading.suitable-accepted
 
+pub refused-range : REFUSED-RANGE
+refused-range = Reading.refused-range
+
 pub refused-numbers : REFUSED-NUMBERS
 refused-numbers = Reading.refused-numbers
 
@@ -50,6 +54,9 @@ parses-exactly = Written.parses-exactly
 
 pub made : MADE
 made = Made.made
+
+pub made-whole : MADE-WHOLE
+made-whole = Bounds.made-whole
 
 pub made-depth : MADE-DEPTH
 made-depth = Made.made-depth

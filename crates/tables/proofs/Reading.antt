@@ -1,9 +1,12 @@
 -- What the two parts of a reading, the parse and the judgement, say together. Assumes nothing.
 use mathlib.Core.Path.{_≡_, refl, sym, ap, _∙_}
-use mathlib.Core.Bool.{false≢true}
+use mathlib.Core.Bool.{Bool, true, false, false≢true, cond}
 use mathlib.Core.List.{List, [], _∷_}
-use Prim.Native.Nat.{ℕ}
+use Prim.Native.Nat.{ℕ, zero, suc, _+_, _≤_, _<_}
 use native.Mathlib.Omega.{arith}
+use borrow.Author.Tests.{eqb-false}
+use lib.Dec.{eqb}
+use lib.ListN.{length, drop}
 use Rattle.tables.specs.declared.table.Table.{Table}
 use Rattle.tables.specs.declared.judge.Judgement.{Judgement}
 use Rattle.tables.specs.declared.judge.Judgement.the-variants.{Unfit, Clash, Sound}
@@ -13,8 +16,9 @@ use Rattle.tables.specs.declared.read.Reading.{Reading}
 use Rattle.tables.specs.Code.{Clashes, Suitable, Unsuitable as CodeUnsuitable}
 use Rattle.tables.specs.Table.{rowsOf, zeroTable}
 use Rattle.tables.specs.Judging.{Judged}
-use Rattle.tables.specs.Format.{Parse, refused, parsed, parse}
-use Rattle.tables.specs.Reading.{numbers, reading, outcome, Says, Read, ACCEPTED-SUITABLE, SUITABLE-ACCEPTED, REFUSED-NUMBERS, REFUSED-UNSUITABLE, UNSUITABLE-NUMBERS}
+use Rattle.tables.specs.declared.read.Progress.{Progress}
+use Rattle.tables.specs.Format.{kind, size, ended, unknown, cut, misplaced, sizesOut, misnumbered, tooLong, missing, followed, firstOf, fault, place, after, begun, Parse, refused, parsed, parseFrom, parse}
+use Rattle.tables.specs.Reading.{numbers, reading, outcome, Says, Read, ACCEPTED-SUITABLE, SUITABLE-ACCEPTED, REFUSED-RANGE, REFUSED-NUMBERS, REFUSED-UNSUITABLE, UNSUITABLE-NUMBERS}
 use Rattle.tables.proofs.Progress.{parse-fit, never-refused}
 
 pub outcome-accepted : (o : Parse) (r : Reading) → r ≡ outcome o → r .answer ≡ Accepted → o ≡ parsed (r .table)
@@ -57,6 +61,42 @@ accepted-suitable bytes r s a = let s' = says-accepted bytes (r .answer) (r .tab
 
 pub suitable-accepted : SUITABLE-ACCEPTED
 suitable-accepted bytes t r s e f = says-suitable bytes t (r .answer) (r .table) s e f
+
+-- ---- the numbers of a parse that is refused
+
+first-below : (k : ℕ) (ts : List Bool) → 1 ≤ k → firstOf k ts < k + length ts
+unfolding firstOf
+first-below k [] h = omega arith
+first-below k (true ∷ ts) h = omega arith
+first-below k (false ∷ ts) h = let z = first-below (suc k) ts (omega arith) in omega arith
+
+fault-below : (g : Progress) (s : List ℕ) → fault g s < 10
+unfolding fault
+fault-below g s =
+    first-below 1 (ended s ∷ unknown s ∷ cut s ∷ misplaced g s ∷ sizesOut s ∷ misnumbered g s ∷ tooLong g s ∷ missing g s ∷ followed s ∷ []) (omega arith)
+
+range-pick : (b : Bool) (u : Table) (next : Parse) (k p i q : ℕ) → k < 10 → (next ≡ refused i q → (1 ≤ i) × (i ≤ 9))
+    → cond (eqb k 0) (cond b (parsed u) next) (refused k p) ≡ refused i q → (1 ≤ i) × (i ≤ 9)
+range-pick b u next k p i q below f e = go (eqb k 0) refl b e
+  where
+    go : (a : Bool) → eqb k 0 ≡ a → (c : Bool) → cond a (cond c (parsed u) next) (refused k p) ≡ refused i q → (1 ≤ i) × (i ≤ 9)
+    go true z true h = never-refused (sym h)
+    go true z false h = f h
+    go false z c h =
+        let same : k ≡ i = cc in
+        let some = eqb-false k 0 z in
+        omega arith
+
+range-from : (left p : ℕ) (g : Progress) (s : List ℕ) (i q : ℕ) → parseFrom left p g s ≡ refused i q → (1 ≤ i) × (i ≤ 9)
+unfolding parseFrom
+range-from zero p g s i q e = let same : 1 ≡ i = cc in omega arith
+range-from (suc left) p g s i q e =
+    range-pick (eqb (kind s) 0) (g .table) (parseFrom left (p + size (kind s)) (after g s) (drop (size (kind s)) s)) (fault g s) (place (fault g s) p) i q
+    (fault-below g s) (range-from left (p + size (kind s)) (after g s) (drop (size (kind s)) s) i q) e
+
+pub refused-range : REFUSED-RANGE
+unfolding parse
+refused-range bytes k p e = range-from (length bytes) 0 begun bytes k p e
 
 says-refused : (bytes : List ℕ) (k p : ℕ) (a : ReadAnswer) (u : Table) → Says bytes (numbers a) u → parse bytes ≡ refused k p
     → (numbers a ≡ k ∷ p ∷ []) × (u ≡ zeroTable)

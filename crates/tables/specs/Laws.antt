@@ -6,6 +6,7 @@
 --   FIRST-NONE    no refusal is the first that applies only if none applies
 --   NESTED        the triangle for n is the one for n − 1 with column n added
 --   MADE          a made table has the sizes asked for and N = 2n, is fit and suitable, and has the rows of our triangle
+--   MADE-WHOLE    its other rows are 0
 --   MADE-DEPTH    making with another depth changes only the depth
 --   NOT-MADE      refusal 11
 --   NESTED-ROWS   each row of the larger table is twice that of the smaller one and its bit of the new column
@@ -24,6 +25,7 @@ use Rattle.tables.specs.Code.{weight, image, Suitable}
 use Rattle.tables.specs.declared.make.MakeAnswer.the-variants.{Made}
 use Rattle.tables.specs.Table.{table, zeroTable, rowsOf, sizesFit, fit}
 use Rattle.tables.specs.Format.{firstOf}
+use Rattle.tables.specs.Written.{Whole}
 use Rattle.tables.specs.Made.{columns, madeRow, triangleRows, Triangle, making, madeNumbers}
 
 -- In both, the smaller table has n = suc (length cs) symbols, and the new column a is column n + 1.
@@ -60,6 +62,10 @@ abbrev pub MADE : Type 0
 MADE = (n m : ℕ) → making n m .answer ≡ Made → (making n m .table .symbols ≡ n) × (making n m .table .span ≡ 2 * n) × (making n m .table .depth ≡ m)
     × (fit (making n m .table) ≡ true) × Suitable (making n m .table .span) (rowsOf (making n m .table))
     × (rowsOf (making n m .table) ≡ triangleRows (take (n - 1) columns) n)
+
+-- as a table that was read is
+abbrev pub MADE-WHOLE : Type 0
+MADE-WHOLE = (n m : ℕ) → making n m .answer ≡ Made → Whole (making n m .table)
 
 abbrev pub MADE-DEPTH : Type 0
 MADE-DEPTH = (n m m′ : ℕ) → making n m .answer ≡ Made → making n m′ .answer ≡ Made

@@ -1,0 +1,3 @@
+-- What the proofs of several functions use, and the laws.
+mod Copy
+pub mod Laws

@@ -1,0 +1,36 @@
+-- `export::start::burst_start_coder`: the start of the table of the numbers. Assumes nothing.
+use mathlib.Core.Path.{ap, _∙_}
+use borrow.Author.Needs.{needs}
+use Rattle.tables.specs.declared.table.Table.{Table}
+use Rattle.link.specs.declared.start.StartAnswer.{StartAnswer}
+use Rattle.link.specs.Start.{startAnswer, startMemory}
+use Rattle.link.specs.Coder.{coderWords}
+use Rattle.link.specs.Answers.{startNumbers}
+use Rattle.export.specs.Answers.{numberOf}
+use Rattle.export.proofs.start.burst_start_coder.Statement.{statement}
+use Rattle.export.proofs.start.burst_start_coder.Tie as tie
+
+table-of-requires : tie.Need-table-of-requires
+table-of-requires c κs = search needs
+
+start-coder-requires : tie.Need-start-coder-requires
+start-coder-requires c κs = search needs
+
+number-requires : tie.Need-number-requires
+number-requires c κs = search needs
+
+same-length : tie.Need-same-length
+same-length c = search needs
+
+returns : tie.Need-returns
+returns c =
+    let m = c .before .before .before in
+    let of = m .before .before in
+    let s = of .before .before .args .words .now in (
+      c .number .ensures ∙ ap (λ (x : StartAnswer). numberOf (startNumbers x)) (m .start-coder .ensures .0)
+          ∙ ap (λ (t : Table). numberOf (startNumbers (startAnswer t (coderWords t) s))) (of .table-of .ensures),
+      m .start-coder .ensures .1 .0 ∙ ap (λ (t : Table). startMemory t (coderWords t) s) (of .table-of .ensures),
+    )
+
+pub burst-start-coder-spec : {M : Type 1} → statement M
+burst-start-coder-spec = tie.close (tie.spec table-of-requires start-coder-requires number-requires same-length returns)

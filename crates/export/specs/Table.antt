@@ -1,0 +1,15 @@
+-- A table as 18 numbers: n, N, m, then rows 1 to 15. Row n is 1 always and is not among them.
+--
+--   tableOf ns     the table of these numbers; numbers out of range are 12's matter
+--   numbersOf t    the numbers of a table
+use mathlib.Core.List.{List, _∷_}
+use Prim.Native.Nat.{ℕ}
+use lib.ListN.{getD, drop}
+use Rattle.tables.specs.declared.table.Table.{Table}
+use Rattle.tables.specs.Table.{table}
+
+unfoldable pub tableOf : List ℕ → Table
+tableOf ns = table (getD ns 0 0) (getD ns 1 0) (getD ns 2 0) (drop 3 ns)
+
+unfoldable pub numbersOf : Table → List ℕ
+numbersOf t = t .symbols ∷ t .span ∷ t .depth ∷ t .rows

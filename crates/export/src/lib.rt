@@ -1,0 +1,7 @@
+// What C may call (include/burst.h): numbers in, numbers out, over `tables` and `link`. Nothing is decided here.
+pub mod coder;
+pub mod decoder;
+pub mod make;
+pub mod read;
+pub mod start;
+pub mod table;

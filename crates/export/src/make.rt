@@ -1,0 +1,29 @@
+// Making a table.
+use crate::table::put_table;
+use tables::make::MakeAnswer;
+use tables::make::make;
+ghost use mathlib.Core.Path.{_≡_};
+ghost use Rattle.tables.specs.Made.{making, madeNumbers};
+ghost use Rattle.export.specs.Table.{numbersOf};
+ghost use Rattle.export.specs.Answers.{numberOf};
+
+fn number(answer: MakeAnswer) -> u64
+    ensures { λ r. ⌜ r ≡ numberOf (madeNumbers answer) ⌝ }
+{
+    match answer {
+        MakeAnswer::Made => 0,
+        MakeAnswer::OutOfRange => 11,
+    }
+}
+
+#[no_mangle]
+pub extern "C" fn burst_make(n: u64, m: u64, table: &mut [u64; 18]) -> u64
+    ensures answer { λ r. ⌜ r ≡ numberOf (madeNumbers (making n m .answer)) ⌝ }
+    ensures table { λ r. ⌜ now (table .exit) ≡ numbersOf (making n m .table) ⌝ }
+{
+    let made = make(n as usize, m as usize);
+    let t = made.table;
+    put_table(t, table);
+    let answer = made.answer;
+    number(answer)
+}

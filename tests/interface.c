@@ -1,0 +1,181 @@
+/*
+ * The C interface, called: 01's examples T1 to T6, T8 for n = 5, and T9 to T12, and each refusal's number with what it leaves unwritten.
+ * Prints one line a call. What it prints is held to interface.stdout; that the functions do this on every input is proved.
+ */
+#include <inttypes.h>
+#include <stdio.h>
+#include <string.h>
+
+#include "burst.h"
+
+static uint64_t table[18];
+static uint64_t words[32];
+static uint64_t before[32];
+
+static void numbers(const uint64_t *at, int count)
+{
+    int i;
+    for (i = 0; i < count; i++) {
+        printf(" %" PRIu64, at[i]);
+    }
+    printf("\n");
+}
+
+static void reading(const char *what, const uint8_t *bytes, size_t length)
+{
+    struct burst_reading r;
+    memset(table, 0xff, sizeof table);
+    r = burst_read(bytes, length, table);
+    printf("read %s: %" PRIu64 " place %" PRIu64 " triple %" PRIu64 " %" PRIu64 " %" PRIu64 "; table", what, r.refused, r.place, r.l, r.e0, r.e1);
+    numbers(table, 18);
+}
+
+/* The image of an error block by the n rows of a table, the last of which is 1. */
+static uint64_t image(const uint64_t *rows, int n, uint64_t e)
+{
+    uint64_t sum = 0;
+    int j;
+    for (j = 0; j < n; j++) {
+        sum ^= (e >> j & 1) ? rows[j] : 0;
+    }
+    return sum;
+}
+
+/* T9 has several triples, and the one returned is free: it is tested, not printed. */
+static void unsuitable(void)
+{
+    static const uint64_t rows[] = {976, 904, 772, 514, 1};
+    uint8_t bytes[4 + 4 * 10 + 1] = {1, 5, 10, 1};
+    struct burst_reading r;
+    int j;
+    for (j = 0; j < 4; j++) {
+        bytes[4 + 10 * j] = 2;
+        bytes[5 + 10 * j] = (uint8_t)(j + 1);
+        bytes[6 + 10 * j] = (uint8_t)(rows[j] & 255);
+        bytes[7 + 10 * j] = (uint8_t)(rows[j] >> 8);
+    }
+    r = burst_read(bytes, sizeof bytes, table);
+    printf("read T9, unsuitable: %" PRIu64 " place %" PRIu64 ", %s; table", r.refused, r.place,
+           1 <= r.l && r.l < 10 && 1 <= r.e0 && r.e0 < 32 && r.e1 < 32
+                   && image(rows, 5, r.e0) == (image(rows, 5, r.e1) << r.l & 1023)
+               ? "the triple shows it"
+               : "the triple does not show it");
+    numbers(table, 18);
+}
+
+static void make(uint64_t n, uint64_t m)
+{
+    uint64_t refused;
+    memset(table, 0xff, sizeof table);
+    refused = burst_make(n, m, table);
+    printf("make %" PRIu64 " %" PRIu64 ": %" PRIu64 "; table", n, m, refused);
+    numbers(table, 18);
+}
+
+static void start_coder(size_t count)
+{
+    memset(words, 0xff, sizeof words);
+    printf("start coder, %d words: %" PRIu64 "; words", (int)count, burst_start_coder(table, words, count));
+    numbers(words, (int)count);
+}
+
+static void start_decoder(size_t count)
+{
+    memset(words, 0xff, sizeof words);
+    printf("start decoder, %d words: %" PRIu64 "; words", (int)count, burst_start_decoder(table, words, count));
+    numbers(words, (int)count);
+}
+
+static void code(size_t count, uint16_t info)
+{
+    struct burst_coded c;
+    memcpy(before, words, sizeof words);
+    c = burst_code(table, words, count, info);
+    printf("code %d: %" PRIu64 " block %" PRIu64 "; %s", info, c.refused, c.block, memcmp(before, words, sizeof words) ? "words" : "unchanged");
+    numbers(words, (int)count);
+}
+
+static void decode(size_t count, uint16_t received)
+{
+    struct burst_decoded d;
+    memcpy(before, words, sizeof words);
+    d = burst_decode(table, words, count, received);
+    printf("decode %d: %" PRIu64 " info %" PRIu64 " mark %" PRIu64 " error %" PRIu64 "; %s", received, d.refused, d.info, d.mark, d.error,
+           memcmp(before, words, sizeof words) ? "words" : "unchanged");
+    numbers(words, (int)count);
+}
+
+int main(void)
+{
+    static const uint8_t z[] = {1, 2, 4, 1, 2, 1, 10, 0, 0, 0, 0, 0, 0, 0, 0, 0};
+    static const uint8_t end[] = {0};
+    static const uint8_t kind[] = {3};
+    static const uint8_t large[] = {1, 17, 4, 1};
+    static const uint8_t row_two[] = {1, 2, 4, 1, 2, 2, 10, 0, 0, 0, 0, 0, 0, 0};
+    static const uint8_t high_row[] = {1, 2, 4, 1, 2, 1, 16, 0, 0, 0, 0, 0, 0, 0};
+    static const uint8_t no_row[] = {1, 2, 4, 1, 0};
+    static const uint8_t t6[] = {1, 2, 4, 1, 2, 1, 2, 0, 0, 0, 0, 0, 0, 0, 0};
+    static const uint16_t t10[] = {1, 1, 0, 0, 0};
+    static const uint16_t t11[] = {2, 2, 0, 0};
+    uint64_t kept;
+    int i;
+
+    reading("T2, nothing", z, 0);
+    reading("T4, a kind alone", z, 1);
+    reading("T3, the end alone", end, sizeof end);
+    reading("an unknown kind", kind, sizeof kind);
+    reading("T5, 17 symbols", large, sizeof large);
+    reading("row 2 of two symbols", row_two, sizeof row_two);
+    reading("a row of five bits", high_row, sizeof high_row);
+    reading("no row", no_row, sizeof no_row);
+    reading("a byte after the end", z, sizeof z);
+    reading("T6, unsuitable", t6, sizeof t6);
+    unsuitable();
+
+    make(1, 1);
+    make(2, 65);
+    make(UINT64_MAX, 1);
+    make(3, (uint64_t)1 << 32 | 1);
+    make(5, 2);
+    make(16, 64);
+
+    reading("T1, Z", z, sizeof z - 1);
+    start_coder(2);
+    for (i = 0; i < 5; i++) {
+        code(2, t10[i]);
+    }
+    code(2, 2);
+    code(3, 0);
+    words[0] = 1;
+    code(2, 0);
+    start_coder(1);
+    start_decoder(7);
+    for (i = 0; i < 4; i++) {
+        decode(7, t11[i]);
+    }
+    decode(7, 4);
+    decode(6, 0);
+    start_decoder(7);
+    words[1] = 3;
+    words[2] = 4;
+    for (i = 0; i < 7; i++) {
+        decode(7, 0);
+    }
+    words[4] = 2;
+    decode(7, 0);
+    start_decoder(8);
+
+    kept = table[0];
+    table[0] = UINT64_MAX;
+    start_coder(2);
+    start_decoder(7);
+    code(2, 0);
+    decode(7, 0);
+    table[0] = kept;
+    table[4] = UINT64_MAX; /* row 2, which a table of two symbols has not */
+    start_decoder(7);
+    decode(7, 0);
+    table[3] = 16;
+    decode(7, 0);
+    return 0;
+}
