@@ -1,0 +1,91 @@
+//! The plain implementation of the burst codec and a safe wrapper over the proved one's C interface.
+
+pub mod cases;
+pub mod oracle;
+
+#[cfg(test)]
+mod oracle_tests;
+
+/// A table as it crosses the boundary: n, N, m, then rows 1 to 15.
+pub type Numbers = [u64; 18];
+
+/// The answer of reading a table.
+#[repr(C)]
+#[derive(Clone, Copy, Debug, PartialEq, Eq)]
+pub struct Reading {
+    pub refused: u64,
+    pub place: u64,
+    pub l: u64,
+    pub e0: u64,
+    pub e1: u64,
+}
+
+/// The answer of a coder step.
+#[repr(C)]
+#[derive(Clone, Copy, Debug, PartialEq, Eq)]
+pub struct Coded {
+    pub refused: u64,
+    pub block: u64,
+}
+
+/// The answer of a decoder step; mark 0 is "nothing yet".
+#[repr(C)]
+#[derive(Clone, Copy, Debug, PartialEq, Eq)]
+pub struct Decoded {
+    pub refused: u64,
+    pub info: u64,
+    pub mark: u64,
+    pub error: u64,
+}
+
+/// The proved implementation. Unit tests are built without it, so that they need no archive.
+#[cfg(not(test))]
+pub mod linked {
+    use super::{Coded, Decoded, Numbers, Reading};
+
+    extern "C" {
+        fn burst_read(bytes: *const u8, length: usize, table: *mut u64) -> Reading;
+        fn burst_make(n: u64, m: u64, table: *mut u64) -> u64;
+        fn burst_start_coder(table: *const u64, words: *mut u64, count: usize) -> u64;
+        fn burst_start_decoder(table: *const u64, words: *mut u64, count: usize) -> u64;
+        fn burst_code(table: *const u64, words: *mut u64, count: usize, info: u16) -> Coded;
+        fn burst_decode(table: *const u64, words: *mut u64, count: usize, received: u16) -> Decoded;
+    }
+
+    /// What a returned table holds before the call, so that a number left unwritten shows.
+    const UNWRITTEN: Numbers = [0xA5A5_A5A5_A5A5_A5A5; 18];
+
+    pub fn read(bytes: &[u8]) -> (Reading, Numbers) {
+        let mut table = UNWRITTEN;
+        // SAFETY: the slice's own length goes along, and the table has its 18 numbers.
+        let reading = unsafe { burst_read(bytes.as_ptr(), bytes.len(), table.as_mut_ptr()) };
+        (reading, table)
+    }
+
+    pub fn make(n: u64, m: u64) -> (u64, Numbers) {
+        let mut table = UNWRITTEN;
+        // SAFETY: the table has its 18 numbers.
+        let refused = unsafe { burst_make(n, m, table.as_mut_ptr()) };
+        (refused, table)
+    }
+
+    pub fn start_coder(table: &Numbers, words: &mut [u64]) -> u64 {
+        // SAFETY: the table has its 18 numbers, and the slice's own length goes along.
+        unsafe { burst_start_coder(table.as_ptr(), words.as_mut_ptr(), words.len()) }
+    }
+
+    pub fn start_decoder(table: &Numbers, words: &mut [u64]) -> u64 {
+        // SAFETY: as for the coder.
+        unsafe { burst_start_decoder(table.as_ptr(), words.as_mut_ptr(), words.len()) }
+    }
+
+    pub fn code(table: &Numbers, words: &mut [u64], info: u16) -> Coded {
+        // SAFETY: as for starting.
+        unsafe { burst_code(table.as_ptr(), words.as_mut_ptr(), words.len(), info) }
+    }
+
+    pub fn decode(table: &Numbers, words: &mut [u64], received: u16) -> Decoded {
+        // SAFETY: as for starting.
+        unsafe { burst_decode(table.as_ptr(), words.as_mut_ptr(), words.len(), received) }
+    }
+}

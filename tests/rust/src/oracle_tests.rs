@@ -1,0 +1,246 @@
+//! The plain implementation tested by itself: the scope's examples, its own two ways, and fades.
+
+use crate::cases::*;
+use crate::oracle::*;
+
+fn z() -> Table {
+    Table::new(2, 4, 1, &[10])
+}
+
+fn bytes_of(table: &Table) -> Vec<u8> {
+    table_bytes(&mut Draw::from_seed(1), table)
+}
+
+fn at(number: u64, place: usize) -> Result<Table, ReadRefusal> {
+    Err(ReadRefusal::At { number, place })
+}
+
+/// The refusal 10 of a table, with its triple checked.
+fn assert_unsuitable(table: &Table) {
+    match read_table(&bytes_of(table)) {
+        Err(ReadRefusal::Unsuitable(triple)) => assert!(shows_unsuitable(table, triple)),
+        other => panic!("{other:?}"),
+    }
+}
+
+#[test]
+fn t1_z_is_accepted() {
+    let bytes = [1, 2, 4, 1, 2, 1, 0x0A, 0, 0, 0, 0, 0, 0, 0, 0];
+    assert_eq!(read_table(&bytes), Ok(z()));
+}
+
+#[test]
+fn t2_to_t5_short_inputs() {
+    assert_eq!(read_table(&[]), at(1, 0));
+    assert_eq!(read_table(&[0]), at(4, 0));
+    assert_eq!(read_table(&[1]), at(3, 0));
+    assert_eq!(read_table(&[1, 17, 4, 1]), at(5, 0));
+}
+
+#[test]
+fn t6_row_2_is_unsuitable() {
+    let table = Table::new(2, 4, 1, &[2]);
+    assert_unsuitable(&table);
+    assert!(shows_unsuitable(&table, Triple { l: 1, e0: 1, e1: 2 }));
+    assert!(!shows_unsuitable(&table, Triple { l: 1, e0: 0, e1: 0 }));
+}
+
+#[test]
+fn t7_example_2_of_000_is_accepted() {
+    let table = Table::new(3, 6, 1, &[56, 34]);
+    assert_eq!(read_table(&bytes_of(&table)), Ok(table));
+}
+
+#[test]
+fn t8_made_rows() {
+    assert_eq!(make_table(2, 1), Ok(z()));
+    assert_eq!(make_table(3, 1), Ok(Table::new(3, 6, 1, &[52, 34])));
+    assert_eq!(make_table(4, 1), Ok(Table::new(4, 8, 1, &[232, 196, 130])));
+    assert_eq!(make_table(5, 1), Ok(Table::new(5, 10, 1, &[976, 392, 772, 514])));
+    assert_eq!(triangle()[..4], [0b1, 0b11, 0b111, 0b1101]);
+}
+
+#[test]
+fn t9_all_ones_fail_at_5() {
+    let table = Table::new(5, 10, 1, &[976, 904, 772, 514]);
+    assert_eq!(table, table_of_triangle(&[0b1, 0b11, 0b111, 0b1111], 1));
+    assert_unsuitable(&table);
+    assert!(shows_unsuitable(&table, Triple { l: 3, e0: 3, e1: 26 }));
+}
+
+#[test]
+fn t10_z_codes() {
+    let mut words = vec![7; 2];
+    assert_eq!(start_coder(&z(), &mut words), Ok(()));
+    let sent = [1, 1, 0, 0, 0].map(|info| code(&z(), &mut words, info));
+    assert_eq!(sent, [1, 3, 2, 2, 2].map(Ok));
+}
+
+#[test]
+fn t11_doubtful() {
+    let mut words = vec![7; 7];
+    assert_eq!(start_decoder(&z(), &mut words), Ok(()));
+    let answers = [2, 2, 0, 0].map(|received| decode(&z(), &mut words, received));
+    let doubtful = Some(Delivered { info: 0, mark: Mark::Doubtful });
+    assert_eq!(answers, [Ok(None), Ok(None), Ok(None), Ok(doubtful)]);
+}
+
+#[test]
+fn t12_the_unneeded_parity_mark() {
+    let mut words = vec![0, 3, 4, 0, 0, 0, 0];
+    let answers: Vec<_> = (0..7).map(|_| decode(&z(), &mut words, 0)).collect();
+    for answer in &answers {
+        assert!(matches!(answer, Ok(Some(Delivered { info: 0, .. }))), "{answer:?}");
+    }
+    assert_eq!(answers[5], Ok(Some(Delivered { info: 0, mark: Mark::Corrected(2) })));
+    assert_eq!(answers[6], Ok(Some(Delivered { info: 0, mark: Mark::Clean })));
+}
+
+#[test]
+fn listing_example() {
+    let input = [2, 1, 1, 0, 0, 0, 0, 0, 0, 0, 0, 0];
+    let lines = "block info mark error\n0 0 corrected 1\n1 0 clean 0\n";
+    assert_eq!(listing(&input), lines);
+    assert_eq!(listing(&[input.as_slice(), &[9]].concat()), format!("{lines}odd byte\n"));
+    assert_eq!(listing(&[input.as_slice(), &[4, 0, 9]].concat()), format!("{lines}refused 15\n"));
+}
+
+#[test]
+fn listing_short_and_refused() {
+    let header = "block info mark error\n";
+    assert_eq!(listing(&[]), header);
+    assert_eq!(listing(&[2]), header);
+    assert_eq!(listing(&[2, 1]), header);
+    assert_eq!(listing(&[2, 1, 0]), format!("{header}odd byte\n"));
+    assert_eq!(listing(&[17, 1, 0]), format!("{header}refused 11\n"));
+    assert_eq!(listing(&[2, 0]), format!("{header}refused 11\n"));
+}
+
+#[test]
+fn each_column_is_forced() {
+    assert_eq!(triangle().len(), 15); // the search asserts that one filling serves
+    for n in 2..=16 {
+        let table = make_table(n, 1).expect("in range");
+        assert_eq!(unsuitable(&table), None);
+        assert_eq!(read_table(&bytes_of(&table)), Ok(table));
+    }
+    for (n, m) in [(1, 1), (17, 1), (2, 0), (2, 65), (u64::MAX, 1), (2, 257)] {
+        assert_eq!(make_table(n, m), Err(11));
+    }
+}
+
+#[test]
+fn elimination_decides_suitability_as_trying_does() {
+    let mut draw = Draw::from_seed(2);
+    let mut suitable = 0;
+    for _ in 0..3000 {
+        let (n, span) = (draw.between(2, 4), draw.between(2, 12));
+        let table = match draw.below(3) {
+            0 => fit_table(&mut draw, n, span, 1),
+            1 => spoilt_table(&mut draw, n, span, 1),
+            _ => suitable_table(&mut draw, n, span, 1).unwrap_or(fit_table(&mut draw, n, span, 1)),
+        };
+        let shown = unsuitable(&table);
+        assert_eq!(shown.is_some(), unsuitable_by_trying(&table), "{table:?}");
+        assert!(shown.iter().all(|&triple| shows_unsuitable(&table, triple)));
+        suitable += u64::from(shown.is_none());
+    }
+    assert!((300..2700).contains(&suitable), "{suitable}");
+}
+
+#[test]
+fn drawn_tables_are_as_meant() {
+    let mut draw = Draw::from_seed(3);
+    let mut beyond_n = 0;
+    for _ in 0..2000 {
+        let table = any_suitable_table(&mut draw);
+        assert_eq!(unsuitable(&table), None, "{table:?}");
+        let spoilt = spoilt_table(&mut draw, table.n, table.span, table.depth);
+        let shown = unsuitable(&spoilt).expect("spoilt");
+        beyond_n += u64::from(shown.l >= spoilt.n);
+    }
+    assert!(beyond_n > 200, "{beyond_n}"); // tables that only shifts of n or more show unsuitable
+}
+
+#[test]
+fn least_error_both_ways() {
+    let mut draw = Draw::from_seed(4);
+    let (mut found, mut missed) = (0, 0);
+    for _ in 0..4000 {
+        let (n, span) = (draw.between(2, 10), draw.between(2, 64));
+        let table = fit_table(&mut draw, n, span, 1);
+        let e = draw.bits(n);
+        let register = if draw.once_in(3) { draw.bits(span) } else { image(&table, e) };
+        let least = least_error_by_trying(&table, register);
+        assert_eq!(least, least_error_by_elimination(&table, register), "{table:?} {register}");
+        *if least.is_some() { &mut found } else { &mut missed } += 1;
+    }
+    assert!(found > 1000 && missed > 400, "{found} {missed}");
+}
+
+#[test]
+fn parity_is_the_definition_s() {
+    let mut draw = Draw::from_seed(5);
+    for _ in 0..200 {
+        let table = any_fit_table(&mut draw);
+        let mut words = vec![0; table.coder_words()];
+        let mut streams = vec![Vec::new(); table.depth as usize];
+        for t in 0..300 {
+            let info = draw.bits(table.n - 1);
+            let stream: &mut Vec<u64> = &mut streams[t % table.depth as usize];
+            stream.push(info);
+            let block = info | parity_by_definition(&table, stream) << (table.n - 1);
+            assert_eq!(code(&table, &mut words, info), Ok(block));
+        }
+    }
+}
+
+#[test]
+fn well_and_malformed_memories_are_as_meant() {
+    let mut draw = Draw::from_seed(6);
+    for _ in 0..3000 {
+        let table = any_fit_table(&mut draw);
+        assert_eq!(code_refusal(&table, &well_formed_coder(&mut draw, &table), 0), None);
+        assert_eq!(decode_refusal(&table, &well_formed_decoder(&mut draw, &table), 0), None);
+        let mut words = malformed_decoder(&mut draw, &table);
+        // A malformed stream is met in its turn, and then the turn stays: fewer than m blocks are taken.
+        let taken = (0..table.depth).filter(|_| decode(&table, &mut words, 0).is_ok()).count() as u64;
+        assert!(taken < table.depth);
+        let unfit = unfit_table(&mut draw, &table);
+        assert_eq!(code_refusal(&unfit, &[], 0), Some(12), "{unfit:?}");
+    }
+}
+
+/// Demand 3 on one run; returns the bursts met.
+fn run_of_fades(draw: &mut Draw, table: &Table, places: u64) -> u64 {
+    let mut coder = well_formed_coder(draw, table);
+    let mut decoder = well_formed_decoder(draw, table);
+    let mut fades = Fades::new(draw, table);
+    let mut information = Vec::new();
+    for p in 1..=places {
+        let info = draw.bits(table.n - 1);
+        information.push(info);
+        let sent = code(table, &mut coder, info).expect("well-formed");
+        let answer = decode(table, &mut decoder, sent ^ fades.next_error(draw)).expect("well-formed");
+        if p > 2 * table.delay() {
+            let delivered = answer.expect("the fill is complete");
+            assert_eq!(delivered.info, information[(p - table.delay()) as usize - 1], "{table:?} at {p}");
+            assert_ne!(delivered.mark, Mark::Doubtful, "{table:?} at {p}");
+        }
+    }
+    fades.bursts
+}
+
+#[test]
+fn after_a_fade() {
+    let mut draw = Draw::from_seed(7);
+    let mut bursts = 0;
+    let mut places = 0;
+    while places < 400_000 {
+        let table = any_suitable_table(&mut draw);
+        let length = 2 * table.delay() + 4 * (table.delay() + table.depth) + draw.below(100);
+        bursts += run_of_fades(&mut draw, &table, length);
+        places += length;
+    }
+    assert!(bursts > 500, "{bursts}");
+}

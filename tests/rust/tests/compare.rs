@@ -1,0 +1,953 @@
+//! Compares the proved implementation, call by call and word by word, with the plain one.
+
+use burst_compare::cases::*;
+use burst_compare::oracle::{self, Mark, ReadRefusal, Table, Triple};
+use burst_compare::{linked, Coded, Decoded, Reading};
+use std::ops::Range;
+use std::time::Instant;
+
+const SEED: u64 = 0x9E37_79B9_7F4A_7C15;
+const LEAST_CALLS: u64 = 10_000_000;
+const SHOWN_MISMATCHES: usize = 3;
+
+// ---- The count of what was compared ----
+
+#[derive(Default)]
+struct Tally {
+    calls: u64,
+    refusals: [u64; 16],
+    marks: [u64; 5],
+    mismatches: u64,
+    shown: Vec<String>,
+}
+
+impl Tally {
+    fn check(&mut self, holds: bool, message: impl FnOnce() -> String) {
+        if holds {
+            return;
+        }
+        self.mismatches += 1;
+        if self.shown.len() < SHOWN_MISMATCHES {
+            self.shown.push(message());
+        }
+    }
+
+    /// Counts a compared call by the refusal expected of it, 0 if none.
+    fn count(&mut self, refused: u64) {
+        self.calls += 1;
+        self.refusals[refused as usize] += 1;
+    }
+
+    /// Ends a group: whether it held, with its mismatches handed out.
+    fn close(&mut self) -> (u64, Vec<String>) {
+        (std::mem::take(&mut self.mismatches), std::mem::take(&mut self.shown))
+    }
+}
+
+// ---- A memory lent to both ----
+
+const FENCE: [u64; 2] = [0xFE5C_E000_0000_0001, 0xFE5C_E000_0000_0002];
+
+/// The same words twice; the linked ones stand between fences, so that a write past them shows.
+struct Twin {
+    plain: Vec<u64>,
+    fenced: Vec<u64>,
+    lent: Range<usize>,
+}
+
+impl Twin {
+    fn new(words: Vec<u64>) -> Twin {
+        let mut twin = Twin { plain: words, fenced: Vec::new(), lent: 0..0 };
+        twin.match_plain();
+        twin
+    }
+
+    fn match_plain(&mut self) {
+        self.fenced.clear();
+        self.fenced.extend(FENCE);
+        self.fenced.extend(&self.plain);
+        self.fenced.extend(FENCE);
+        self.lend_all();
+    }
+
+    fn set(&mut self, words: &[u64]) {
+        self.plain.clear();
+        self.plain.extend(words);
+        self.match_plain();
+    }
+
+    fn lend_all(&mut self) {
+        self.lent = 0..self.plain.len();
+    }
+
+    /// Lends less than all from here on.
+    fn lend(&mut self, part: Range<usize>) {
+        self.lent = part;
+    }
+
+    fn plain(&mut self) -> &mut [u64] {
+        &mut self.plain[self.lent.clone()]
+    }
+
+    fn linked(&mut self) -> &mut [u64] {
+        let Range { start, end } = self.lent;
+        &mut self.fenced[start + FENCE.len()..end + FENCE.len()]
+    }
+
+    fn agrees(&self) -> bool {
+        let end = FENCE.len() + self.plain.len();
+        self.fenced[FENCE.len()..end] == self.plain[..]
+            && self.fenced[..FENCE.len()] == FENCE
+            && self.fenced[end..] == FENCE
+    }
+
+    /// Checks every word; after a mismatch both go on from the plain words.
+    fn check(&mut self, tally: &mut Tally, call: impl FnOnce() -> String) {
+        if !self.agrees() {
+            let theirs = self.fenced[FENCE.len()..].iter();
+            let at = self.plain.iter().zip(theirs).position(|(plain, linked)| plain != linked);
+            tally.check(false, || format!("{}: memory differs first at word {at:?}", call()));
+            let lent = self.lent.clone();
+            self.match_plain();
+            self.lend(lent);
+        }
+    }
+}
+
+// ---- Compared calls ----
+
+fn plain_reading(answer: &Result<Table, ReadRefusal>) -> Reading {
+    let none = Reading { refused: 0, place: 0, l: 0, e0: 0, e1: 0 };
+    match *answer {
+        Ok(_) => none,
+        Err(ReadRefusal::At { number, place }) => Reading { refused: number, place: place as u64, ..none },
+        Err(ReadRefusal::Unsuitable(Triple { l, e0, e1 })) => Reading { refused: 10, l, e0, e1, ..none },
+    }
+}
+
+/// The table of bytes that only refusal 10 meets: the records without the judgement.
+fn table_read_from(bytes: &[u8]) -> Table {
+    let mut table = Table::new(u64::from(bytes[1]), u64::from(bytes[2]), u64::from(bytes[3]), &[]);
+    for record in bytes[4..bytes.len() - 1].chunks_exact(10) {
+        let row = record[2..].iter().rev().fold(0, |row, &byte| row << 8 | u64::from(byte));
+        table.rows[usize::from(record[1]) - 1] = row;
+    }
+    table
+}
+
+/// The triple of refusal 10 is free: it need only show the table unsuitable.
+fn readings_agree(bytes: &[u8], expected: Reading, got: Reading) -> bool {
+    if expected.refused != 10 || got.refused != 10 {
+        return expected == got;
+    }
+    let Reading { place, l, e0, e1, .. } = got;
+    place == 0 && oracle::shows_unsuitable(&table_read_from(bytes), Triple { l, e0, e1 })
+}
+
+fn compare_read(tally: &mut Tally, bytes: &[u8]) -> Reading {
+    let answer = oracle::read_table(bytes);
+    let expected = plain_reading(&answer);
+    let numbers = answer.map_or([0; 18], |table| table.numbers());
+    let (got, got_numbers) = linked::read(bytes);
+    tally.count(expected.refused);
+    tally.check(readings_agree(bytes, expected, got) && got_numbers == numbers, || {
+        format!("read {bytes:02X?}: expected {expected:?} {numbers:?}, got {got:?} {got_numbers:?}")
+    });
+    got
+}
+
+fn compare_make(tally: &mut Tally, n: u64, m: u64) {
+    let answer = oracle::make_table(n, m);
+    let refused = answer.as_ref().err().copied().unwrap_or(0);
+    let numbers = answer.map_or([0; 18], |table| table.numbers());
+    let got = linked::make(n, m);
+    tally.count(refused);
+    tally.check(got == (refused, numbers), || {
+        format!("make {n} {m}: expected {refused} {numbers:?}, got {got:?}")
+    });
+}
+
+fn compare_start_coder(tally: &mut Tally, table: &Table, twin: &mut Twin) {
+    let expected = oracle::start_coder(table, twin.plain()).err().unwrap_or(0);
+    let got = linked::start_coder(&table.numbers(), twin.linked());
+    tally.count(expected);
+    let call = || format!("start coder {table:?} with {} words", twin.lent.len());
+    tally.check(got == expected, || format!("{}: expected {expected}, got {got}", call()));
+    let call = call();
+    twin.check(tally, || call);
+}
+
+fn compare_start_decoder(tally: &mut Tally, table: &Table, twin: &mut Twin) {
+    let expected = oracle::start_decoder(table, twin.plain()).err().unwrap_or(0);
+    let got = linked::start_decoder(&table.numbers(), twin.linked());
+    tally.count(expected);
+    let call = || format!("start decoder {table:?} with {} words", twin.lent.len());
+    tally.check(got == expected, || format!("{}: expected {expected}, got {got}", call()));
+    let call = call();
+    twin.check(tally, || call);
+}
+
+fn plain_coded(answer: Result<u64, u64>) -> Coded {
+    match answer {
+        Ok(block) => Coded { refused: 0, block },
+        Err(refused) => Coded { refused, block: 0 },
+    }
+}
+
+fn compare_code(tally: &mut Tally, table: &Table, twin: &mut Twin, info: u16) -> Coded {
+    let expected = plain_coded(oracle::code(table, twin.plain(), u64::from(info)));
+    let got = linked::code(&table.numbers(), twin.linked(), info);
+    tally.count(expected.refused);
+    tally.check(got == expected, || format!("code {info} {table:?}: expected {expected:?}, got {got:?}"));
+    twin.check(tally, || format!("code {info} {table:?}"));
+    got
+}
+
+fn plain_decoded(answer: Result<Option<oracle::Delivered>, u64>) -> Decoded {
+    let nothing = Decoded { refused: 0, info: 0, mark: 0, error: 0 };
+    match answer {
+        Err(refused) => Decoded { refused, ..nothing },
+        Ok(None) => nothing,
+        Ok(Some(delivered)) => {
+            let (mark, error) = match delivered.mark {
+                Mark::Clean => (1, 0),
+                Mark::Held => (2, 0),
+                Mark::Corrected(e) => (3, e),
+                Mark::Doubtful => (4, 0),
+            };
+            Decoded { refused: 0, info: delivered.info, mark, error }
+        }
+    }
+}
+
+fn compare_decode(tally: &mut Tally, table: &Table, twin: &mut Twin, received: u16) -> Decoded {
+    let expected = plain_decoded(oracle::decode(table, twin.plain(), u64::from(received)));
+    let got = linked::decode(&table.numbers(), twin.linked(), received);
+    tally.count(expected.refused);
+    if expected.refused == 0 {
+        tally.marks[expected.mark as usize] += 1;
+    }
+    tally.check(got == expected, || {
+        format!("decode {received} {table:?}: expected {expected:?}, got {got:?}")
+    });
+    twin.check(tally, || format!("decode {received} {table:?}"));
+    got
+}
+
+// ---- Groups: the scope's examples ----
+
+fn z() -> Table {
+    Table::new(2, 4, 1, &[10])
+}
+
+fn expect_reading(tally: &mut Tally, bytes: &[u8], refused: u64, place: u64) {
+    let got = compare_read(tally, bytes);
+    tally.check(got.refused == refused && got.place == place, || {
+        format!("read {bytes:02X?}: {refused} at {place} is due, got {got:?}")
+    });
+}
+
+fn examples_of_tables(tally: &mut Tally, draw: &mut Draw) {
+    expect_reading(tally, &[1, 2, 4, 1, 2, 1, 0x0A, 0, 0, 0, 0, 0, 0, 0, 0], 0, 0);
+    expect_reading(tally, &[], 1, 0);
+    expect_reading(tally, &[0], 4, 0);
+    expect_reading(tally, &[1], 3, 0);
+    expect_reading(tally, &[1, 17, 4, 1], 5, 0);
+    let tables = [
+        (Table::new(2, 4, 1, &[2]), 10),
+        (Table::new(3, 6, 1, &[56, 34]), 0),
+        (Table::new(5, 10, 1, &[976, 904, 772, 514]), 10),
+    ];
+    for (table, refused) in tables {
+        expect_reading(tally, &table_bytes(draw, &table), refused, 0);
+    }
+    for rows in [&[52, 34][..], &[232, 196, 130], &[976, 392, 772, 514]] {
+        let n = rows.len() as u64 + 1;
+        compare_make(tally, n, 1);
+        let made = linked::make(n, 1);
+        tally.check(made == (0, Table::new(n, 2 * n, 1, rows).numbers()), || format!("made {n}: {made:?}"));
+    }
+}
+
+fn examples_of_steps(tally: &mut Tally, _: &mut Draw) {
+    let mut coder = Twin::new(vec![7; 2]);
+    compare_start_coder(tally, &z(), &mut coder);
+    let sent = [1, 1, 0, 0, 0].map(|info| compare_code(tally, &z(), &mut coder, info).block);
+    tally.check(sent == [1, 3, 2, 2, 2], || format!("T10 sent {sent:?}"));
+
+    let mut decoder = Twin::new(vec![7; 7]);
+    compare_start_decoder(tally, &z(), &mut decoder);
+    let marks = [2, 2, 0, 0].map(|received| compare_decode(tally, &z(), &mut decoder, received).mark);
+    tally.check(marks == [0, 0, 0, 4], || format!("T11 marks {marks:?}"));
+
+    decoder.set(&[0, 3, 4, 0, 0, 0, 0]);
+    let answers: Vec<Decoded> = (0..7).map(|_| compare_decode(tally, &z(), &mut decoder, 0)).collect();
+    let parity_alone = Decoded { refused: 0, info: 0, mark: 3, error: 2 };
+    let clean = Decoded { refused: 0, info: 0, mark: 1, error: 0 };
+    tally.check(answers[5..] == [parity_alone, clean], || format!("T12 answers {answers:?}"));
+    tally.check(answers.iter().all(|answer| answer.info == 0 && answer.mark != 0), || {
+        format!("T12 deliveries {answers:?}")
+    });
+}
+
+// ---- Groups: table bytes ----
+
+/// Every refusal of reading at every kind of place, with what must come before what.
+fn bytes_of_every_refusal(tally: &mut Tally, _: &mut Draw) {
+    let sizes = sizes_record(3, 6, 1);
+    let (row_1, row_2) = (row_record(1, 56), row_record(2, 34));
+    let mut expect = |parts: &[&[u8]], refused, place| {
+        expect_reading(tally, &parts.concat(), refused, place);
+    };
+    expect(&[&sizes, &row_2, &row_1, &[0]], 0, 0);
+    for (before, place) in [(vec![], 0), (sizes.clone(), 4), ([&sizes[..], &row_1].concat(), 14)] {
+        expect(&[&before], 1, place);
+        expect(&[&before, &[3]], 2, place);
+        expect(&[&before, &[255, 0, 0]], 2, place);
+        expect(&[&before, &[1, 3, 6]], 3, place);
+        expect(&[&before, &row_2[..9]], 3, place);
+        expect(&[&before, &[2]], 3, place);
+    }
+    expect(&[&row_1], 4, 0);
+    expect(&[&row_1, &sizes], 4, 0);
+    expect(&[&[0], &sizes], 4, 0);
+    expect(&[&sizes, &sizes], 4, 4);
+    expect(&[&sizes, &[1, 0, 0, 0]], 4, 4);
+    expect(&[&sizes, &row_1, &sizes], 4, 14);
+    for out in [[0, 6, 1], [1, 6, 1], [17, 6, 1], [255, 6, 1], [3, 0, 1], [3, 1, 1], [3, 65, 1], [3, 255, 1]]
+    {
+        expect(&[&[1], &out, &row_1], 5, 0);
+    }
+    for out in [[3, 6, 0], [3, 6, 65], [3, 6, 255], [0, 0, 0]] {
+        expect(&[&[1], &out], 5, 0);
+    }
+    for j in [0, 3, 4, 15, 16, 255] {
+        expect(&[&sizes, &row_record(j, 1)], 6, 4);
+        expect(&[&sizes, &row_record(j, u64::MAX)], 6, 4);
+    }
+    expect(&[&sizes, &row_1, &row_1], 6, 14);
+    expect(&[&sizes, &row_1, &row_record(1, 64)], 6, 14);
+    for row in [64, 127, 128, 1 << 63, u64::MAX, 56 + (1 << 32)] {
+        expect(&[&sizes, &row_record(1, row)], 7, 4);
+        expect(&[&sizes, &row_1, &row_record(2, row), &[9]], 7, 14);
+    }
+    expect(&[&sizes, &[0]], 8, 4);
+    expect(&[&sizes, &row_2, &[0, 0]], 8, 14);
+    expect(&[&sizes, &row_2, &row_1, &[0, 0]], 9, 25);
+    expect(&[&sizes, &row_1, &row_2, &[0, 3, 3, 3]], 9, 25);
+    expect(&[&sizes, &row_1, &row_2, &[0; 100_000]], 9, 25);
+    let dependent = row_record(2, 56);
+    expect(&[&sizes, &row_1, &dependent, &[0, 1]], 9, 25);
+    expect(&[&sizes, &row_1, &dependent, &[0]], 10, 0);
+    expect(&[&sizes, &row_1, &row_record(2, 0), &[0]], 10, 0);
+    expect(&[&sizes, &row_1, &row_record(2, 1), &[0]], 10, 0);
+}
+
+fn bytes_cut_at_each_place(tally: &mut Tally, draw: &mut Draw) {
+    for n in 2..=16 {
+        for _ in 0..20 {
+            let span = any_span(draw);
+            let table = fit_table(draw, n, span, 1);
+            let bytes = table_bytes(draw, &table);
+            for length in 0..=bytes.len() {
+                compare_read(tally, &bytes[..length]);
+            }
+        }
+    }
+}
+
+fn bytes_mutated(tally: &mut Tally, draw: &mut Draw) {
+    for _ in 0..120_000 {
+        let table = if draw.once_in(2) { any_suitable_table(draw) } else { any_fit_table(draw) };
+        let mut records = records(draw, &table);
+        for _ in 0..draw.below(3) {
+            mutate_records(draw, &mut records);
+            if records.is_empty() {
+                break;
+            }
+        }
+        let mut bytes = records.concat();
+        for _ in 0..draw.between(1, 2) {
+            mutate_bytes(draw, &mut bytes);
+        }
+        compare_read(tally, &bytes);
+    }
+}
+
+fn bytes_random(tally: &mut Tally, draw: &mut Draw) {
+    for _ in 0..300_000 {
+        let mut bytes = random_bytes(draw);
+        if draw.once_in(2) {
+            bytes.splice(0..0, [1, 2, draw.between(2, 64) as u8, 1]);
+        }
+        compare_read(tally, &bytes);
+    }
+}
+
+// ---- Groups: suitability, making ----
+
+fn tables_of_all_sizes(tally: &mut Tally, draw: &mut Draw) {
+    let mut accepted = 0;
+    for n in 2..=16 {
+        for span in 2..=64 {
+            for round in 0..9 {
+                let depth = any_depth(draw);
+                let table = match round % 3 {
+                    0 => suitable_table(draw, n, span, depth),
+                    1 => Some(spoilt_table(draw, n, span, depth)),
+                    _ => None,
+                };
+                let table = table.unwrap_or_else(|| fit_table(draw, n, span, depth));
+                let bytes = table_bytes(draw, &table);
+                accepted += u64::from(compare_read(tally, &bytes).refused == 0);
+            }
+        }
+    }
+    tally.check(accepted > 1000, || format!("only {accepted} tables accepted"));
+}
+
+/// Every row of n = 2 at small spans, and pairs of rows of n = 3: suitability also by trying all pairs.
+fn small_tables_all(tally: &mut Tally, draw: &mut Draw) {
+    for span in 2..=9 {
+        for row in 0..1 << span {
+            judge_by_trying(tally, draw, &Table::new(2, span, 1, &[row]));
+        }
+    }
+    for (row_1, row_2) in (0..64).flat_map(|row_1| (0..64).map(move |row_2| (row_1, row_2))) {
+        judge_by_trying(tally, draw, &Table::new(3, 6, 1, &[row_1, row_2]));
+    }
+}
+
+fn judge_by_trying(tally: &mut Tally, draw: &mut Draw, table: &Table) {
+    let refused = if oracle::unsuitable_by_trying(table) { 10 } else { 0 };
+    expect_reading(tally, &table_bytes(draw, table), refused, 0);
+}
+
+fn made_tables(tally: &mut Tally, draw: &mut Draw) {
+    for n in 0..=20 {
+        for m in 0..=70 {
+            compare_make(tally, n, m);
+        }
+    }
+    let far = [255, 256, 257, 258, 65_536 + 2, (1 << 32) + 2, 1 << 63, u64::MAX];
+    for far in far {
+        for near in [0, 1, 2, 16, 64] {
+            compare_make(tally, far, near);
+            compare_make(tally, near, far);
+        }
+    }
+    for n in 2..=16 {
+        let made = oracle::table_of_triangle(&oracle::triangle()[..n - 1], 1);
+        expect_reading(tally, &table_bytes(draw, &made), 0, 0);
+    }
+}
+
+/// The plain search asserts that each column has one filling; the made tables were compared with it.
+fn triangle_forced(tally: &mut Tally, _: &mut Draw) {
+    let columns = oracle::triangle();
+    tally.check(columns.len() == 15 && columns[..4] == [0b1, 0b11, 0b111, 0b1101], || {
+        format!("columns {columns:?}")
+    });
+}
+
+// ---- Groups: starting ----
+
+/// Starts with the stated count of words and with others, on fit and unfit tables.
+fn starting(tally: &mut Tally, draw: &mut Draw) {
+    for _ in 0..60_000 {
+        let fit = any_fit_table(draw);
+        let table = if draw.once_in(4) { unfit_table(draw, &fit) } else { fit.clone() };
+        let count = start_count(draw, fit.coder_words());
+        compare_start_coder(tally, &table, &mut Twin::new(random_words(draw, count)));
+        let count = start_count(draw, fit.decoder_words());
+        compare_start_decoder(tally, &table, &mut Twin::new(random_words(draw, count)));
+    }
+}
+
+fn start_count(draw: &mut Draw, stated: usize) -> usize {
+    match draw.below(8) {
+        0 => 0,
+        1 => stated - 1,
+        2 => stated + 1,
+        3 => 2 * stated,
+        _ => stated,
+    }
+}
+
+// ---- Groups: steps from every small memory ----
+
+/// Calls with every tuple of numbers from 0 to its bound, the bound included.
+fn each_tuple(bounds: &[u64], mut call: impl FnMut(&[u64])) {
+    let mut tuple = vec![0; bounds.len()];
+    loop {
+        call(&tuple);
+        let Some(at) = (0..bounds.len()).find(|&at| tuple[at] < bounds[at]) else {
+            return;
+        };
+        tuple[..at].fill(0);
+        tuple[at] += 1;
+    }
+}
+
+/// Bounds are one past what is well-formed, so refusals 12, 14 and 15 come by themselves.
+fn every_small_decoder(tally: &mut Tally, n: u64, span: u64, depth: u64) {
+    let rows = vec![1 << span; n as usize - 1];
+    let mut bounds = vec![depth, depth * (span - 1) + 1];
+    for _ in 0..depth {
+        bounds.extend([1 << (span - 1); 2]);
+        bounds.extend(vec![1 << (n - 1); span as usize - 1]);
+    }
+    bounds.push(1 << n);
+    let mut twin = Twin::new(Vec::new());
+    each_tuple(&rows, |rows| {
+        let table = Table::new(n, span, depth, rows);
+        each_tuple(&bounds, |tuple| {
+            let (received, words) = tuple.split_last().unwrap_or((&0, &[]));
+            twin.set(words);
+            compare_decode(tally, &table, &mut twin, *received as u16);
+        });
+    });
+}
+
+fn every_small_coder(tally: &mut Tally, n: u64, span: u64, depth: u64) {
+    let rows = vec![1 << span; n as usize - 1];
+    let mut bounds = vec![depth];
+    bounds.extend(vec![1 << (span - 1); depth as usize]);
+    bounds.push(1 << (n - 1));
+    let mut twin = Twin::new(Vec::new());
+    each_tuple(&rows, |rows| {
+        let table = Table::new(n, span, depth, rows);
+        each_tuple(&bounds, |tuple| {
+            let (info, words) = tuple.split_last().unwrap_or((&0, &[]));
+            twin.set(words);
+            compare_code(tally, &table, &mut twin, *info as u16);
+        });
+    });
+}
+
+fn every_small_memory(tally: &mut Tally, _: &mut Draw) {
+    for (n, span, depth) in [(2, 2, 1), (2, 3, 1), (2, 2, 2), (3, 2, 1)] {
+        every_small_decoder(tally, n, span, depth);
+    }
+    every_small_decoder(tally, 2, 4, 1);
+    for (n, span, depth) in [(2, 2, 1), (2, 4, 2), (2, 3, 3), (3, 3, 2), (3, 4, 1), (4, 2, 2)] {
+        every_small_coder(tally, n, span, depth);
+    }
+}
+
+// ---- Groups: steps from drawn memories ----
+
+fn any_coder_memory(draw: &mut Draw, table: &Table) -> Vec<u64> {
+    match draw.below(6) {
+        0 => vec![0; table.coder_words()],
+        1 => malformed_coder(draw, table),
+        2 => random_words(draw, table.coder_words()),
+        _ => well_formed_coder(draw, table),
+    }
+}
+
+fn any_decoder_memory(draw: &mut Draw, table: &Table) -> Vec<u64> {
+    match draw.below(8) {
+        0 => vec![0; table.decoder_words()],
+        1 => malformed_decoder(draw, table),
+        2 => random_words(draw, table.decoder_words()),
+        _ => well_formed_decoder(draw, table),
+    }
+}
+
+/// Lends a shorter part for one call, or all; refusal 13 or none.
+fn lend_some(draw: &mut Draw, twin: &mut Twin) {
+    let count = twin.plain.len();
+    let part = match draw.below(4) {
+        0 => 0..count - 1,
+        1 => 1..count,
+        2 => 0..0,
+        _ => 0..draw.below(count as u64) as usize,
+    };
+    twin.lend(part);
+}
+
+/// One coder step, now and then of a kind that is mostly refused.
+fn any_coder_step(tally: &mut Tally, draw: &mut Draw, table: &Table, twin: &mut Twin) -> Coded {
+    let info = any_block(draw, table.n - 1);
+    let disturbance = draw.below(24);
+    match disturbance {
+        0 => {
+            let unfit = unfit_table(draw, table);
+            compare_code(tally, &unfit, twin, info)
+        }
+        1 => {
+            lend_some(draw, twin);
+            let coded = compare_code(tally, table, twin, info);
+            twin.lend_all();
+            coded
+        }
+        _ => compare_code(tally, table, twin, info),
+    }
+}
+
+fn any_decoder_step(tally: &mut Tally, draw: &mut Draw, table: &Table, twin: &mut Twin) -> Decoded {
+    let received = any_block(draw, table.n);
+    let disturbance = draw.below(24);
+    match disturbance {
+        0 => {
+            let unfit = unfit_table(draw, table);
+            compare_decode(tally, &unfit, twin, received)
+        }
+        1 => {
+            lend_some(draw, twin);
+            let decoded = compare_decode(tally, table, twin, received);
+            twin.lend_all();
+            decoded
+        }
+        _ => compare_decode(tally, table, twin, received),
+    }
+}
+
+fn any_table(draw: &mut Draw) -> Table {
+    if draw.once_in(3) {
+        any_suitable_table(draw)
+    } else {
+        any_fit_table(draw)
+    }
+}
+
+fn coder_steps(tally: &mut Tally, draw: &mut Draw) {
+    for _ in 0..20_000 {
+        let table = any_table(draw);
+        let mut twin = Twin::new(any_coder_memory(draw, &table));
+        for _ in 0..100 {
+            any_coder_step(tally, draw, &table, &mut twin);
+        }
+    }
+}
+
+fn decoder_steps(tally: &mut Tally, draw: &mut Draw) {
+    for _ in 0..60_000 {
+        let table = any_table(draw);
+        let mut twin = Twin::new(any_decoder_memory(draw, &table));
+        for _ in 0..40 {
+            any_decoder_step(tally, draw, &table, &mut twin);
+        }
+    }
+}
+
+/// Long runs from a start, so that the fill completes by itself.
+fn decoder_steps_from_the_start(tally: &mut Tally, draw: &mut Draw) {
+    for _ in 0..1_000 {
+        let table = any_table(draw);
+        let count = table.decoder_words();
+        let mut twin = Twin::new(random_words(draw, count));
+        compare_start_decoder(tally, &table, &mut twin);
+        for _ in 0..(2 * table.delay()).min(1500) {
+            any_decoder_step(tally, draw, &table, &mut twin);
+        }
+    }
+}
+
+/// The ends of the sizes, with dependent, equal and zero rows among others.
+fn extremes(tally: &mut Tally, draw: &mut Draw) {
+    for round in 0..1_600 {
+        let n = [2, 16][round % 2];
+        let span = [2, 64][round / 2 % 2];
+        let depth = [1, 64][round / 4 % 2];
+        let mut table = fit_table(draw, n, span, depth);
+        match round / 8 % 5 {
+            0 => table.rows = [0; 15],
+            1 => table.rows = [1; 15],
+            2 => table.rows = [draw.bits(span); 15],
+            3 => table.rows = std::array::from_fn(|j| 1 << (j as u64 % span)),
+            _ => (),
+        }
+        let mut coder = Twin::new(any_coder_memory(draw, &table));
+        let mut decoder = Twin::new(any_decoder_memory(draw, &table));
+        for _ in 0..300 {
+            any_coder_step(tally, draw, &table, &mut coder);
+            any_decoder_step(tally, draw, &table, &mut decoder);
+        }
+    }
+}
+
+/// Every block value that 16 bits hold, on one memory each.
+fn every_block(tally: &mut Tally, draw: &mut Draw) {
+    for n in [2, 3, 8, 15, 16] {
+        let span = any_span(draw);
+        let depth = draw.between(1, 3);
+        let table = fit_table(draw, n, span, depth);
+        let mut coder = Twin::new(well_formed_coder(draw, &table));
+        let mut decoder = Twin::new(well_formed_decoder(draw, &table));
+        for block in 0..=u16::MAX {
+            compare_code(tally, &table, &mut coder, block);
+            compare_decode(tally, &table, &mut decoder, block);
+        }
+    }
+}
+
+/// A table whose decoder memory is as long as this one's, most often of other sizes.
+fn table_of_equal_length(draw: &mut Draw, table: &Table) -> Table {
+    let product = table.depth * (table.span + 1);
+    let depths: Vec<u64> = (1..=64)
+        .filter(|&depth| depth * (product / depth) == product && (3..=65).contains(&(product / depth)))
+        .collect();
+    let depth = draw.pick(&depths);
+    let n = any_n(draw);
+    fit_table(draw, n, product / depth - 1, depth)
+}
+
+fn other_table(draw: &mut Draw, table: &Table) -> Table {
+    let (n, span) = (any_n(draw), any_span(draw));
+    match draw.below(4) {
+        0 => any_fit_table(draw),
+        1 => fit_table(draw, n, span, table.depth),
+        2 => fit_table(draw, n, table.span, table.depth),
+        _ => table_of_equal_length(draw, table),
+    }
+}
+
+/// Other tables on the same memory: refused, or a step by the other table.
+fn tables_handed_over(tally: &mut Tally, draw: &mut Draw) {
+    for _ in 0..12_000 {
+        let mut table = any_table(draw);
+        let mut coder = Twin::new(any_coder_memory(draw, &table));
+        let mut decoder = Twin::new(any_decoder_memory(draw, &table));
+        for _ in 0..30 {
+            any_coder_step(tally, draw, &table, &mut coder);
+            any_decoder_step(tally, draw, &table, &mut decoder);
+            if draw.once_in(3) {
+                let other = other_table(draw, &table);
+                any_coder_step(tally, draw, &other, &mut coder);
+                any_decoder_step(tally, draw, &other, &mut decoder);
+                let stays = other.decoder_words() == table.decoder_words() && draw.once_in(4);
+                table = if stays { other } else { table };
+            }
+        }
+    }
+}
+
+// ---- Groups: against the definitions themselves ----
+
+fn parity_by_definition(tally: &mut Tally, draw: &mut Draw) {
+    for _ in 0..300 {
+        let table = any_fit_table(draw);
+        let mut twin = Twin::new(vec![0; table.coder_words()]);
+        let mut streams = vec![Vec::new(); table.depth as usize];
+        for t in 0..400 {
+            let info = draw.bits(table.n - 1);
+            let stream: &mut Vec<u64> = &mut streams[t % table.depth as usize];
+            stream.push(info);
+            let block = info | oracle::parity_by_definition(&table, stream) << (table.n - 1);
+            let coded = compare_code(tally, &table, &mut twin, info as u16);
+            tally.check(coded.block == block, || format!("parity of block {t} of {table:?}"));
+        }
+    }
+}
+
+/// A decoder memory of depth 1 whose next register this is, if the parity alone is received as returned.
+fn memory_before(table: &Table, register: u64) -> (Vec<u64>, u16) {
+    let mut words = vec![0; table.decoder_words()];
+    words[1] = table.delay();
+    words[3] = register & (u64::MAX >> (65 - table.span));
+    (words, ((register >> (table.span - 1)) << (table.n - 1)) as u16)
+}
+
+/// The least error against trying all e, on tables with dependent rows among them.
+fn least_error_by_trying(tally: &mut Tally, draw: &mut Draw) {
+    for round in 0..16_000 {
+        let n = if round % 64 == 0 { draw.between(11, 16) } else { draw.between(2, 8) };
+        let span = any_span(draw);
+        let table = fit_table(draw, n, span, 1);
+        let e = draw.bits(n);
+        let register = if draw.once_in(4) { draw.bits(span) } else { oracle::image(&table, e) };
+        let least = oracle::least_error_by_trying(&table, register);
+        let both = least == oracle::least_error_by_elimination(&table, register);
+        tally.check(both, || format!("two ways differ: {table:?} {register}"));
+        let (words, received) = memory_before(&table, register);
+        let decoded = compare_decode(tally, &table, &mut Twin::new(words), received);
+        let found = matches!(decoded.mark, 1 | 3).then_some(decoded.error);
+        tally.check(found == least, || format!("least error {least:?}, got {decoded:?}"));
+    }
+}
+
+// ---- Groups: demand 3 ----
+
+/// A step on the coder's own memory that is refused, if the drawn one is.
+fn refused_coder_step(tally: &mut Tally, draw: &mut Draw, table: &Table, twin: &mut Twin) {
+    let kind = draw.below(4);
+    let handed = match kind {
+        0 => unfit_table(draw, table),
+        1 => other_table(draw, table),
+        _ => table.clone(),
+    };
+    let info = too_large_block(draw, handed.n.clamp(2, 16) - 1).unwrap_or(0);
+    if kind == 2 {
+        lend_some(draw, twin);
+    }
+    if oracle::code_refusal(&handed, twin.plain(), u64::from(info)).is_some() {
+        compare_code(tally, &handed, twin, info);
+    }
+    twin.lend_all();
+}
+
+fn refused_decoder_step(tally: &mut Tally, draw: &mut Draw, table: &Table, twin: &mut Twin) {
+    let kind = draw.below(4);
+    let handed = match kind {
+        0 => unfit_table(draw, table),
+        1 => other_table(draw, table),
+        _ => table.clone(),
+    };
+    let received = too_large_block(draw, handed.n.clamp(2, 16)).unwrap_or(0);
+    if kind == 2 {
+        lend_some(draw, twin);
+    }
+    if oracle::decode_refusal(&handed, twin.plain(), u64::from(received)).is_some() {
+        compare_decode(tally, &handed, twin, received);
+    }
+    twin.lend_all();
+}
+
+/// A table that reading or making returned, as the linked functions return it.
+fn accepted_table(tally: &mut Tally, draw: &mut Draw) -> Table {
+    let table = any_suitable_table(draw);
+    if draw.once_in(3) {
+        compare_make(tally, table.n, table.depth);
+        return oracle::make_table(table.n, table.depth).unwrap_or(table);
+    }
+    let bytes = table_bytes(draw, &table);
+    expect_reading(tally, &bytes, 0, 0);
+    table
+}
+
+/// One run: the coder and the decoder from memories of their own, refused steps in between.
+fn run_of_fades(tally: &mut Tally, draw: &mut Draw, table: &Table, places: u64) -> u64 {
+    let mut coder = Twin::new(well_formed_coder(draw, table));
+    let mut decoder = Twin::new(well_formed_decoder(draw, table));
+    if draw.once_in(4) {
+        compare_start_coder(tally, table, &mut coder);
+    }
+    if draw.once_in(4) {
+        compare_start_decoder(tally, table, &mut decoder);
+    }
+    let delay = table.delay();
+    let mut fades = Fades::new(draw, table);
+    let mut information = Vec::new();
+    for p in 1..=places {
+        if draw.once_in(16) {
+            refused_coder_step(tally, draw, table, &mut coder);
+        }
+        if draw.once_in(16) {
+            refused_decoder_step(tally, draw, table, &mut decoder);
+        }
+        let info = draw.bits(table.n - 1);
+        information.push(info);
+        let sent = compare_code(tally, table, &mut coder, info as u16);
+        let taken = sent.block ^ fades.next_error(draw);
+        let answer = compare_decode(tally, table, &mut decoder, taken as u16);
+        tally
+            .check(sent.refused == 0 && answer.refused == 0, || format!("refused at place {p} of {table:?}"));
+        if p > 2 * delay {
+            let due = information[(p - delay) as usize - 1];
+            let claim = answer.info == due && matches!(answer.mark, 1..=3);
+            tally
+                .check(claim, || format!("demand 3 at place {p} of {table:?}: {due} is due, got {answer:?}"));
+        }
+    }
+    fades.bursts
+}
+
+fn after_a_fade(tally: &mut Tally, draw: &mut Draw) {
+    let (mut places, mut bursts) = (0, 0);
+    while places < 3_000_000 {
+        let table = accepted_table(tally, draw);
+        let length = 2 * table.delay() + draw.between(3, 6) * (table.delay() + table.depth);
+        let length = length.max(1500);
+        bursts += run_of_fades(tally, draw, &table, length);
+        places += length;
+    }
+    tally.check(bursts > 10_000, || format!("only {bursts} bursts in {places} places"));
+}
+
+/// From a malformed memory fewer than m blocks are taken, so demand 3 claims nothing of it.
+fn malformed_memory_takes_few(tally: &mut Tally, draw: &mut Draw) {
+    for _ in 0..2_000 {
+        let table = any_suitable_table(draw);
+        let mut twin = Twin::new(malformed_decoder(draw, &table));
+        let taken = (0..2 * table.depth)
+            .filter(|_| compare_decode(tally, &table, &mut twin, 0).refused == 0)
+            .count() as u64;
+        tally.check(taken < table.depth, || format!("{taken} blocks taken by {table:?}"));
+    }
+}
+
+// ---- Everything reached ----
+
+fn everything_reached(tally: &mut Tally, _: &mut Draw) {
+    for number in 1..=15 {
+        let reached = tally.refusals[number] > 0;
+        tally.check(reached, || format!("refusal {number} was not reached"));
+    }
+    for mark in 0..=4 {
+        let reached = tally.marks[mark] > 0;
+        tally.check(reached, || format!("mark {mark} was not reached"));
+    }
+    let calls = tally.calls;
+    tally.check(calls >= LEAST_CALLS, || format!("only {calls} calls compared"));
+}
+
+type Group = (&'static str, fn(&mut Tally, &mut Draw));
+
+const GROUPS: [Group; 23] = [
+    ("examples of tables", examples_of_tables),
+    ("examples of steps", examples_of_steps),
+    ("bytes of every refusal and place", bytes_of_every_refusal),
+    ("bytes cut at each place", bytes_cut_at_each_place),
+    ("bytes of mutated tables", bytes_mutated),
+    ("random bytes", bytes_random),
+    ("tables of all n and N", tables_of_all_sizes),
+    ("all small tables, by trying", small_tables_all),
+    ("made tables", made_tables),
+    ("starting", starting),
+    ("every small memory", every_small_memory),
+    ("coder steps", coder_steps),
+    ("decoder steps", decoder_steps),
+    ("decoder steps from the start", decoder_steps_from_the_start),
+    ("ends of the sizes", extremes),
+    ("every block", every_block),
+    ("tables handed over in between", tables_handed_over),
+    ("parity by its definition", parity_by_definition),
+    ("least error by trying", least_error_by_trying),
+    ("after a fade", after_a_fade),
+    ("malformed memories take few", malformed_memory_takes_few),
+    ("triangle forced", triangle_forced),
+    ("everything reached", everything_reached),
+];
+
+fn run_group(tally: &mut Tally, index: usize, (name, group): Group) -> bool {
+    let (calls, began) = (tally.calls, Instant::now());
+    // Each group has a seed of its own, so that one can change without the others.
+    let mut draw = Draw::from_seed(SEED.wrapping_mul(index as u64 + 1));
+    group(tally, &mut draw);
+    let (mismatches, shown) = tally.close();
+    let verdict = if mismatches == 0 { "ok" } else { "FAILED" };
+    println!("{verdict:6} {name}: {} calls, {:.1} s", tally.calls - calls, began.elapsed().as_secs_f64());
+    if mismatches > 0 {
+        println!("  {mismatches} mismatches, first of them:");
+    }
+    for message in shown {
+        println!("  {message}");
+    }
+    mismatches == 0
+}
+
+fn main() {
+    let mut tally = Tally::default();
+    let mut passed = 0;
+    for (index, &group) in GROUPS.iter().enumerate() {
+        passed += usize::from(run_group(&mut tally, index, group));
+    }
+    let failed = GROUPS.len() - passed;
+    println!("{} calls compared", tally.calls);
+    println!("refusals 1 to 15: {:?}", &tally.refusals[1..]);
+    println!("marks 0 to 4: {:?}", tally.marks);
+    println!("{passed} passed, {failed} failed");
+    std::process::exit(i32::from(failed > 0));
+}
