@@ -1,9 +1,13 @@
 # make test        the gate: everything proved from nothing, every must-fail edit refused, every other test
+# make bench       what calls take, against an implementation written for speed; not a part of the gate
 # make staticlib   the archive for C and C++, target/staticlib/libexport.a; include/burst.h declares what it has
-.PHONY: test staticlib
+.PHONY: test bench staticlib
 
 test:
 	@tests/tally tests/layout 'rt ci' tests/statements $(wildcard tests/*_test)
 
 staticlib:
 	@rt staticlib export
+
+bench: staticlib
+	@CARGO_TARGET_DIR=target/bench cargo run --release --offline --quiet --manifest-path bench/Cargo.toml

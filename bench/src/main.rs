@@ -1,0 +1,179 @@
+//! Prints what a call takes in nanoseconds, the proved codec and the one written for speed in the same run, and their ratio: medians of
+//! several rounds, answers and memories compared throughout.
+
+mod fast;
+
+use std::time::Instant;
+
+#[repr(C)]
+struct Reading {
+    refused: u64,
+    place: u64,
+    l: u64,
+    e0: u64,
+    e1: u64,
+}
+
+#[repr(C)]
+struct Coded {
+    refused: u64,
+    block: u64,
+}
+
+#[repr(C)]
+struct Decoded {
+    refused: u64,
+    info: u64,
+    mark: u64,
+    error: u64,
+}
+
+extern "C" {
+    fn burst_read(bytes: *const u8, length: usize, table: *mut u64) -> Reading;
+    fn burst_code(table: *const u64, words: *mut u64, count: usize, info: u16) -> Coded;
+    fn burst_decode(table: *const u64, words: *mut u64, count: usize, received: u16) -> Decoded;
+}
+
+const COLUMNS: [u64; 15] = [1, 3, 7, 13, 17, 35, 71, 237, 433, 851, 1687, 2365, 5873, 9155, 26183];
+const STEPS: usize = 200_000;
+const ROUNDS: usize = 9;
+
+fn made(n: usize, depth: usize) -> fast::Table {
+    let mut rows = [0; 15];
+    for j in 1..n {
+        let upper = |k: usize| (COLUMNS[k - 2] >> (j - 1) & 1) << (n + k - 1);
+        rows[j - 1] = (2..=n).fold(1 << (n - j), |row, k| row | upper(k));
+    }
+    fast::Table { n, span: 2 * n, depth, rows }
+}
+
+fn numbers(t: &fast::Table) -> [u64; 18] {
+    let mut numbers = [0; 18];
+    numbers[..3].copy_from_slice(&[t.n as u64, t.span as u64, t.depth as u64]);
+    numbers[3..].copy_from_slice(&t.rows);
+    numbers
+}
+
+fn bytes(t: &fast::Table) -> Vec<u8> {
+    let mut bytes = vec![1, t.n as u8, t.span as u8, t.depth as u8];
+    for (j, row) in t.rows[..t.n - 1].iter().enumerate() {
+        bytes.extend([2, j as u8 + 1]);
+        bytes.extend(row.to_le_bytes());
+    }
+    bytes.push(0);
+    bytes
+}
+
+struct Random(u64);
+
+impl Random {
+    fn below(&mut self, bits: usize) -> u16 {
+        self.0 ^= self.0 << 13;
+        self.0 ^= self.0 >> 7;
+        self.0 ^= self.0 << 17;
+        (self.0 >> 20 & ((1 << bits) - 1)) as u16
+    }
+}
+
+fn code(table: &[u64; 18], words: &mut [u64], info: u16) -> u64 {
+    let a = unsafe { burst_code(table.as_ptr(), words.as_mut_ptr(), words.len(), info) };
+    if a.refused == 0 {
+        a.block
+    } else {
+        a.refused << 33
+    }
+}
+
+fn decode(table: &[u64; 18], words: &mut [u64], received: u16) -> u64 {
+    let a = unsafe { burst_decode(table.as_ptr(), words.as_mut_ptr(), words.len(), received) };
+    match (a.refused, a.mark) {
+        (0, 0) => fast::NOTHING_YET,
+        (0, mark) => a.info | mark << 16 | a.error << 32,
+        (refused, _) => 1 << 63 | refused << 48,
+    }
+}
+
+/// Nanoseconds a call over the blocks, and a sum of the answers with the memory after them.
+fn timed(blocks: &[u16], count: usize, mut step: impl FnMut(&mut [u64], u16) -> u64) -> (f64, u64, Vec<u64>) {
+    let mut words = vec![0; count];
+    let mut sum = 0u64;
+    let begun = Instant::now();
+    for &block in blocks {
+        sum = sum.wrapping_mul(31).wrapping_add(step(&mut words, block));
+    }
+    (begun.elapsed().as_nanos() as f64 / blocks.len() as f64, sum, words)
+}
+
+fn median(mut times: Vec<f64>) -> f64 {
+    times.sort_by(f64::total_cmp);
+    times[times.len() / 2]
+}
+
+fn report(
+    what: &str,
+    t: &fast::Table,
+    mut ours: impl FnMut() -> (f64, u64, Vec<u64>),
+    mut theirs: impl FnMut() -> (f64, u64, Vec<u64>),
+) {
+    let (mut a, mut b) = (vec![], vec![]);
+    for _ in 0..ROUNDS {
+        let (x, y) = (ours(), theirs());
+        assert_eq!((x.1, &x.2), (y.1, &y.2), "{what}: the two differ");
+        a.push(x.0);
+        b.push(y.0);
+    }
+    let (a, b) = (median(a), median(b));
+    println!("{:<22} {:>3} {:>3} {:>10.1} {:>10.1} {:>7.2}", what, t.n, t.depth, a, b, a / b);
+}
+
+/// Blocks of a started coder, and the same with a burst of m wrong blocks after each m × (N − 1) right ones.
+fn blocks(t: &fast::Table, random: &mut Random) -> (Vec<u16>, Vec<u16>, Vec<u16>) {
+    let infos: Vec<u16> = (0..STEPS).map(|_| random.below(t.n - 1)).collect();
+    let mut words = vec![0; 1 + t.depth];
+    let sent: Vec<u16> = infos.iter().map(|&info| fast::code(t, &mut words, info) as u16).collect();
+    let period = t.depth * t.span;
+    let bursts = sent.iter().enumerate();
+    let bursts = bursts.map(|(p, &c)| if p % period < t.depth { c ^ random.below(t.n) } else { c }).collect();
+    (infos, sent, bursts)
+}
+
+fn main() {
+    println!(
+        "{:<22} {:>3} {:>3} {:>10} {:>10} {:>7}",
+        "ns a call, median", "n", "m", "proved", "for speed", "ratio"
+    );
+    let mut random = Random(88_172_645_463_325_252);
+    for n in [2, 5, 8, 16] {
+        for depth in [1, 16] {
+            let t = made(n, depth);
+            let table = numbers(&t);
+            let (infos, sent, bursts) = blocks(&t, &mut random);
+            let coder = 1 + depth;
+            let decoder = 2 + depth * (2 * n + 1);
+            report(
+                "coder step",
+                &t,
+                || timed(&infos, coder, |w, b| code(&table, w, b)),
+                || timed(&infos, coder, |w, b| fast::code(&t, w, b)),
+            );
+            for (what, taken) in [("decoder step, right", &sent), ("decoder step, bursts", &bursts)] {
+                report(
+                    what,
+                    &t,
+                    || timed(taken, decoder, |w, b| decode(&table, w, b)),
+                    || timed(taken, decoder, |w, b| fast::decode(&t, w, b)),
+                );
+            }
+        }
+        let t = made(n, 1);
+        let file = bytes(&t);
+        let once = [0; 400];
+        let read = |_: &mut [u64], _| {
+            let mut table = [0; 18];
+            let a = unsafe { burst_read(file.as_ptr(), file.len(), table.as_mut_ptr()) };
+            a.refused + a.place + a.l + a.e0 + a.e1 + table.iter().sum::<u64>()
+        };
+        let fast_read = |_: &mut [u64], _| fast::read(&file).map_or(0, |t| numbers(&t).iter().sum());
+        report("reading a table", &t, || timed(&once, 0, read), || timed(&once, 0, fast_read));
+    }
+}
