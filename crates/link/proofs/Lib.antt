@@ -22,6 +22,7 @@ mod Streams
 mod Turn
 mod Delay
 mod OneTable
+mod Rows
 mod Formed
 mod Massey
 mod Bursts
