@@ -18,9 +18,11 @@ use Rattle.tables.specs.Reading.{numbers, Says}
 use Rattle.tables.specs.Written.{Whole}
 use Rattle.tables.specs.Made.{madeTable, pickMaking, making, madeNumbers}
 use Rattle.tables.proofs.Laws.{refused-range, parses-exactly, made-whole}
+use Rattle.link.specs.Answers.{Answered}
+use Rattle.link.proofs.Answers.{start-numbers, code-numbers, decode-numbers}
 use Rattle.export.specs.Table.{tableOf, numbersOf}
-use Rattle.export.specs.Answers.{numberOf, readingOf, Reads}
-use Rattle.export.specs.Laws.{TABLE-BACK, READ-TOLD, MADE-TOLD}
+use Rattle.export.specs.Answers.{numberOf, readingOf, codedOf, decodedOf, Reads}
+use Rattle.export.specs.Laws.{TABLE-BACK, READ-TOLD, MADE-TOLD, Told, START-TOLD, CODE-TOLD, DECODE-TOLD}
 
 pub table-back : TABLE-BACK
 unfolding tableOf numbersOf
@@ -57,3 +59,20 @@ made-told n m = go (sizesFit n 2 m) refl
         let whole = made-whole n m (ap (λ (b : Bool). given n m b .answer) q) in
         (λ z. rw q at whole, λ some. absurd (some refl))
     go false q = (λ z. absurd (omega arith), λ some. zeros)
+
+-- a struct that has of a number alone what it has of the number and zeros
+told : {X : Type 0} (f : List ℕ → X) → ((k : ℕ) → f (k ∷ []) ≡ f (k ∷ 0 ∷ 0 ∷ 0 ∷ [])) → (fault : ℕ) (values next before ns after : List ℕ)
+    → Answered fault values next before ns after → Told f fault values next before ns after
+told f short fault values next before ns after a = (
+  λ some. (ap f (a .refused some .0) ∙ short fault, a .refused some .1),
+  λ none. (ap f (a .taken none .0), a .taken none .1),
+)
+
+pub start-told : START-TOLD
+start-told t words s = told numberOf (λ k. refl) _ _ _ _ _ _ (start-numbers t words s)
+
+pub code-told : CODE-TOLD
+code-told t s b = told codedOf (λ k. refl) _ _ _ _ _ _ (code-numbers t s b)
+
+pub decode-told : DECODE-TOLD
+decode-told t s r = told decodedOf (λ k. refl) _ _ _ _ _ _ (decode-numbers t s r)

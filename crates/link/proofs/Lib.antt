@@ -1,4 +1,4 @@
--- Why the definitions of the link have the properties that 01 asks for; the lowest file first.
+-- Why the definitions of the link have the properties that 01 asks for; the lowest file first. A layer above sees `Answers`.
 mod Words
 mod Parts
 mod Error
@@ -17,11 +17,12 @@ mod Calls
 mod Memory
 mod Room
 mod Lent
-mod Answers
+pub mod Answers
 mod Streams
 mod Turn
 mod Delay
 mod OneTable
+mod Rows
 mod Formed
 mod Massey
 mod Bursts

@@ -9,6 +9,7 @@ pub mod Answers
 pub mod Streams
 pub mod Runs
 pub mod Recovery
+pub mod Rows
 pub mod Formed
 pub mod Premises
 pub mod Guard
