@@ -1,0 +1,2 @@
+// The lines of the listing program, as bytes.
+pub mod text;
