@@ -2,5 +2,8 @@
 mod Digits
 mod Written
 mod Longest
+mod Answer
 mod Chunks
+mod Loop
+mod Room
 mod Example

@@ -83,7 +83,8 @@ fn error_of(mark: Mark) -> u16
 
 fn fields(out: &mut [u8], at: usize, number: u64, d: Delivered) -> usize
     requires { ⌜ at + longest ≤ length (now out) ⌝ }
-    ensures { λ r. ⌜ Wrote (now (out .entry)) at (lineOf number d) (now (out .exit)) r ⌝ }
+    ensures text { λ r. ⌜ Wrote (now (out .entry)) at (lineOf number d) (now (out .exit)) r ⌝ }
+    ensures short { λ r. ⌜ r ≤ at + longest ⌝ }
 {
     let after_number = field(out, at, number, 32);
     let after_info = field(out, after_number, d.info as u64, 32);
@@ -115,6 +116,7 @@ pub fn decimal(out: &mut [u8], at: usize, x: u64) -> usize
 pub fn line(out: &mut [u8], at: usize, number: u64, d: Delivered) -> usize
     ensures position { λ r. ⌜ r ≡ putEnd (now (out .entry)) at (lineOf number d) ⌝ }
     ensures bytes { λ r. ⌜ now (out .exit) ≡ put (now (out .entry)) at (lineOf number d) ⌝ }
+    ensures short { λ r. ⌜ r ≤ at + longest ⌝ }
 {
     if has_room(out, at) {
         return fields(out, at, number, d);

@@ -99,10 +99,17 @@ returns c =
     let k₁ = f .kept .0 in
     let p₂ = g .ensures .position in
     let k₂ = g .kept .0 in
-    rw (← line-fields (a .number) (a .d))
-    (wrote-then number (info ++ (mark ++ error)) (f .ensures)
-    (wrote-then info (mark ++ error) (g .ensures) (wrote-then mark error (w .ensures) last (omega arith)) (omega arith))
-    (omega arith))
+    let p₃ = w .ensures .position in
+    let k₃ = w .kept .0 in
+    let p₄ = z .ensures .position in
+    let n₃ = field-length (c .before .before .before .error-of .result) newline in
+    let m₄ = digits-16 (c .before .before .before .error-of .result) (omega arith) in (
+      rw (← line-fields (a .number) (a .d))
+          (wrote-then number (info ++ (mark ++ error)) (f .ensures)
+          (wrote-then info (mark ++ error) (g .ensures) (wrote-then mark error (w .ensures) last (omega arith)) (omega arith))
+          (omega arith)),
+      omega arith,
+    )
 
 pub fields-spec : {M : Type 1} → statement M
 fields-spec =

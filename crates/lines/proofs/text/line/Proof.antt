@@ -25,7 +25,7 @@ returns : tie.Need-returns
 returns c =
     let a = c .before .before .before .before .before .before .before .before .args in
     let h : room (a .out .now) (a .at) ≡ true = cc in
-    put-there (lineOf (a .number) (a .d)) h (c .before .before .fields .ensures)
+    let p = put-there (lineOf (a .number) (a .d)) h (c .before .before .fields .ensures .0) in (p .0, (p .1, c .before .before .fields .ensures .1))
 
 same-length-2 : tie.Need-same-length-2
 same-length-2 c = search needs
@@ -34,7 +34,7 @@ returns-2 : tie.Need-returns-2
 returns-2 c =
     let a = c .before .before .before .before .args in
     let h : room (a .out .now) (a .at) ≡ false = cc in
-    put-nothing (a .out .now) (a .at) (lineOf (a .number) (a .d)) h
+    let p = put-nothing (a .out .now) (a .at) (lineOf (a .number) (a .d)) h in (p .0, (p .1, omega arith))
 
 pub line-spec : {M : Type 1} → statement M
 line-spec =
