@@ -1,0 +1,9 @@
+-- The example, the digits of a number, listing in parts, and writing. Lowest first.
+mod Digits
+mod Written
+mod Longest
+mod Answer
+mod Chunks
+mod Loop
+mod Room
+mod Example

@@ -1,0 +1,3 @@
+// The lines of the listing program, as bytes.
+pub mod chunk;
+pub mod text;
