@@ -21,7 +21,7 @@ use Rattle.tables.proofs.Laws.{refused-range, parses-exactly, made-whole}
 use Rattle.link.specs.Answers.{Answered}
 use Rattle.link.proofs.Answers.{start-numbers, code-numbers, decode-numbers}
 use Rattle.export.specs.Table.{tableOf, numbersOf}
-use Rattle.export.specs.Answers.{numberOf, readingOf, codedOf, decodedOf, Reads}
+use Rattle.export.specs.Answers.{numberOf, readingOf, codedOf, decodedOf}
 use Rattle.export.specs.Laws.{TABLE-BACK, READ-TOLD, MADE-TOLD, Told, START-TOLD, CODE-TOLD, DECODE-TOLD}
 
 pub table-back : TABLE-BACK

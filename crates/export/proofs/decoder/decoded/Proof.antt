@@ -1,5 +1,4 @@
 -- `export::decoder::decoded`: each case has its numbers. Assumes nothing.
-use mathlib.Core.Path.{_∙_}
 use borrow.Author.Needs.{needs}
 use Rattle.export.proofs.decoder.decoded.Statement.{statement}
 use Rattle.export.proofs.decoder.decoded.Tie as tie

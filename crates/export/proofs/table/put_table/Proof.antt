@@ -1,10 +1,9 @@
 -- `export::table::put_table`: after i turns the sizes and the first i rows stand. Assumes nothing.
-use mathlib.Core.Path.{_≡_, refl, sym, ap, _∙_}
-use mathlib.Core.List.{List, [], _∷_, _++_}
-use Prim.Native.Nat.{ℕ, suc, _+_, _-_, _≤_, _<_}
+use mathlib.Core.Path.{_≡_, refl, sym, _∙_}
+use Prim.Native.Nat.{ℕ, _+_, _-_, _≤_}
 use native.Mathlib.Omega.{arith}
 use borrow.Author.Needs.{needs}
-use lib.ListN.{length, getD, set, take, drop, length-set}
+use lib.ListN.{length, getD, take, length-set}
 use lib.Seq.{getD-drop}
 use Rattle.tables.specs.declared.table.Table.{Table}
 use Rattle.export.specs.Table.{numbersOf}

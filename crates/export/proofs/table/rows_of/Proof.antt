@@ -1,10 +1,9 @@
 -- `export::table::rows_of`: after i turns the first i rows stand. Assumes nothing.
 use mathlib.Core.Path.{_≡_, refl, sym, ap, _∙_}
-use mathlib.Core.List.{List, [], _∷_, _++_}
-use Prim.Native.Nat.{ℕ, suc, _+_, _-_, _≤_, _<_}
+use Prim.Native.Nat.{ℕ, _+_, _-_, _≤_}
 use native.Mathlib.Omega.{arith}
 use borrow.Author.Needs.{needs}
-use lib.ListN.{length, getD, set, take, drop, length-set, length-drop}
+use lib.ListN.{length, getD, take, drop, length-set, length-drop}
 use lib.Seq.{getD-drop}
 use Rattle.export.proofs.Copy.{one-more, all-of}
 use Rattle.export.proofs.table.rows_of.Statement.{statement}
