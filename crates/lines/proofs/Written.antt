@@ -2,14 +2,14 @@
 use mathlib.Core.Path.{_≡_, refl, sym, ap, _∙_}
 use mathlib.Core.Bool.{Bool, true, false}
 use mathlib.Core.List.{List, [], _∷_, _++_, append-assoc}
-use Prim.Native.Nat.{ℕ, suc, _+_, _-_, _≤_, _<_}
+use Prim.Native.Nat.{ℕ, _+_, _-_, _≤_, _<_}
 use native.Mathlib.Omega.{arith}
 use native.Mathlib.Numerals.{add-one}
 use native.Mathlib.Nat.{add-zero, add-assoc}
 use lib.Dec.{leb}
 use borrow.Author.Tests.{le-leb, lt-leb, leb-true, leb-false}
 use lib.ListN.{length, take, drop, set, length-append, take-append-drop}
-use lib.Seq.{set-split, length-take-le, take-at, drop-at, drop-drop, drop-append-add}
+use lib.Seq.{set-split, length-take-le, take-at, drop-at, drop-drop}
 use Rattle.link.specs.declared.decoder.Mark.{Mark}
 use Rattle.link.specs.declared.decoder.Mark.the-variants.{Clean, Held, Corrected, Doubtful}
 use Rattle.link.specs.declared.decoder.Delivered.{Delivered}
