@@ -12,38 +12,37 @@ use Rattle.link.specs.Stream.{joining}
 use Rattle.link.specs.Coder.{infoRows, turnOf, coderJoining, codedBlock, coderNext}
 use Rattle.link.proofs.Words.{bit-shifted}
 use Rattle.link.proofs.Parts.{mid-word, put-word}
-use Rattle.link.proofs.Memory.{coder-taken, coded-fits}
+use Rattle.link.proofs.Memory.{CoderTaken, coder-taken, coded-fits}
 use Rattle.link.proofs.coder.taken.Statement.{statement}
 use Rattle.link.proofs.coder.taken.Tie as tie
 
+-- what the tests of the step said
+tests : (c : tie.Start) → CoderTaken (c .args .t1) (c .args .state .now) (c .args .info)
+tests c = coder-taken (c .args .t1) (c .args .state .now) (c .args .info) (c .pre)
+
 slice-read-turn : tie.Need-slice-read-turn
 slice-read-turn c =
-    let a = c .before .before .args in
-    let k = coder-taken (a .t1) (a .state .now) (a .info) (c .before .before .pre) in
+    let k = tests (c .before .before) in
     omega arith
 
 add-at : tie.Need-add-at
 add-at c =
-    let a = c .before .before .args in
-    let k = coder-taken (a .t1) (a .state .now) (a .info) (c .before .before .pre) in
+    let k = tests (c .before .before) in
     record { fits = omega arith }
 
 add-end : tie.Need-add-end
 add-end c =
-    let a = c .before .before .args in
-    let k = coder-taken (a .t1) (a .state .now) (a .info) (c .before .before .pre) in
+    let k = tests (c .before .before) in
     record { fits = omega arith }
 
 sub-width : tie.Need-sub-width
 sub-width c =
-    let a = c .before .before .args in
-    let k = coder-taken (a .t1) (a .state .now) (a .info) (c .before .before .pre) in
+    let k = tests (c .before .before) in
     omega arith
 
 mul-join : tie.Need-mul-join
 mul-join c =
-    let a = c .before .before .args in
-    let k = coder-taken (a .t1) (a .state .now) (a .info) (c .before .before .pre) in
+    let k = tests (c .before .before) in
     record { fits = omega arith }
 
 sub-join : tie.Need-sub-join
@@ -54,8 +53,7 @@ part-join-start c = search needs
 
 part-join-end : tie.Need-part-join-end
 part-join-end c =
-    let a = c .before .before .args in
-    let k = coder-taken (a .t1) (a .state .now) (a .info) (c .before .before .pre) in
+    let k = tests (c .before .before) in
     omega arith
 
 join-requires : tie.Need-join-requires
@@ -81,7 +79,7 @@ shifted-is : (c : tie.After-next-turn)
     ≡ digit (odd (coderJoining (a .t1) (a .state .now) (a .info))) * 2 ^ (a .t1 .symbols - 1)
 shifted-is c =
     let a = c .before .before .before .before .before .before .before .before .before .before .args in
-    let k = coder-taken (a .t1) (a .state .now) (a .info) (c .before .before .before .before .before .before .before .before .before .before .pre) in
+    let k = tests (c .before .before .before .before .before .before .before .before .before .before) in
     ap (λ (x : ℕ). x * 2 ^ (a .t1 .symbols - 1) % 2 ^ 64) (parity-is c)
     ∙ bit-shifted (odd (coderJoining (a .t1) (a .state .now) (a .info))) (a .t1 .symbols - 1) (omega arith)
 
@@ -93,7 +91,7 @@ memory-is : (c : tie.After-next-turn)
 unfolding coderJoining
 memory-is c =
     let a = c .before .before .before .before .before .before .before .before .before .before .args in
-    let k = coder-taken (a .t1) (a .state .now) (a .info) (c .before .before .before .before .before .before .before .before .before .before .pre) in
+    let k = tests (c .before .before .before .before .before .before .before .before .before .before) in
     let at = 1 + turnOf (a .state .now) in
     put-word (a .state .now) (c .before .before .before .join .last .0) at (coderJoining (a .t1) (a .state .now) (a .info) / 2) (omega arith)
     (c .before .before .before .join .ensures .1
@@ -103,14 +101,14 @@ memory-is c =
 slice-write-state : tie.Need-slice-write-state
 slice-write-state c =
     let a = c .before .before .before .before .before .before .before .before .before .before .args in
-    let k = coder-taken (a .t1) (a .state .now) (a .info) (c .before .before .before .before .before .before .before .before .before .before .pre) in
+    let k = tests (c .before .before .before .before .before .before .before .before .before .before) in
     let l = memory-is c in
     omega (arith, ap length l, length-set (a .state .now) (1 + turnOf (a .state .now)) (coderJoining (a .t1) (a .state .now) (a .info) / 2))
 
 shl-result : tie.Need-shl-result
 shl-result c =
     let a = c .before .before .before .before .before .before .before .before .before .before .args in
-    let k = coder-taken (a .t1) (a .state .now) (a .info) (c .before .before .before .before .before .before .before .before .before .before .pre) in
+    let k = tests (c .before .before .before .before .before .before .before .before .before .before) in
     omega arith
 
 add-result : tie.Need-add-result
@@ -128,7 +126,7 @@ returns : tie.Need-returns
 unfolding codedBlock coderNext
 returns c =
     let a = c .before .before .before .before .before .before .before .before .before .before .args in
-    let k = coder-taken (a .t1) (a .state .now) (a .info) (c .before .before .before .before .before .before .before .before .before .before .pre) in (
+    let k = tests (c .before .before .before .before .before .before .before .before .before .before) in (
       ap (λ (x : ℕ). a .info + x) (shifted-is c),
       ap₂ (λ (x : List ℕ) (y : ℕ). set x 0 y) (memory-is c) (c .next-turn .ensures .0 (k .turn)),
     )

@@ -1,15 +1,15 @@
 -- `link::decoder::fault`: the tests of 12 to 15 in their order. Assumes nothing.
 use mathlib.Core.Path.{_≡_, sym, _∙_}
-use mathlib.Core.Bool.{true, false}
+use mathlib.Core.Bool.{true, false, Bool, cond}
 use Prim.Native.Nat.{_-_, _^_}
 use native.Mathlib.Omega.{arith}
 use borrow.Author.Needs.{needs}
 use borrow.Author.Tests.{eq-eqb, ne-eqb, lt-ltb, le-ltb, not-true, not-false}
-use lib.Dec.{leb}
+use lib.Dec.{leb, ltb}
 use lib.ListN.{length}
 use Rattle.tables.specs.Table.{fit}
 use Rattle.tables.proofs.Bounds.{fit-facts}
-use Rattle.link.specs.Decoder.{decoderWords, decoderMalformed}
+use Rattle.link.specs.Decoder.{decoderWords, decoderMalformed, decoderFault}
 use Rattle.link.proofs.Words.{above-mask}
 use Rattle.link.proofs.Faults.{decoder-fault}
 use Rattle.link.proofs.Room.{fit-room}
@@ -69,27 +69,25 @@ returns-3 c =
 mask-requires : tie.Need-mask-requires
 mask-requires c κs = search needs
 
-returns-4 : tie.Need-returns-4
-returns-4 c =
-    let a = c .before .before .before .before .before .before .before .before .before .before .args in
-    let f : fit (a .t) ≡ true = sym (c .before .before .before .before .before .before .before .before .is-fit .ensures) ∙ not-false _ (c .before .before .before .before .before .before .before .if1 .left) in
-    let size = eq-eqb (length (a .state .now)) (decoderWords (a .t)) (c .before .before .before .before .if2 .left) in
-    let in14 : decoderMalformed (a .t) (a .state .now) ≡ false = sym (c .before .before .before .malformed .ensures) ∙ c .before .before .if3 .left in
+-- once 12 to 14 are settled, 15 is left
+settled : (c : tie.After-mask) (b : Bool)
+    → let a = c .before .before .before .before .before .before .before .before .before .args in
+    ltb (c .mask .result) (a .block) ≡ b → cond b 15 0 ≡ decoderFault (a .t) (a .state .now) (a .block)
+settled c b out =
+    let a = c .before .before .before .before .before .before .before .before .before .args in
+    let f : fit (a .t) ≡ true = sym (c .before .before .before .before .before .before .before .is-fit .ensures) ∙ not-false _ (c .before .before .before .before .before .before .if1 .left) in
+    let size = eq-eqb (length (a .state .now)) (decoderWords (a .t)) (c .before .before .before .if2 .left) in
+    let in14 : decoderMalformed (a .t) (a .state .now) ≡ false = sym (c .before .before .malformed .ensures) ∙ c .before .if3 .left in
     let z = fit-facts (a .t) f in
-    let in15 : leb (2 ^ a .t .symbols) (a .block) ≡ true =
-    sym (above-mask (a .t .symbols) (c .before .mask .result) (a .block) (omega arith) (c .before .mask .ensures)) ∙ lt-ltb _ _ (c .if4 .taken) in
+    let in15 : leb (2 ^ (a .t .symbols)) (a .block) ≡ b =
+    sym (above-mask (a .t .symbols) (c .mask .result) (a .block) (omega arith) (c .mask .ensures)) ∙ out in
     sym (decoder-fault (a .t) (a .state .now) (a .block) ∙ simp (f, size, in14, in15))
 
+returns-4 : tie.Need-returns-4
+returns-4 c = settled (c .before) true (lt-ltb _ _ (c .if4 .taken))
+
 returns-5 : tie.Need-returns-5
-returns-5 c =
-    let a = c .before .before .before .before .before .before .before .before .before .before .args in
-    let f : fit (a .t) ≡ true = sym (c .before .before .before .before .before .before .before .before .is-fit .ensures) ∙ not-false _ (c .before .before .before .before .before .before .before .if1 .left) in
-    let size = eq-eqb (length (a .state .now)) (decoderWords (a .t)) (c .before .before .before .before .if2 .left) in
-    let in14 : decoderMalformed (a .t) (a .state .now) ≡ false = sym (c .before .before .before .malformed .ensures) ∙ c .before .before .if3 .left in
-    let z = fit-facts (a .t) f in
-    let in15 : leb (2 ^ a .t .symbols) (a .block) ≡ false =
-    sym (above-mask (a .t .symbols) (c .before .mask .result) (a .block) (omega arith) (c .before .mask .ensures)) ∙ le-ltb _ _ (c .if4 .left) in
-    sym (decoder-fault (a .t) (a .state .now) (a .block) ∙ simp (f, size, in14, in15))
+returns-5 c = settled (c .before) false (le-ltb _ _ (c .if4 .left))
 
 pub fault-spec : {M : Type 1} → statement M
 fault-spec =
