@@ -9,6 +9,7 @@ ghost use mathlib.Core.List.{[], _∷_};
 ghost use Prim.Native.Nat.{_+_, _-_, _/_, _≤_};
 ghost use lib.ListN.{length, getD, set, take};
 ghost use Rattle.span.specs.Word.{odd, digit};
+ghost use Rattle.tables.specs.Table.{fit};
 ghost use Rattle.link.specs.Stream.{joining};
 ghost use Rattle.link.specs.Coder.{coderMalformed, coderFault, codedBlock, coderNext, codeAnswer, codeMemory};
 ghost use Rattle.link.specs.Answers.{codeNumbers, Answered};
@@ -33,10 +34,11 @@ fn malformed(t: Table, state: &[u64]) -> bool
 }
 
 // The first of refusals 12 to 15 that applies, or 0.
-fn fault(t: Table, state: &[u64], block: u64) -> u64
+fn fault(t: Table, fits: bool, state: &[u64], block: u64) -> u64
+    requires { ⌜ fits ≡ fit t ⌝ }
     ensures { λ r. ⌜ r ≡ coderFault t (now (state .entry)) block ⌝ }
 {
-    if !is_fit(t) {
+    if !fits {
         return 12;
     }
     if state.len() != 1 + t.depth {
@@ -63,9 +65,9 @@ fn join(part: &mut [u64], rows: &[u64], count: usize, info: u64) -> u64
     w % 2
 }
 
-// A step that no refusal applies to: the turn's stream is lent on, and the turn advances.
-fn taken(t: Table, state: &mut [u64], info: u64) -> u64
-    requires { ⌜ coderFault t (now state) info ≡ 0 ⌝ }
+// A step that no refusal applies to: the turn's stream is lent on, and the turn advances. The table's rows are lent, so as not to be copied.
+fn taken(t: Table, rows: &[u64; 15], state: &mut [u64], info: u64) -> u64
+    requires { ⌜ (coderFault t (now state) info ≡ 0) × (now rows ≡ t .rows) ⌝ }
     ensures block { λ r. ⌜ r ≡ codedBlock t (now (state .entry)) info ⌝ }
     ensures memory { λ r. ⌜ now (state .exit) ≡ coderNext t (now (state .entry)) info ⌝ }
 {
@@ -73,7 +75,7 @@ fn taken(t: Table, state: &mut [u64], info: u64) -> u64
     let at = 1 + (turn as usize);
     let end = at + 1;
     let width = t.symbols - 1;
-    let parity = join(&mut state[at..end], &t.rows, width, info);
+    let parity = join(&mut state[at..end], rows, width, info);
     state[0] = next_turn(t.depth as u64, turn);
     info + (parity << (width as u64))
 }
@@ -84,9 +86,10 @@ pub fn code(t: Table, state: &mut [u64], info: u16) -> CodeAnswer
     ensures numbers { λ r. ⌜ Answered (coderFault t (now (state .entry)) info) (codedBlock t (now (state .entry)) info ∷ []) (coderNext t (now (state .entry)) info) (now (state .entry)) (codeNumbers r) (now (state .exit)) ⌝ }
 {
     let block = info as u64;
-    let number = fault(t, state, block);
+    let fits = is_fit(t.symbols, t.span, t.depth, &t.rows);
+    let number = fault(t, fits, state, block);
     if number != 0 {
         return CodeAnswer::Refused(number);
     }
-    CodeAnswer::Coded(taken(t, state, block) as u16)
+    CodeAnswer::Coded(taken(t, &t.rows, state, block) as u16)
 }

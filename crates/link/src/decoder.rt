@@ -87,10 +87,11 @@ fn malformed(t: Table, state: &[u64]) -> bool
 }
 
 // The first of refusals 12 to 15 that applies, or 0.
-fn fault(t: Table, state: &[u64], block: u64) -> u64
+fn fault(t: Table, fits: bool, state: &[u64], block: u64) -> u64
+    requires { ⌜ fits ≡ fit t ⌝ }
     ensures { λ r. ⌜ r ≡ decoderFault t (now (state .entry)) block ⌝ }
 {
-    if !is_fit(t) {
+    if !fits {
         return 12;
     }
     if state.len() != 2 + t.depth * (t.span + 1) {
@@ -233,9 +234,9 @@ fn next_fill(delay: u64, fill: u64) -> u64
     if fill < delay { fill + 1 } else { fill }
 }
 
-// One block of the turn's stream: its part is lent on.
-fn decode_stream(t: Table, state: &mut [u64], received: u64) -> Delivered
-    requires { ⌜ decoderFault t (now state) received ≡ 0 ⌝ }
+// One block of the turn's stream: its part is lent on, and so are the table's rows, so as not to be copied.
+fn decode_stream(t: Table, rows: &[u64; 15], state: &mut [u64], received: u64) -> Delivered
+    requires { ⌜ (decoderFault t (now state) received ≡ 0) × (now rows ≡ t .rows) ⌝ }
     ensures record { λ r. ⌜ r ≡ delivered t (now (state .entry)) received ⌝ }
     ensures memory { λ r. ⌜ now (state .exit) ≡ streamReplaced t (now (state .entry)) received ⌝ }
 {
@@ -243,7 +244,7 @@ fn decode_stream(t: Table, state: &mut [u64], received: u64) -> Delivered
     let span = t.span;
     let at = 2 + turn * (span + 1);
     let end = at + (span + 1);
-    step(&mut state[at..end], &t.rows, t.symbols, span, received)
+    step(&mut state[at..end], rows, t.symbols, span, received)
 }
 
 // Fill and turn advance.
@@ -257,14 +258,14 @@ fn advance(state: &mut [u64], depth: u64, delay: u64)
 }
 
 // A step that no refusal applies to.
-fn taken(t: Table, state: &mut [u64], received: u64) -> DecodeAnswer
-    requires { ⌜ decoderFault t (now state) received ≡ 0 ⌝ }
+fn taken(t: Table, rows: &[u64; 15], state: &mut [u64], received: u64) -> DecodeAnswer
+    requires { ⌜ (decoderFault t (now state) received ≡ 0) × (now rows ≡ t .rows) ⌝ }
     ensures answer { λ r. ⌜ r ≡ delivery t (now (state .entry)) received ⌝ }
     ensures memory { λ r. ⌜ now (state .exit) ≡ decoderNext t (now (state .entry)) received ⌝ }
 {
     let delay = (t.depth * (t.span - 1)) as u64;
     let fill = state[1];
-    let d = decode_stream(t, state, received);
+    let d = decode_stream(t, rows, state, received);
     advance(state, t.depth as u64, delay);
     if fill < delay {
         DecodeAnswer::NothingYet
@@ -279,9 +280,10 @@ pub fn decode(t: Table, state: &mut [u64], received: u16) -> DecodeAnswer
     ensures numbers { λ r. ⌜ Answered (decoderFault t (now (state .entry)) received) (decodeValues t (now (state .entry)) received) (decoderNext t (now (state .entry)) received) (now (state .entry)) (decodeNumbers r) (now (state .exit)) ⌝ }
 {
     let block = received as u64;
-    let number = fault(t, state, block);
+    let fits = is_fit(t.symbols, t.span, t.depth, &t.rows);
+    let number = fault(t, fits, state, block);
     if number != 0 {
         return DecodeAnswer::Refused(number);
     }
-    taken(t, state, block)
+    taken(t, &t.rows, state, block)
 }

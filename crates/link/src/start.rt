@@ -45,7 +45,7 @@ pub fn start_coder(t: Table, state: &mut [u64]) -> StartAnswer
     ensures memory { λ r. ⌜ now (state .exit) ≡ startMemory t (coderWords t) (now (state .entry)) ⌝ }
     ensures numbers { λ r. ⌜ Answered (startFault t (coderWords t) (now (state .entry))) [] (started (coderWords t)) (now (state .entry)) (startNumbers r) (now (state .exit)) ⌝ }
 {
-    if is_fit(t) {
+    if is_fit(t.symbols, t.span, t.depth, &t.rows) {
         start(state, 1 + t.depth)
     } else {
         StartAnswer::Refused(12)
@@ -57,7 +57,7 @@ pub fn start_decoder(t: Table, state: &mut [u64]) -> StartAnswer
     ensures memory { λ r. ⌜ now (state .exit) ≡ startMemory t (decoderWords t) (now (state .entry)) ⌝ }
     ensures numbers { λ r. ⌜ Answered (startFault t (decoderWords t) (now (state .entry))) [] (started (decoderWords t)) (now (state .entry)) (startNumbers r) (now (state .exit)) ⌝ }
 {
-    if is_fit(t) {
+    if is_fit(t.symbols, t.span, t.depth, &t.rows) {
         start(state, 2 + t.depth * (t.span + 1))
     } else {
         StartAnswer::Refused(12)

@@ -68,7 +68,7 @@ fn search(rows: [u64; 15], n: usize, span: usize) -> Judgement
 pub fn judge(t: Table) -> Judgement
     ensures { λ r. ⌜ Judged t r ⌝ }
 {
-    if is_fit(t) {
+    if is_fit(t.symbols, t.span, t.depth, &t.rows) {
         let rows = t.rows;
         search(rows, t.symbols, t.span)
     } else {

@@ -3,7 +3,7 @@ use span::bits::mask;
 ghost use mathlib.Core.Path.{_≡_};
 ghost use Prim.Native.Nat.{_≤_};
 ghost use lib.ListN.{take};
-ghost use Rattle.tables.specs.Table.{zeroTable, sizesFit, rowsFit, fit};
+ghost use Rattle.tables.specs.Table.{table, zeroTable, sizesFit, rowsFit, fit};
 
 pub struct Table {
     pub symbols: usize,
@@ -31,9 +31,9 @@ pub fn sizes_fit(symbols: usize, span: usize, depth: usize) -> bool
     (2 <= symbols) & (symbols <= 16) & (2 <= span) & (span <= 64) & (1 <= depth) & (depth <= 64)
 }
 
-fn rows_fit(rows: [u64; 15], count: usize, span: usize) -> bool
+fn rows_fit(rows: &[u64; 15], count: usize, span: usize) -> bool
     requires { ⌜ (count ≤ 15) × (span ≤ 64) ⌝ }
-    ensures { λ r. ⌜ r ≡ rowsFit span (take count rows) ⌝ }
+    ensures { λ r. ⌜ r ≡ rowsFit span (take count (now (rows .entry))) ⌝ }
 {
     let most = mask(span);
     let mut fit = true;
@@ -45,13 +45,12 @@ fn rows_fit(rows: [u64; 15], count: usize, span: usize) -> bool
     fit
 }
 
-// Whether the table is fit: the condition of refusal 12 does not hold.
-pub fn is_fit(t: Table) -> bool
-    ensures { λ r. ⌜ r ≡ fit t ⌝ }
+// Whether the table of these sizes and rows is fit: the condition of refusal 12 does not hold. The rows are lent: every step asks this.
+pub fn is_fit(symbols: usize, span: usize, depth: usize, rows: &[u64; 15]) -> bool
+    ensures { λ r. ⌜ r ≡ fit (table symbols span depth (now (rows .entry))) ⌝ }
 {
-    if sizes_fit(t.symbols, t.span, t.depth) {
-        let rows = t.rows;
-        return rows_fit(rows, t.symbols - 1, t.span);
+    if sizes_fit(symbols, span, depth) {
+        return rows_fit(rows, symbols - 1, span);
     }
     false
 }

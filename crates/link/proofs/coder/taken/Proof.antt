@@ -6,10 +6,10 @@ use native.Mathlib.Nat.{add-zero}
 use native.Mathlib.Omega.{arith}
 use borrow.Author.Needs.{needs}
 use borrow.Rule.Slice.PartMut.{midOf, putMid}
-use lib.ListN.{length, getD, set, length-set}
+use lib.ListN.{length, getD, set, take, length-set}
 use Rattle.span.specs.Word.{odd, digit}
 use Rattle.link.specs.Stream.{joining}
-use Rattle.link.specs.Coder.{infoRows, turnOf, coderJoining, codedBlock, coderNext}
+use Rattle.link.specs.Coder.{turnOf, coderJoining, codedBlock, coderNext}
 use Rattle.link.proofs.Words.{bit-shifted}
 use Rattle.link.proofs.Parts.{mid-word, put-word}
 use Rattle.link.proofs.Memory.{CoderTaken, coder-taken, coded-fits}
@@ -17,8 +17,8 @@ use Rattle.link.proofs.coder.taken.Statement.{statement}
 use Rattle.link.proofs.coder.taken.Tie as tie
 
 -- what the tests of the step said
-tests : (c : tie.Start) → CoderTaken (c .args .t1) (c .args .state .now) (c .args .info)
-tests c = coder-taken (c .args .t1) (c .args .state .now) (c .args .info) (c .pre)
+tests : (c : tie.Start) → CoderTaken (c .args .t) (c .args .state .now) (c .args .info)
+tests c = coder-taken (c .args .t) (c .args .state .now) (c .args .info) (c .pre .0)
 
 slice-read-turn : tie.Need-slice-read-turn
 slice-read-turn c =
@@ -37,12 +37,12 @@ add-end c =
 
 sub-width : tie.Need-sub-width
 sub-width c =
-    let k = tests (c .before .before) in
+    let k = tests (c .before .before .before) in
     omega arith
 
 mul-join : tie.Need-mul-join
 mul-join c =
-    let k = tests (c .before .before) in
+    let k = tests (c .before .before .before) in
     record { fits = omega arith }
 
 sub-join : tie.Need-sub-join
@@ -53,7 +53,7 @@ part-join-start c = search needs
 
 part-join-end : tie.Need-part-join-end
 part-join-end c =
-    let k = tests (c .before .before) in
+    let k = tests (c .before .before .before) in
     omega arith
 
 join-requires : tie.Need-join-requires
@@ -64,58 +64,59 @@ next-turn-requires c κs = search needs
 
 -- the parity, and the memory as the part comes back
 parity-is : (c : tie.After-next-turn)
-    → let a = c .before .before .before .before .before .before .before .before .before .before .args in
-    c .before .before .before .join .result ≡ digit (odd (coderJoining (a .t1) (a .state .now) (a .info)))
+    → let a = c .before .before .before .before .before .before .before .before .before .args in
+    c .before .before .before .join .result ≡ digit (odd (coderJoining (a .t) (a .state .now) (a .info)))
 unfolding coderJoining
 parity-is c =
-    let a = c .before .before .before .before .before .before .before .before .before .before .args in
+    let a = c .before .before .before .before .before .before .before .before .before .args in
     let at = 1 + turnOf (a .state .now) in
     c .before .before .before .join .ensures .0
-    ∙ ap (λ (p : ℕ). digit (odd (joining (infoRows (a .t1)) p (a .info)))) (mid-word (a .state .now) at (at + 1) 0 (omega arith) ∙ ap (λ (i : ℕ). getD (a .state .now) i 0) (add-zero at))
+    ∙ ap₂ (λ (rs : List ℕ) (p : ℕ). digit (odd (joining (take (a .t .symbols - 1) rs) p (a .info)))) (c .before .before .before .before .before .before .before .before .before .pre .1)
+    (mid-word (a .state .now) at (at + 1) 0 (omega arith) ∙ ap (λ (i : ℕ). getD (a .state .now) i 0) (add-zero at))
 
 shifted-is : (c : tie.After-next-turn)
-    → let a = c .before .before .before .before .before .before .before .before .before .before .args in
-    c .before .before .before .join .result * 2 ^ (a .t1 .symbols - 1) % 2 ^ 64
-    ≡ digit (odd (coderJoining (a .t1) (a .state .now) (a .info))) * 2 ^ (a .t1 .symbols - 1)
+    → let a = c .before .before .before .before .before .before .before .before .before .args in
+    c .before .before .before .join .result * 2 ^ (a .t .symbols - 1) % 2 ^ 64
+    ≡ digit (odd (coderJoining (a .t) (a .state .now) (a .info))) * 2 ^ (a .t .symbols - 1)
 shifted-is c =
-    let a = c .before .before .before .before .before .before .before .before .before .before .args in
-    let k = tests (c .before .before .before .before .before .before .before .before .before .before) in
-    ap (λ (x : ℕ). x * 2 ^ (a .t1 .symbols - 1) % 2 ^ 64) (parity-is c)
-    ∙ bit-shifted (odd (coderJoining (a .t1) (a .state .now) (a .info))) (a .t1 .symbols - 1) (omega arith)
+    let a = c .before .before .before .before .before .before .before .before .before .args in
+    let k = tests (c .before .before .before .before .before .before .before .before .before) in
+    ap (λ (x : ℕ). x * 2 ^ (a .t .symbols - 1) % 2 ^ 64) (parity-is c)
+    ∙ bit-shifted (odd (coderJoining (a .t) (a .state .now) (a .info))) (a .t .symbols - 1) (omega arith)
 
 memory-is : (c : tie.After-next-turn)
-    → let a = c .before .before .before .before .before .before .before .before .before .before .args in
+    → let a = c .before .before .before .before .before .before .before .before .before .args in
     let at = 1 + turnOf (a .state .now) in
     putMid at (at + 1 - at) (a .state .now) (c .before .before .before .join .last .0)
-    ≡ set (a .state .now) at (coderJoining (a .t1) (a .state .now) (a .info) / 2)
+    ≡ set (a .state .now) at (coderJoining (a .t) (a .state .now) (a .info) / 2)
 unfolding coderJoining
 memory-is c =
-    let a = c .before .before .before .before .before .before .before .before .before .before .args in
-    let k = tests (c .before .before .before .before .before .before .before .before .before .before) in
+    let a = c .before .before .before .before .before .before .before .before .before .args in
+    let k = tests (c .before .before .before .before .before .before .before .before .before) in
     let at = 1 + turnOf (a .state .now) in
-    put-word (a .state .now) (c .before .before .before .join .last .0) at (coderJoining (a .t1) (a .state .now) (a .info) / 2) (omega arith)
+    put-word (a .state .now) (c .before .before .before .join .last .0) at (coderJoining (a .t) (a .state .now) (a .info) / 2) (omega arith)
     (c .before .before .before .join .ensures .1
-    ∙ ap (λ (p : ℕ). set (midOf at (at + 1 - at) (a .state .now)) 0 (joining (infoRows (a .t1)) p (a .info) / 2))
+    ∙ ap₂ (λ (rs : List ℕ) (p : ℕ). set (midOf at (at + 1 - at) (a .state .now)) 0 (joining (take (a .t .symbols - 1) rs) p (a .info) / 2)) (c .before .before .before .before .before .before .before .before .before .pre .1)
     (mid-word (a .state .now) at (at + 1) 0 (omega arith) ∙ ap (λ (i : ℕ). getD (a .state .now) i 0) (add-zero at)))
 
 slice-write-state : tie.Need-slice-write-state
 slice-write-state c =
-    let a = c .before .before .before .before .before .before .before .before .before .before .args in
-    let k = tests (c .before .before .before .before .before .before .before .before .before .before) in
+    let a = c .before .before .before .before .before .before .before .before .before .args in
+    let k = tests (c .before .before .before .before .before .before .before .before .before) in
     let l = memory-is c in
-    omega (arith, ap length l, length-set (a .state .now) (1 + turnOf (a .state .now)) (coderJoining (a .t1) (a .state .now) (a .info) / 2))
+    omega (arith, ap length l, length-set (a .state .now) (1 + turnOf (a .state .now)) (coderJoining (a .t) (a .state .now) (a .info) / 2))
 
 shl-result : tie.Need-shl-result
 shl-result c =
-    let a = c .before .before .before .before .before .before .before .before .before .before .args in
-    let k = tests (c .before .before .before .before .before .before .before .before .before .before) in
+    let a = c .before .before .before .before .before .before .before .before .before .args in
+    let k = tests (c .before .before .before .before .before .before .before .before .before) in
     omega arith
 
 add-result : tie.Need-add-result
 unfolding codedBlock
 add-result c =
-    let a = c .before .before .before .before .before .before .before .before .before .before .args in
-    let l = coded-fits (a .t1) (a .state .now) (a .info) (c .before .before .before .before .before .before .before .before .before .before .pre) in
+    let a = c .before .before .before .before .before .before .before .before .before .args in
+    let l = coded-fits (a .t) (a .state .now) (a .info) (c .before .before .before .before .before .before .before .before .before .pre .0) in
     let e = shifted-is c in
     record { fits = omega arith }
 
@@ -125,8 +126,8 @@ same-length c = search needs
 returns : tie.Need-returns
 unfolding codedBlock coderNext
 returns c =
-    let a = c .before .before .before .before .before .before .before .before .before .before .args in
-    let k = tests (c .before .before .before .before .before .before .before .before .before .before) in (
+    let a = c .before .before .before .before .before .before .before .before .before .args in
+    let k = tests (c .before .before .before .before .before .before .before .before .before) in (
       ap (λ (x : ℕ). a .info + x) (shifted-is c),
       ap₂ (λ (x : List ℕ) (y : ℕ). set x 0 y) (memory-is c) (c .next-turn .ensures .0 (k .turn)),
     )

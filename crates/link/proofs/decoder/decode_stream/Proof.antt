@@ -18,15 +18,15 @@ use Rattle.link.proofs.decoder.decode_stream.Tie as tie
 
 -- the turn's part lies inside, and nothing overflows
 room : (c : tie.Start)
-    → let t = c .args .t1 in
+    → let t = c .args .t in
     let s = c .args .state .now in
     Fitting t × (streamAt t (turnOf s) + (t .span + 1) ≤ length s) × (length s ≤ 4162)
 room c =
     let s = c .args .state .now in
-    let k = decoder-taken (c .args .t1) s (c .args .received) (c .pre) in
+    let k = decoder-taken (c .args .t) s (c .args .received) (c .pre .0) in
     let z = k .sizes in
-    let most = fit-room (c .args .t1) z in
-    let inside = turn-room (c .args .t1) z (turnOf s) (k .turn) in
+    let most = fit-room (c .args .t) z in
+    let inside = turn-room (c .args .t) z (turnOf s) (k .turn) in
     (z, omega arith, omega arith)
 
 slice-read-turn : tie.Need-slice-read-turn
@@ -77,21 +77,21 @@ part-step-end c =
 
 step-requires : tie.Need-step-requires
 step-requires c κs =
-    let a = c .before .before .before .before .before .before .args in
+    let a = c .before .before .before .before .args in
     let s = a .state .now in
-    let k = decoder-taken (a .t1) s (a .received) (c .before .before .before .before .before .before .pre) in
+    let k = decoder-taken (a .t) s (a .received) (c .before .before .before .before .pre .0) in
     let z = k .sizes in
-    let inside = turn-room (a .t1) z (turnOf s) (k .turn) in
-    let at = streamAt (a .t1) (turnOf s) in
-    let size = mid-len at (at + (a .t1 .span + 1)) s (omega arith) in (
+    let inside = turn-room (a .t) z (turnOf s) (k .turn) in
+    let at = streamAt (a .t) (turnOf s) in
+    let size = mid-len at (at + (a .t .span + 1)) s (omega arith) in (
       omega arith,
       z .n-from,
       z .n-to,
       z .N-from,
       z .N-to,
       omega arith,
-      rw (syndrome-is (a .t1) s (a .received) (z .N-from) (omega arith)) (k .syndrome),
-      rw (oldest-is (a .t1) s (a .received) (z .N-from) (omega arith)) (oldest-lt (a .t1) s (a .received) k),
+      rw (syndrome-is (a .t) s (a .received) (z .N-from) (omega arith)) (k .syndrome),
+      rw (oldest-is (a .t) s (a .received) (z .N-from) (omega arith)) (oldest-lt (a .t) s (a .received) k),
     )
 
 same-length : tie.Need-same-length
@@ -102,15 +102,16 @@ delivered-is d e p q = ap₂ (λ (i : ℕ) (m : Mark). record { info = i; mark =
 
 returns : tie.Need-returns
 returns c =
-    let a = c .before .before .before .before .before .before .before .before .before .args in
+    let a = c .before .before .before .before .before .before .before .args in
     let s = a .state .now in
-    let k = decoder-taken (a .t1) s (a .received) (c .before .before .before .before .before .before .before .before .before .pre) in
+    let k = decoder-taken (a .t) s (a .received) (c .before .before .before .before .before .before .before .pre .0) in
     let z = k .sizes in
-    let inside = turn-room (a .t1) z (turnOf s) (k .turn) in
+    let inside = turn-room (a .t) z (turnOf s) (k .turn) in
+    let same = c .before .before .before .before .before .before .before .pre .1 in
     let p = c .before .before .step in (
-      delivered-is (p .result) (delivered (a .t1) s (a .received)) (p .ensures .0 ∙ lent-info (a .t1) s (a .received) (z .N-from) (omega arith))
-          (p .ensures .1 .0 ∙ lent-mark (a .t1) s (a .received) (z .N-from) (omega arith)),
-      lent-memory (a .t1) s (a .received) (z .N-from) (omega arith) (p .last .0) (p .ensures .1 .1),
+      delivered-is (p .result) (delivered (a .t) s (a .received)) (p .ensures .0 ∙ lent-info (a .t) s (a .received) (z .N-from) (omega arith) (a .rows .now) same)
+          (p .ensures .1 .0 ∙ lent-mark (a .t) s (a .received) (z .N-from) (omega arith) (a .rows .now) same),
+      lent-memory (a .t) s (a .received) (z .N-from) (omega arith) (a .rows .now) same (p .last .0) (p .ensures .1 .1),
     )
 
 pub decode-stream-spec : {M : Type 1} → statement M

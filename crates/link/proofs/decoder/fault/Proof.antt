@@ -16,52 +16,49 @@ use Rattle.link.proofs.Room.{fit-room}
 use Rattle.link.proofs.decoder.fault.Statement.{statement}
 use Rattle.link.proofs.decoder.fault.Tie as tie
 
-is-fit-requires : tie.Need-is-fit-requires
-is-fit-requires c κs = search needs
-
 returns : tie.Need-returns
 returns c =
-    let a = c .before .before .before .args in
-    let f : fit (a .t) ≡ false = sym (c .before .is-fit .ensures) ∙ not-true _ (c .if1 .taken) in
+    let a = c .before .before .args in
+    let f : fit (a .t) ≡ false = sym (c .before .before .pre) ∙ not-true _ (c .if1 .taken) in
     sym (decoder-fault (a .t) (a .state .now) (a .block) ∙ simp f)
 
 add-if2 : tie.Need-add-if2
 add-if2 c =
-    let a = c .before .before .before .before .args in
-    let f : fit (a .t) ≡ true = sym (c .before .before .is-fit .ensures) ∙ not-false _ (c .before .if1 .left) in
+    let a = c .before .before .before .args in
+    let f : fit (a .t) ≡ true = sym (c .before .before .before .pre) ∙ not-false _ (c .before .if1 .left) in
     let z = fit-facts (a .t) f in
     record { fits = omega arith }
 
 mul-if2 : tie.Need-mul-if2
 mul-if2 c =
-    let a = c .before .before .before .before .before .args in
-    let f : fit (a .t) ≡ true = sym (c .before .before .before .is-fit .ensures) ∙ not-false _ (c .before .before .if1 .left) in
+    let a = c .before .before .before .before .args in
+    let f : fit (a .t) ≡ true = sym (c .before .before .before .before .pre) ∙ not-false _ (c .before .before .if1 .left) in
     let m = fit-room (a .t) (fit-facts (a .t) f) in
     record { fits = omega arith }
 
 add-if2-2 : tie.Need-add-if2-2
 add-if2-2 c =
-    let a = c .before .before .before .before .before .args in
-    let f : fit (a .t) ≡ true = sym (c .before .before .before .is-fit .ensures) ∙ not-false _ (c .before .before .if1 .left) in
+    let a = c .before .before .before .before .args in
+    let f : fit (a .t) ≡ true = sym (c .before .before .before .before .pre) ∙ not-false _ (c .before .before .if1 .left) in
     let m = fit-room (a .t) (fit-facts (a .t) f) in
     record { fits = omega arith }
 
 returns-2 : tie.Need-returns-2
 returns-2 c =
-    let a = c .before .before .before .before .before .before .args in
-    let f : fit (a .t) ≡ true = sym (c .before .before .before .before .is-fit .ensures) ∙ not-false _ (c .before .before .before .if1 .left) in
+    let a = c .before .before .before .before .before .args in
+    let f : fit (a .t) ≡ true = sym (c .before .before .before .before .before .pre) ∙ not-false _ (c .before .before .before .if1 .left) in
     sym (decoder-fault (a .t) (a .state .now) (a .block) ∙ simp (f, ne-eqb (length (a .state .now)) (decoderWords (a .t)) (c .if2 .taken)))
 
 malformed-requires : tie.Need-malformed-requires
 malformed-requires c κs =
-    let a = c .before .before .before .before .before .before .args in
-    let f : fit (a .t) ≡ true = sym (c .before .before .before .before .is-fit .ensures) ∙ not-false _ (c .before .before .before .if1 .left) in
+    let a = c .before .before .before .before .before .args in
+    let f : fit (a .t) ≡ true = sym (c .before .before .before .before .before .pre) ∙ not-false _ (c .before .before .before .if1 .left) in
     (f, c .if2 .left)
 
 returns-3 : tie.Need-returns-3
 returns-3 c =
-    let a = c .before .before .before .before .before .before .before .before .args in
-    let f : fit (a .t) ≡ true = sym (c .before .before .before .before .before .before .is-fit .ensures) ∙ not-false _ (c .before .before .before .before .before .if1 .left) in
+    let a = c .before .before .before .before .before .before .before .args in
+    let f : fit (a .t) ≡ true = sym (c .before .before .before .before .before .before .before .pre) ∙ not-false _ (c .before .before .before .before .before .if1 .left) in
     let size = eq-eqb (length (a .state .now)) (decoderWords (a .t)) (c .before .before .if2 .left) in
     let out : decoderMalformed (a .t) (a .state .now) ≡ true = sym (c .before .malformed .ensures) ∙ c .if3 .taken in
     sym (decoder-fault (a .t) (a .state .now) (a .block) ∙ simp (f, size, out))
@@ -71,11 +68,11 @@ mask-requires c κs = search needs
 
 -- once 12 to 14 are settled, 15 is left
 settled : (c : tie.After-mask) (b : Bool)
-    → let a = c .before .before .before .before .before .before .before .before .before .args in
+    → let a = c .before .before .before .before .before .before .before .before .args in
     ltb (c .mask .result) (a .block) ≡ b → cond b 15 0 ≡ decoderFault (a .t) (a .state .now) (a .block)
 settled c b out =
-    let a = c .before .before .before .before .before .before .before .before .before .args in
-    let f : fit (a .t) ≡ true = sym (c .before .before .before .before .before .before .before .is-fit .ensures) ∙ not-false _ (c .before .before .before .before .before .before .if1 .left) in
+    let a = c .before .before .before .before .before .before .before .before .args in
+    let f : fit (a .t) ≡ true = sym (c .before .before .before .before .before .before .before .before .pre) ∙ not-false _ (c .before .before .before .before .before .before .if1 .left) in
     let size = eq-eqb (length (a .state .now)) (decoderWords (a .t)) (c .before .before .before .if2 .left) in
     let in14 : decoderMalformed (a .t) (a .state .now) ≡ false = sym (c .before .before .malformed .ensures) ∙ c .before .if3 .left in
     let z = fit-facts (a .t) f in
@@ -93,7 +90,6 @@ pub fault-spec : {M : Type 1} → statement M
 fault-spec =
     tie.close
     (tie.spec
-    is-fit-requires
     returns
     add-if2
     mul-if2

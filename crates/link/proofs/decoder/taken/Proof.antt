@@ -29,7 +29,7 @@ sub-delay : tie.Need-sub-delay
 sub-delay c =
     let a = c .before .before .args in
     let s = a .state .now in
-    let k = decoder-taken (a .t) s (a .received) (c .before .before .pre) in
+    let k = decoder-taken (a .t) s (a .received) (c .before .before .pre .0) in
     let z = k .sizes in
     omega arith
 
@@ -37,7 +37,7 @@ mul-delay : tie.Need-mul-delay
 mul-delay c =
     let a = c .before .before .before .args in
     let s = a .state .now in
-    let k = decoder-taken (a .t) s (a .received) (c .before .before .before .pre) in
+    let k = decoder-taken (a .t) s (a .received) (c .before .before .before .pre .0) in
     let z = k .sizes in
     let room = fit-room (a .t) z in
     record { fits = omega arith }
@@ -46,7 +46,7 @@ slice-read-fill : tie.Need-slice-read-fill
 slice-read-fill c =
     let a = c .before .before .before .before .args in
     let s = a .state .now in
-    let k = decoder-taken (a .t) s (a .received) (c .before .before .before .before .pre) in
+    let k = decoder-taken (a .t) s (a .received) (c .before .before .before .before .pre .0) in
     let inside = turn-room (a .t) (k .sizes) (turnOf s) (k .turn) in
     omega arith
 
@@ -57,7 +57,7 @@ advance-requires : tie.Need-advance-requires
 advance-requires c κs =
     let a = c .before .before .before .before .before .before .before .before .before .args in
     let s = a .state .now in
-    let k = decoder-taken (a .t) s (a .received) (c .before .before .before .before .before .before .before .before .before .pre) in
+    let k = decoder-taken (a .t) s (a .received) (c .before .before .before .before .before .before .before .before .before .pre .0) in
     let m = c .before .before .before .decode-stream .ensures .1 in
     let r = replaced-front (a .t) s (a .received) k in
     let inside = turn-room (a .t) (k .sizes) (turnOf s) (k .turn) in
@@ -74,7 +74,7 @@ unfolding decoderNext
 next-is c =
     let a = c .before .before .before .before .before .before .before .before .before .before .args in
     let s = a .state .now in
-    let k = decoder-taken (a .t) s (a .received) (c .before .before .before .before .before .before .before .before .before .before .pre) in
+    let k = decoder-taken (a .t) s (a .received) (c .before .before .before .before .before .before .before .before .before .before .pre .0) in
     let P = streamReplaced (a .t) s (a .received) in
     let r = replaced-front (a .t) s (a .received) k in
     c .advance .ensures ∙ ap (advanced (a .t .depth) (delayOf (a .t))) (c .before .before .before .before .decode-stream .ensures .1)

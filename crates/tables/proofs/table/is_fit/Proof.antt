@@ -15,29 +15,29 @@ sizes-fit-requires c κs = search needs
 
 sub-rows-fit : tie.Need-sub-rows-fit
 sub-rows-fit c =
-    let t = c .before .before .before .before .args .t in
-    let z = sizes-of (t .symbols) (t .span) (t .depth) (sym (c .before .before .before .sizes-fit .ensures) ∙ c .before .before .if1 .taken) in
+    let a = c .before .before .args in
+    let z = sizes-of (a .symbols) (a .span) (a .depth) (sym (c .before .sizes-fit .ensures) ∙ c .if1 .taken) in
     omega arith
 
 rows-fit-requires : tie.Need-rows-fit-requires
 rows-fit-requires c κs =
-    let t = c .before .before .before .before .args .t in
-    let z = sizes-of (t .symbols) (t .span) (t .depth) (sym (c .before .before .before .sizes-fit .ensures) ∙ c .before .before .if1 .taken) in
+    let a = c .before .before .args in
+    let z = sizes-of (a .symbols) (a .span) (a .depth) (sym (c .before .sizes-fit .ensures) ∙ c .if1 .taken) in
     omega arith
 
 returns : tie.Need-returns
 unfolding fit
 returns c =
-    let t = c .before .before .before .before .before .args .t in
+    let a = c .before .before .before .args in
     c .rows-fit .ensures
-    ∙ ap (λ (s : Bool). s && rowsFit (t .span) (take (t .symbols - 1) (t .rows)))
-    (sym (c .before .before .before .if1 .taken) ∙ c .before .before .before .before .sizes-fit .ensures)
+    ∙ ap (λ (s : Bool). s && rowsFit (a .span) (take (a .symbols - 1) (a .rows .now)))
+    (sym (c .before .if1 .taken) ∙ c .before .before .sizes-fit .ensures)
 
 returns-2 : tie.Need-returns-2
 unfolding fit
 returns-2 c =
-    let t = c .before .before .args .t in
-    ap (λ (s : Bool). s && rowsFit (t .span) (take (t .symbols - 1) (t .rows))) (sym (c .if1 .left) ∙ c .before .sizes-fit .ensures)
+    let a = c .before .before .args in
+    ap (λ (s : Bool). s && rowsFit (a .span) (take (a .symbols - 1) (a .rows .now))) (sym (c .if1 .left) ∙ c .before .sizes-fit .ensures)
 
 pub is-fit-spec : {M : Type 1} → statement M
 is-fit-spec = tie.close (tie.spec sizes-fit-requires sub-rows-fit rows-fit-requires returns returns-2)

@@ -15,18 +15,19 @@ use Rattle.tables.proofs.table.rows_fit.Statement.{statement}
 use Rattle.tables.proofs.table.rows_fit.Tie as tie
 
 abbrev Inv-loop : tie.InvT-loop
-Inv-loop count span rows most fit₀ i₀ fit i = (i ≤ count) × (fit ≡ rowsFit span (take i rows))
+Inv-loop rows count span most fit₀ i₀ fit i = (i ≤ count) × (fit ≡ rowsFit span (take i rows))
 
 abbrev μ-loop : tie.MeasureT-loop
-μ-loop count span rows most fit₀ i₀ fit i = count - i
+μ-loop rows count span most fit₀ i₀ fit i = count - i
 
--- one row more
-next : (N : ℕ) (rows : List ℕ) (i : ℕ) → i < length rows → rowsFit N (take i rows) && ltb (getD rows i 0) (2 ^ N) ≡ rowsFit N (take (suc i) rows)
+-- one row more; past the end there is none, and 0 fits
+next : (N : ℕ) (rows : List ℕ) (i : ℕ) → rowsFit N (take i rows) && ltb (getD rows i 0) (2 ^ N) ≡ rowsFit N (take (suc i) rows)
 unfolding rowsFit
-next N [] i h = absurd (omega arith)
-next N (w ∷ ws) zero h = sym (and-true (ltb w (2 ^ N)))
-next N (w ∷ ws) (suc i) h =
-    and-assoc (ltb w (2 ^ N)) (rowsFit N (take i ws)) (ltb (getD ws i 0) (2 ^ N)) ∙ ap (_&&_ (ltb w (2 ^ N))) (next N ws i (omega arith))
+next N [] zero = lt-ltb 0 (2 ^ N) (pow-pos N)
+next N [] (suc i) = lt-ltb 0 (2 ^ N) (pow-pos N)
+next N (w ∷ ws) zero = sym (and-true (ltb w (2 ^ N)))
+next N (w ∷ ws) (suc i) =
+    and-assoc (ltb w (2 ^ N)) (rowsFit N (take i ws)) (ltb (getD ws i 0) (2 ^ N)) ∙ ap (_&&_ (ltb w (2 ^ N))) (next N ws i)
 
 -- to be at most the mask is to be below the power
 below : (w m N : ℕ) → suc m ≡ 2 ^ N → leb w m ≡ ltb w (2 ^ N)
@@ -46,8 +47,8 @@ loop-holds c = (omega arith, refl)
 mul-fit : tie.Need-mul-fit Inv-loop μ-loop
 mul-fit c = search needs
 
-array-read-fit : tie.Need-array-read-fit Inv-loop μ-loop
-array-read-fit c = search needs
+element-copy-out-fit : tie.Need-element-copy-out-fit Inv-loop μ-loop
+element-copy-out-fit c = search needs
 
 add-i : tie.Need-add-i Inv-loop μ-loop
 add-i c = search needs
@@ -57,15 +58,14 @@ loop-less c = search needs
 
 loop-again : tie.Need-loop-again Inv-loop μ-loop
 loop-again c =
-    let l = c .before in
+    let l = c .before .before in
     let a = l .before .before .args in
-    let long : length (a .t1) ≡ 15 = l .before .before .good .0 .1 .0 .1 in
     let p = pow-pos (a .span) in
     let whole : 2 ^ min (a .span) 64 ≡ 2 ^ (a .span) = ap (λ (k : ℕ). 2 ^ k) (omega arith) in (
       omega arith,
-      ap₂ _&&_ (l .loop .inv .1) (below (getD (a .t1) (l .loop .i) 0) (l .before .mask .result) (a .span) (omega arith))
-          ∙ next (a .span) (a .t1) (l .loop .i) (omega arith)
-          ∙ ap (λ (i : ℕ). rowsFit (a .span) (take i (a .t1))) (sym (add-one (l .loop .i))),
+      ap₂ _&&_ (l .loop .inv .1) (below (getD (a .rows .now) (l .loop .i) 0) (l .before .mask .result) (a .span) (omega arith))
+          ∙ next (a .span) (a .rows .now) (l .loop .i)
+          ∙ ap (λ (i : ℕ). rowsFit (a .span) (take i (a .rows .now))) (sym (add-one (l .loop .i))),
     )
 
 returns : tie.Need-returns Inv-loop μ-loop
@@ -73,7 +73,7 @@ returns c =
     let l = c .before in
     let a = l .before .before .args in
     let done : l .loop .i ≡ a .count = omega arith in
-    l .loop .inv .1 ∙ ap (λ (i : ℕ). rowsFit (a .span) (take i (a .t1))) done
+    l .loop .inv .1 ∙ ap (λ (i : ℕ). rowsFit (a .span) (take i (a .rows .now))) done
 
 pub rows-fit-spec : {M : Type 1} → statement M
 rows-fit-spec =
@@ -84,7 +84,7 @@ rows-fit-spec =
     mask-requires
     loop-holds
     mul-fit
-    array-read-fit
+    element-copy-out-fit
     add-i
     loop-less
     loop-again
