@@ -12,7 +12,7 @@ use Rattle.lines.specs.Text.{lineOf}
 use Rattle.lines.specs.Listing.{Listed, prefixed, blockOf, listedAfter, listed, continued, CHUNKS}
 
 -- what is printed before it does not change how a listing goes on
-continued-prefixed : (t : Table) (ps : List ℕ) (l : Listed) (b : Bool) (bs : List ℕ) → l .stopped ≡ b
+pub continued-prefixed : (t : Table) (ps : List ℕ) (l : Listed) (b : Bool) (bs : List ℕ) → l .stopped ≡ b
     → continued t (prefixed ps l) bs ≡ prefixed ps (continued t l bs)
 continued-prefixed t ps l true bs e = rw e
 continued-prefixed t ps l false bs e = rw (e, append-assoc)

@@ -6,4 +6,6 @@ mod Answer
 mod Chunks
 mod Loop
 mod Room
+mod Opens
+mod Parts
 mod Example

@@ -19,7 +19,7 @@ room-divided n room = go (leb n (room / 43)) refl
     go true e = e ∙ sym (le-leb (longest * n) room (omega (arith, leb-true n (room / 43) e)))
     go false e = e ∙ sym (lt-leb (longest * n) room (omega (arith, leb-false n (room / 43) e)))
 
-both : (a b : Bool) → a && b ≡ true → (a ≡ true) × (b ≡ true)
+pub both : (a b : Bool) → a && b ≡ true → (a ≡ true) × (b ≡ true)
 both true true e = (refl, refl)
 both true false e = let z : _≡_ {A = Bool} false true = e in absurd (let y : _≡_ {A = ℕ} 0 1 = cc in omega arith)
 both false b e = let z : _≡_ {A = Bool} false true = e in absurd (let y : _≡_ {A = ℕ} 0 1 = cc in omega arith)

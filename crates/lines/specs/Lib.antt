@@ -2,3 +2,4 @@
 pub mod Text
 pub mod Writing
 pub mod Listing
+pub mod Opening

@@ -1,3 +1,4 @@
 // The lines of the listing program, as bytes.
 pub mod chunk;
+pub mod opening;
 pub mod text;

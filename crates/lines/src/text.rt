@@ -101,17 +101,6 @@ fn has_room(out: &[u8], at: usize) -> bool
 
 // ---- the public functions
 
-// The decimal digits of a number.
-pub fn decimal(out: &mut [u8], at: usize, x: u64) -> usize
-    ensures position { λ r. ⌜ r ≡ putEnd (now (out .entry)) at (decimalOf x) ⌝ }
-    ensures bytes { λ r. ⌜ now (out .exit) ≡ put (now (out .entry)) at (decimalOf x) ⌝ }
-{
-    if has_room(out, at) {
-        return digits(out, at, x);
-    }
-    at
-}
-
 // The line of a delivery.
 pub fn line(out: &mut [u8], at: usize, number: u64, d: Delivered) -> usize
     ensures position { λ r. ⌜ r ≡ putEnd (now (out .entry)) at (lineOf number d) ⌝ }

@@ -1,10 +1,11 @@
 -- The numbers of an answer, and the memory after the call: every function picks both by the same test of its fault. Assumes nothing.
-use mathlib.Core.Path.{_≡_, refl}
+use mathlib.Core.Path.{_≡_, refl, _∙_}
 use mathlib.Core.Bool.{Bool, true, false}
 use mathlib.Core.List.{List, [], _∷_}
 use Prim.Native.Nat.{ℕ}
-use borrow.Author.Tests.{eqb-true, eqb-false}
+use borrow.Author.Tests.{eq-eqb, eqb-true, eqb-false}
 use lib.Dec.{ltb, eqb}
+use lib.ListN.{length}
 use Rattle.tables.specs.declared.table.Table.{Table}
 use Rattle.link.specs.declared.start.StartAnswer.{StartAnswer}
 use Rattle.link.specs.declared.coder.CodeAnswer.{CodeAnswer}
@@ -12,10 +13,11 @@ use Rattle.link.specs.declared.decoder.DecodeAnswer.{DecodeAnswer}
 use Rattle.link.specs.declared.start.StartAnswer.the-variants.{Started, Refused as StartRefused}
 use Rattle.link.specs.declared.coder.CodeAnswer.the-variants.{Coded, Refused as CodeRefused}
 use Rattle.link.specs.declared.decoder.DecodeAnswer.the-variants.{Delivery, NothingYet, Refused as DecodeRefused}
-use Rattle.link.specs.Start.{startFault, started, startAnswer, startMemory}
+use Rattle.link.specs.Start.{startFault, started, startAnswer, startMemory, STARTS}
 use Rattle.link.specs.Coder.{coderFault, codedBlock, coderNext, codeAnswer, codeMemory}
 use Rattle.link.specs.Decoder.{fillOf, delayOf, decoderFault, decoderNext, delivered, delivery, decodeAnswer, decodeMemory}
 use Rattle.link.specs.Answers.{startNumbers, codeNumbers, recordNumbers, decodeNumbers, decodeValues, Answered, START-NUMBERS, CODE-NUMBERS, DECODE-NUMBERS}
+use Rattle.link.proofs.Faults.{start-fault, starts}
 
 -- answer x and memory next where the fault is 0, otherwise answer y, whose number is the fault, and the memory before
 answered : {X : Type 0} (numbers : X → List ℕ) (fault : ℕ) (x y : X) (values next before : List ℕ) → numbers x ≡ 0 ∷ values → numbers y ≡ fault ∷ []
@@ -37,6 +39,9 @@ pub start-numbers : START-NUMBERS
 unfolding startAnswer startMemory
 start-numbers t words s =
     answered startNumbers (startFault t words s) Started (StartRefused (startFault t words s)) [] (started words) s refl refl
+
+pub starts-whole : STARTS
+starts-whole t words s f size = starts t words s (start-fault t words s ∙ simp (f, eq-eqb (length s) words size))
 
 pub code-numbers : CODE-NUMBERS
 unfolding codeAnswer codeMemory

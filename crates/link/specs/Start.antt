@@ -3,6 +3,8 @@
 --   startFault t words s    the first of refusals 12 and 13 that applies to a start, or 0
 --   started words           the memory after a start
 --   startAnswer, startMemory   answer and memory of any start
+--   STARTS                  what is not refused
+use mathlib.Core.Path.{_≡_}
 use mathlib.Core.Bool.{true, false, not}
 use mathlib.Core.List.{List, [], _∷_}
 use Prim.Native.Nat.{ℕ}
@@ -28,3 +30,7 @@ startAnswer t words s = elim (eqb (startFault t words s) 0) [ true ↦ Started |
 -- "It writes no lent word"
 unfoldable pub startMemory : Table → ℕ → List ℕ → List ℕ
 startMemory t words s = elim (eqb (startFault t words s) 0) [ true ↦ started words | false ↦ s ]
+
+-- a fit table starts a memory of the stated length
+abbrev pub STARTS : Type 0
+STARTS = (t : Table) (words : ℕ) (s : List ℕ) → fit t ≡ true → length s ≡ words → (Started ≡ startAnswer t words s) × (started words ≡ startMemory t words s)

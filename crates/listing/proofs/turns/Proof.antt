@@ -7,10 +7,10 @@ use Rattle.listing.proofs.turns.Statement.{statement}
 use Rattle.listing.proofs.turns.Tie as tie
 
 abbrev Inv-loop : tie.InvT-loop
-Inv-loop t state₀ left₀ number₀ state left number = length state ≡ length state₀
+Inv-loop t state₀ first left₀ number₀ state left number = length state ≡ length state₀
 
 abbrev μ-loop : tie.MeasureT-loop
-μ-loop t state₀ left₀ number₀ state left number = left
+μ-loop t state₀ first left₀ number₀ state left number = left
 
 loop-holds : tie.Need-loop-holds Inv-loop μ-loop
 loop-holds c = refl
