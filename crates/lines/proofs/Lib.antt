@@ -1,11 +1,4 @@
--- The example, the digits of a number, listing in parts, and writing. Lowest first.
+-- The digits of a number, writing one thing after another, and the longest line. Lowest first. A layer above sees `Written` and `Longest`.
 mod Digits
-mod Written
-mod Longest
-mod Answer
-mod Chunks
-mod Loop
-mod Room
-mod Opens
-mod Parts
-mod Example
+pub mod Written
+pub mod Longest

@@ -1,5 +1,3 @@
 -- `lines`: the lines of the listing program, how they are written, and what it prints of an input.
 pub mod Text
 pub mod Writing
-pub mod Listing
-pub mod Opening

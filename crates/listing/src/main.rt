@@ -1,10 +1,10 @@
 // The listing program of 01: it reads n, m and received blocks, and prints what the decoder of the made table delivers. What is printed, and
-// from which memory and number the next part goes on, is decided in `lines`; here bytes move between the input, the buffers and the output.
+// from which memory and number the next part goes on, is decided in `report`; here bytes move between the input, the buffers and the output.
 use libc::STDIN_FILENO;
 use libc::STDOUT_FILENO;
-use lines::chunk::Progress;
-use lines::chunk::chunk;
-use lines::opening::opening;
+use report::chunk::Progress;
+use report::chunk::chunk;
+use report::opening::opening;
 use tables::table::Table;
 
 // The most bytes that a turn reads, an even number: their lines have room in a large buffer (`PART-ROOM`).

@@ -1,0 +1,8 @@
+-- Answers printed, listing in parts, the opening, the whole listing and the example. Lowest first.
+mod Answer
+mod Chunks
+mod Loop
+mod Room
+mod Opens
+mod Parts
+mod Example

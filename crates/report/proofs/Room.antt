@@ -1,0 +1,43 @@
+-- Room for a part's lines. Assumes nothing.
+use mathlib.Core.Path.{_≡_, refl, sym, _∙_}
+use mathlib.Core.Bool.{Bool, true, false, _&&_}
+use mathlib.Core.List.{List, []}
+use Prim.Native.Nat.{ℕ, _+_, _*_, _/_, _^_, _≤_}
+use native.Mathlib.Omega.{arith}
+use borrow.Author.Tests.{le-leb, lt-leb, leb-true, leb-false}
+use lib.Dec.{leb}
+use lib.ListN.{length}
+use Rattle.tables.specs.declared.table.Table.{Table}
+use Rattle.lines.specs.Writing.{longest}
+use Rattle.report.specs.Listing.{chunkRoom, chunkListed, listed, Lists}
+use Rattle.lines.proofs.Written.{wrote-nothing}
+
+pub room-divided : (n room : ℕ) → leb n (room / 43) ≡ leb (longest * n) room
+room-divided n room = go (leb n (room / 43)) refl
+  where
+    go : (b : Bool) → leb n (room / 43) ≡ b → leb n (room / 43) ≡ leb (longest * n) room
+    go true e = e ∙ sym (le-leb (longest * n) room (omega (arith, leb-true n (room / 43) e)))
+    go false e = e ∙ sym (lt-leb (longest * n) room (omega (arith, leb-false n (room / 43) e)))
+
+pub both : (a b : Bool) → a && b ≡ true → (a ≡ true) × (b ≡ true)
+both true true e = (refl, refl)
+both true false e = let z : _≡_ {A = Bool} false true = e in absurd (let y : _≡_ {A = ℕ} 0 1 = cc in omega arith)
+both false b e = let z : _≡_ {A = Bool} false true = e in absurd (let y : _≡_ {A = ℕ} 0 1 = cc in omega arith)
+
+pub room-there : (k bytes room : ℕ) → chunkRoom k bytes room ≡ true → (k ≤ 2 ^ 63) × (longest * (bytes / 2 + 1) ≤ room)
+unfolding chunkRoom
+room-there k bytes room h =
+    let e = both (leb k (2 ^ 63)) (leb (longest * (bytes / 2 + 1)) room) h in
+    (leb-true k (2 ^ 63) (e .0), leb-true (longest * (bytes / 2 + 1)) room (e .1))
+
+pub listed-there : (t : Table) (s : List ℕ) (k : ℕ) (bs : List ℕ) (room : ℕ) → chunkRoom k (length bs) room ≡ true
+    → chunkListed t s k bs room ≡ listed t s k bs
+unfolding chunkListed
+listed-there t s k bs room h = rw (h, chunkListed)
+
+pub listed-nowhere : (t : Table) (s : List ℕ) (k : ℕ) (bs out : List ℕ) → chunkRoom k (length bs) (length out) ≡ false
+    → Lists (chunkListed t s k bs (length out)) out out s 0 k true
+unfolding chunkListed
+listed-nowhere t s k bs out h =
+    let e : chunkListed t s k bs (length out) ≡ record { text = []; memory = s; number = k; stopped = true } = rw (h, chunkListed) in
+    rw e (record { wrote = wrote-nothing out 0; left = refl; counted = refl; stops = refl })
