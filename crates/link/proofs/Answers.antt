@@ -2,11 +2,14 @@
 use mathlib.Core.Path.{_≡_, refl, _∙_}
 use mathlib.Core.Bool.{Bool, true, false}
 use mathlib.Core.List.{List, [], _∷_}
-use Prim.Native.Nat.{ℕ}
+use Prim.Native.Nat.{ℕ, suc, _+_}
+use native.Mathlib.Omega.{arith}
 use borrow.Author.Tests.{eq-eqb, eqb-true, eqb-false}
 use lib.Dec.{ltb, eqb}
 use lib.ListN.{length}
 use Rattle.tables.specs.declared.table.Table.{Table}
+use Rattle.tables.specs.Format.{firstOf}
+use Rattle.tables.proofs.Laws.{first-range}
 use Rattle.link.specs.declared.start.StartAnswer.{StartAnswer}
 use Rattle.link.specs.declared.coder.CodeAnswer.{CodeAnswer}
 use Rattle.link.specs.declared.decoder.DecodeAnswer.{DecodeAnswer}
@@ -16,7 +19,7 @@ use Rattle.link.specs.declared.decoder.DecodeAnswer.the-variants.{Delive
 use Rattle.link.specs.Start.{startFault, started, startAnswer, startMemory, STARTS}
 use Rattle.link.specs.Coder.{coderFault, codedBlock, coderNext, codeAnswer, codeMemory}
 use Rattle.link.specs.Decoder.{fillOf, delayOf, decoderFault, decoderNext, delivered, delivery, decodeAnswer, decodeMemory}
-use Rattle.link.specs.Answers.{startNumbers, codeNumbers, recordNumbers, decodeNumbers, decodeValues, Answered, START-NUMBERS, CODE-NUMBERS, DECODE-NUMBERS}
+use Rattle.link.specs.Answers.{startNumbers, codeNumbers, recordNumbers, decodeNumbers, decodeValues, Answered, START-NUMBERS, CODE-NUMBERS, DECODE-NUMBERS, Ranges, FAULT-RANGE}
 use Rattle.link.proofs.Faults.{start-fault, starts}
 
 -- answer x and memory next where the fault is 0, otherwise answer y, whose number is the fault, and the memory before
@@ -80,3 +83,11 @@ pub decode-told : (t : Table) (s : List ℕ) (b : ℕ) (r : DecodeAnswer) (after
     → (r ≡ decodeAnswer t s b)
     × ((after ≡ decodeMemory t s b) × Answered (decoderFault t s b) (decodeValues t s b) (decoderNext t s b) s (decodeNumbers r) after)
 decode-told t s b r after p q = (p, (q, rw (p, q) (decode-numbers t s b)))
+
+-- 12 is the first, and there are two tests or four
+ranges : (bs : List Bool) (most : ℕ) → 12 + length bs ≡ suc most → Ranges (firstOf 12 bs) most
+ranges bs most e some = let r = first-range 12 bs some in (r .0, omega (arith, r .1, e))
+
+pub fault-range : FAULT-RANGE
+unfolding startFault coderFault decoderFault
+fault-range t s x = (ranges (_ ∷ _ ∷ []) 13 refl, ranges (_ ∷ _ ∷ _ ∷ _ ∷ []) 15 refl, ranges (_ ∷ _ ∷ _ ∷ _ ∷ []) 15 refl)

@@ -7,11 +7,12 @@
 --   Answered fault values next before ns after   the numbers and the memory after a call that has this fault; every start and step promises it
 --   decodeValues t s r          the values of a decoder's step that is taken
 --   START-NUMBERS, CODE-NUMBERS, DECODE-NUMBERS  those of every start and of every step
+--   FAULT-RANGE                 a refusal's number is 12 or 13 of a start, and 12 to 15 of a step
 use mathlib.Core.Path.{_≡_}
 use mathlib.Core.Bool.{true, false}
 use mathlib.Core.Logic.{_≢_}
 use mathlib.Core.List.{List, [], _∷_}
-use Prim.Native.Nat.{ℕ}
+use Prim.Native.Nat.{ℕ, _≤_}
 use lib.Dec.{ltb}
 use Rattle.tables.specs.declared.table.Table.{Table}
 use Rattle.link.specs.declared.start.StartAnswer.{StartAnswer}
@@ -88,3 +89,10 @@ abbrev pub DECODE-NUMBERS : Type 0
 DECODE-NUMBERS =
     (t : Table) (s : List ℕ) (r : ℕ)
     → Answered (decoderFault t s r) (decodeValues t s r) (decoderNext t s r) s (decodeNumbers (decodeAnswer t s r)) (decodeMemory t s r)
+
+abbrev pub Ranges : ℕ → ℕ → Type 0
+Ranges fault most = fault ≢ 0 → (12 ≤ fault) × (fault ≤ most)
+
+abbrev pub FAULT-RANGE : Type 0
+FAULT-RANGE =
+    (t : Table) (s : List ℕ) (x : ℕ) → Ranges (startFault t x s) 13 × Ranges (coderFault t s x) 15 × Ranges (decoderFault t s x) 15

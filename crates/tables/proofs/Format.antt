@@ -20,7 +20,7 @@ use lib.Seq.{drop-drop}
 use borrow.Author.Tests.{ltb-true, ltb-false, leb-true, leb-false, eqb-true, eqb-false, not-false, eq-eqb, ne-eqb, lt-ltb, le-ltb}
 use lib.Dec.{leb, ltb, eqb}
 use Rattle.tables.specs.Format.{kind, size, word, rowWord, allGiven, taken, firstOf, fault, place, begun, after, refused, parsed, parseFrom, parse, ended, unknown, cut, misplaced}
-use Rattle.tables.specs.Laws.{FIRST, FIRST-NONE}
+use Rattle.tables.specs.Laws.{FIRST, FIRST-NONE, FIRST-RANGE}
 use Rattle.tables.specs.declared.read.Progress.{Progress}
 use Rattle.tables.specs.Table.{sizesFit}
 
@@ -105,6 +105,12 @@ pub first-none : FIRST-NONE
 unfolding firstOf
 first-none k true bs h e = absurd (omega arith)
 first-none k false bs h e = (refl, e)
+
+pub first-range : FIRST-RANGE
+unfolding firstOf
+first-range k [] some = absurd (some refl)
+first-range k (true ∷ bs) some = (omega arith, omega arith)
+first-range k (false ∷ bs) some = let r = first-range (suc k) bs some in (omega (arith, r .0), omega (arith, r .1))
 
 -- the tests of the other kinds do not apply
 first-sizes : (a b : Bool) → firstOf 4 (a ∷ b ∷ false ∷ false ∷ false ∷ false ∷ []) ≡ cond a 4 (cond b 5 0)

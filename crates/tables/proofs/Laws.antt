@@ -1,7 +1,7 @@
 -- The theorems that a layer above may use of `tables`, stated in `specs/`, each proved in the file that the right side names. Assumes nothing.
 use Rattle.tables.specs.Reading.{ACCEPTED-SUITABLE, SUITABLE-ACCEPTED, REFUSED-RANGE, REFUSED-NUMBERS, REFUSED-UNSUITABLE, UNSUITABLE-NUMBERS}
 use Rattle.tables.specs.Written.{PARSES-EXACTLY}
-use Rattle.tables.specs.Laws.{IMAGE, ALIKE, FIRST, FIRST-NONE, NESTED, NESTED-ROWS, FILLING, FORCED, UNIQUE, MADE, MADE-WHOLE, MADE-DEPTH, NOT-MADE}
+use Rattle.tables.specs.Laws.{IMAGE, ALIKE, FIRST, FIRST-NONE, FIRST-RANGE, NESTED, NESTED-ROWS, FILLING, FORCED, UNIQUE, MADE, MADE-WHOLE, MADE-DEPTH, IS-MADE, NOT-MADE}
 use Rattle.tables.specs.Examples.{EXAMPLES}
 use Rattle.tables.proofs.Clash as Clash
 use Rattle.tables.proofs.Format as Format
@@ -28,6 +28,9 @@ first = Format.first
 
 pub first-none : FIRST-NONE
 first-none = Format.first-none
+
+pub first-range : FIRST-RANGE
+first-range = Format.first-range
 
 pub accepted-suitable : ACCEPTED-SUITABLE
 accepted-suitable = Reading.accepted-suitable
@@ -60,6 +63,9 @@ made-whole = Bounds.made-whole
 
 pub made-depth : MADE-DEPTH
 made-depth = Made.made-depth
+
+pub is-made : IS-MADE
+is-made = Made.is-made
 
 pub not-made : NOT-MADE
 not-made = Made.not-made

@@ -1,6 +1,7 @@
 -- What the two parts of a reading, the parse and the judgement, say together. Assumes nothing.
 use mathlib.Core.Path.{_≡_, refl, sym, ap, _∙_}
 use mathlib.Core.Bool.{Bool, true, false, false≢true, cond}
+use mathlib.Core.Logic.{_≢_}
 use mathlib.Core.List.{List, [], _∷_}
 use Prim.Native.Nat.{ℕ, zero, suc, _+_, _≤_, _<_}
 use native.Mathlib.Omega.{arith}
@@ -17,9 +18,10 @@ use Rattle.tables.specs.Code.{Clashes, Suitable, Unsuitable as CodeUnsui
 use Rattle.tables.specs.Table.{rowsOf, zeroTable}
 use Rattle.tables.specs.Judging.{Judged}
 use Rattle.tables.specs.declared.read.Progress.{Progress}
-use Rattle.tables.specs.Format.{kind, size, ended, unknown, cut, misplaced, sizesOut, misnumbered, tooLong, missing, followed, firstOf, fault, place, after, begun, Parse, refused, parsed, parseFrom, parse}
+use Rattle.tables.specs.Format.{kind, size, ended, unknown, cut, misplaced, sizesOut, misnumbered, tooLong, missing, followed, fault, place, after, begun, Parse, refused, parsed, parseFrom, parse}
 use Rattle.tables.specs.Reading.{numbers, reading, outcome, Says, Read, ACCEPTED-SUITABLE, SUITABLE-ACCEPTED, REFUSED-RANGE, REFUSED-NUMBERS, REFUSED-UNSUITABLE, UNSUITABLE-NUMBERS}
 use Rattle.tables.proofs.Progress.{parse-fit, never-refused}
+use Rattle.tables.proofs.Format.{first-range}
 
 pub outcome-accepted : (o : Parse) (r : Reading) → r ≡ outcome o → r .answer ≡ Accepted → o ≡ parsed (r .table)
 unfolding outcome
@@ -64,18 +66,12 @@ suitable-accepted bytes t r s e f = says-suitable bytes t (r .answer) (r .table)
 
 -- ---- the numbers of a parse that is refused
 
-first-below : (k : ℕ) (ts : List Bool) → 1 ≤ k → firstOf k ts < k + length ts
-unfolding firstOf
-first-below k [] h = omega arith
-first-below k (true ∷ ts) h = omega arith
-first-below k (false ∷ ts) h = let z = first-below (suc k) ts (omega arith) in omega arith
-
-fault-below : (g : Progress) (s : List ℕ) → fault g s < 10
+fault-range : (g : Progress) (s : List ℕ) → fault g s ≢ 0 → (1 ≤ fault g s) × (fault g s < 10)
 unfolding fault
-fault-below g s =
-    first-below 1 (ended s ∷ unknown s ∷ cut s ∷ misplaced g s ∷ sizesOut s ∷ misnumbered g s ∷ tooLong g s ∷ missing g s ∷ followed s ∷ []) (omega arith)
+fault-range g s =
+    first-range 1 (ended s ∷ unknown s ∷ cut s ∷ misplaced g s ∷ sizesOut s ∷ misnumbered g s ∷ tooLong g s ∷ missing g s ∷ followed s ∷ [])
 
-range-pick : (b : Bool) (u : Table) (next : Parse) (k p i q : ℕ) → k < 10 → (next ≡ refused i q → (1 ≤ i) × (i ≤ 9))
+range-pick : (b : Bool) (u : Table) (next : Parse) (k p i q : ℕ) → (k ≢ 0 → (1 ≤ k) × (k < 10)) → (next ≡ refused i q → (1 ≤ i) × (i ≤ 9))
     → cond (eqb k 0) (cond b (parsed u) next) (refused k p) ≡ refused i q → (1 ≤ i) × (i ≤ 9)
 range-pick b u next k p i q below f e = go (eqb k 0) refl b e
   where
@@ -84,7 +80,7 @@ range-pick b u next k p i q below f e = go (eqb k 0) refl b e
     go true z false h = f h
     go false z c h =
         let same : k ≡ i = cc in
-        let some = eqb-false k 0 z in
+        let r = below (eqb-false k 0 z) in
         omega arith
 
 range-from : (left p : ℕ) (g : Progress) (s : List ℕ) (i q : ℕ) → parseFrom left p g s ≡ refused i q → (1 ≤ i) × (i ≤ 9)
@@ -92,7 +88,7 @@ unfolding parseFrom
 range-from zero p g s i q e = let same : 1 ≡ i = cc in omega arith
 range-from (suc left) p g s i q e =
     range-pick (eqb (kind s) 0) (g .table) (parseFrom left (p + size (kind s)) (after g s) (drop (size (kind s)) s)) (fault g s) (place (fault g s) p) i q
-    (fault-below g s) (range-from left (p + size (kind s)) (after g s) (drop (size (kind s)) s) i q) e
+    (fault-range g s) (range-from left (p + size (kind s)) (after g s) (drop (size (kind s)) s) i q) e
 
 pub refused-range : REFUSED-RANGE
 unfolding parse

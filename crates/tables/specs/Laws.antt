@@ -4,10 +4,12 @@
 --   ALIKE         in a suitable table only the zero block has a shifted image as its image
 --   FIRST         the first refusal that applies is that of the first test, or else of those after it
 --   FIRST-NONE    no refusal is the first that applies only if none applies
+--   FIRST-RANGE   the first that applies has the number of one of the tests
 --   NESTED        the triangle for n is the one for n − 1 with column n added
 --   MADE          a made table has the sizes asked for and N = 2n, is fit and suitable, and has the rows of our triangle
 --   MADE-WHOLE    its other rows are 0
 --   MADE-DEPTH    making with another depth changes only the depth
+--   IS-MADE       sizes in range are never refused
 --   NOT-MADE      refusal 11
 --   NESTED-ROWS   each row of the larger table is twice that of the smaller one and its bit of the new column
 --   FILLING       a suitable table has exactly one column that makes the next one suitable
@@ -15,7 +17,7 @@
 --   UNIQUE        a triangle all of whose sizes are suitable is ours
 use mathlib.Core.Path.{_≡_}
 use mathlib.Core.Bool.{Bool, true, false, cond}
-use mathlib.Core.Logic.{_↔_}
+use mathlib.Core.Logic.{_↔_, _≢_}
 use mathlib.Core.List.{List, [], _∷_, _++_}
 use Prim.Native.Nat.{ℕ, suc, _+_, _-_, _*_, _^_, _≤_, _<_}
 use lib.ListN.{length, getD, take}
@@ -71,6 +73,9 @@ abbrev pub MADE-DEPTH : Type 0
 MADE-DEPTH = (n m m′ : ℕ) → making n m .answer ≡ Made → making n m′ .answer ≡ Made
     → making n m′ .table ≡ table (making n m .table .symbols) (making n m .table .span) m′ (making n m .table .rows)
 
+abbrev pub IS-MADE : Type 0
+IS-MADE = (n m : ℕ) → sizesFit n 2 m ≡ true → making n m .answer ≡ Made
+
 -- "11. n or m is out of range."
 abbrev pub NOT-MADE : Type 0
 NOT-MADE = (n m : ℕ) → sizesFit n 2 m ≡ false → (madeNumbers (making n m .answer) ≡ 11 ∷ []) × (making n m .table ≡ zeroTable)
@@ -89,3 +94,6 @@ FIRST = (k : ℕ) → (firstOf k [] ≡ 0) × ((b : Bool) (bs : List Bool) → f
 
 abbrev pub FIRST-NONE : Type 0
 FIRST-NONE = (k : ℕ) (b : Bool) (bs : List Bool) → 1 ≤ k → firstOf k (b ∷ bs) ≡ 0 → (b ≡ false) × (firstOf (suc k) bs ≡ 0)
+
+abbrev pub FIRST-RANGE : Type 0
+FIRST-RANGE = (k : ℕ) (bs : List Bool) → firstOf k bs ≢ 0 → (k ≤ firstOf k bs) × (firstOf k bs < k + length bs)
