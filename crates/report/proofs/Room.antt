@@ -1,5 +1,5 @@
 -- Room for a part's lines. Assumes nothing.
-use mathlib.Core.Path.{_≡_, refl, sym, _∙_}
+use mathlib.Core.Path.{_≡_, refl, sym, ap₂, _∙_}
 use mathlib.Core.Bool.{Bool, true, false, _&&_}
 use mathlib.Core.List.{List, []}
 use Prim.Native.Nat.{ℕ, _+_, _*_, _/_, _^_, _≤_}
@@ -9,7 +9,7 @@ use lib.Dec.{leb}
 use lib.ListN.{length}
 use Rattle.tables.specs.declared.table.Table.{Table}
 use Rattle.lines.specs.Writing.{longest}
-use Rattle.report.specs.Listing.{chunkRoom, chunkListed, listed, Lists}
+use Rattle.report.specs.Listing.{chunkRoom, PART-ROOM, chunkListed, listed, Lists}
 use Rattle.lines.proofs.Written.{wrote-nothing}
 
 pub room-divided : (n room : ℕ) → leb n (room / 43) ≡ leb (longest * n) room
@@ -29,6 +29,11 @@ unfolding chunkRoom
 room-there k bytes room h =
     let e = both (leb k (2 ^ 63)) (leb (longest * (bytes / 2 + 1)) room) h in
     (leb-true k (2 ^ 63) (e .0), leb-true (longest * (bytes / 2 + 1)) room (e .1))
+
+pub part-room : PART-ROOM
+unfolding chunkRoom
+part-room k bytes few small =
+    ap₂ _&&_ (le-leb k (2 ^ 63) few) (le-leb (longest * (bytes / 2 + 1)) 65536 (omega arith))
 
 pub listed-there : (t : Table) (s : List ℕ) (k : ℕ) (bs : List ℕ) (room : ℕ) → chunkRoom k (length bs) room ≡ true
     → chunkListed t s k bs room ≡ listed t s k bs

@@ -3,12 +3,17 @@
 --
 --   Listed              what was printed, the memory, the number of the next delivery, and whether the program stopped
 --   prefixed bs l       the same, printed after bs
+--   blockOf low high    a received block
 --   answerText, answerNumber, answerStops   what one answer does
 --   Printed out at k a r end number stopped   what writing its bytes does
+--   listedAfter a s k rest   an answer listed, and then the rest
 --   listed t s k bs     the bytes bs listed, from the memory s and the number k on
 --   continued t l bs    the bytes bs listed after l
+--   madeListing a t bs  the bytes bs listed with the made table, or refusal 11
 --   listing bs          all that the program prints of the input bs
 --   CHUNKS              listing even parts one after the other is listing the whole
+--   chunkRoom k bytes room      whether the lines of a part of so many bytes have room, and the numbers from k on
+--   PART-ROOM                   the parts that the program reads have room
 --   chunkListed t s k bs room   what a call that lists a part does, with `room` bytes for the lines
 --   Lists l out r memory end number stopped   what such a call leaves and answers
 --   EXAMPLE             01's example
@@ -105,6 +110,10 @@ CHUNKS = (t : Table) (s : List ℕ) (k : ℕ) (before after : List ℕ) → leng
 -- Otherwise the call lists nothing, and says that it stopped.
 unfoldable pub chunkRoom : ℕ → ℕ → ℕ → Bool
 chunkRoom k bytes room = leb k (2 ^ 63) && leb (longest * (bytes / 2 + 1)) room
+
+-- no run has so many deliveries; the program lends 65,536 bytes to a part
+abbrev pub PART-ROOM : Type 0
+PART-ROOM = (k bytes : ℕ) → k ≤ 2 ^ 63 → bytes ≤ 2048 → chunkRoom k bytes 65536 ≡ true
 
 unfoldable pub chunkListed : Table → List ℕ → ℕ → List ℕ → ℕ → Listed
 chunkListed t s k bs room =

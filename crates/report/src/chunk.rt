@@ -94,7 +94,8 @@ fn fits(number: u64, bytes: usize, room: usize) -> bool
 }
 
 // A part of the input, an even one unless it is the last, listed into `out` from its start on. The listing goes on from the memory, with the
-// number that is returned. Where there is no room for its lines nothing is listed, no word is written, and the listing stops.
+// number that is returned. Where its lines have no room, or the number is above 2^63, nothing is listed, no word is written, and the listing
+// stops.
 pub fn chunk(t: Table, state: &mut [u64], bytes: &[u8], number: u64, out: &mut [u8]) -> Progress
     ensures { λ r. ⌜ Lists (chunkListed t (now (state .entry)) number (now (bytes .entry)) (length (now (out .entry)))) (now (out .entry)) (now (out .exit)) (now (state .exit)) (r .end) (r .number) (r .stopped) ⌝ }
 {
