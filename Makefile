@@ -1,7 +1,12 @@
+# make run         the listing program, proved and built, on the sample of examples/listing
 # make test        the gate: everything proved from nothing, every must-fail edit refused, every other test
-# make bench       what calls take, against an implementation written for speed; not a part of the gate
 # make staticlib   the archive for C and C++, target/staticlib/libexport.a; include/burst.h declares what it has
-.PHONY: test bench staticlib
+# make bench       what calls take, against an implementation written for speed; not a part of the gate
+.PHONY: run test staticlib bench
+
+run:
+	@rt check listing
+	@target/bin/listing < examples/listing/levels
 
 test:
 	@tests/tally tests/layout 'rt ci' tests/statements $(wildcard tests/*_test)
