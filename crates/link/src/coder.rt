@@ -65,7 +65,7 @@ fn join(part: &mut [u64], rows: &[u64], count: usize, info: u64) -> u64
     w % 2
 }
 
-// A step that no refusal applies to: the turn's stream is lent on, and the turn advances. The table's rows are lent, so as not to be copied.
+// A step that no refusal applies to: the turn's stream is lent on, and the turn advances.
 fn taken(t: Table, rows: &[u64; 15], state: &mut [u64], info: u64) -> u64
     requires { ⌜ (coderFault t (now state) info ≡ 0) × (now rows ≡ t .rows) ⌝ }
     ensures block { λ r. ⌜ r ≡ codedBlock t (now (state .entry)) info ⌝ }
@@ -80,16 +80,25 @@ fn taken(t: Table, rows: &[u64; 15], state: &mut [u64], info: u64) -> u64
     info + (parity << (width as u64))
 }
 
+// Any step, on a table whose rows are lent beside it: no step copies them.
+fn code_with(t: Table, rows: &[u64; 15], state: &mut [u64], info: u16) -> CodeAnswer
+    requires { ⌜ now rows ≡ t .rows ⌝ }
+    ensures answer { λ r. ⌜ r ≡ codeAnswer t (now (state .entry)) info ⌝ }
+    ensures memory { λ r. ⌜ now (state .exit) ≡ codeMemory t (now (state .entry)) info ⌝ }
+{
+    let block = info as u64;
+    let fits = is_fit(t.symbols, t.span, t.depth, rows);
+    let number = fault(t, fits, state, block);
+    if number != 0 {
+        return CodeAnswer::Refused(number);
+    }
+    CodeAnswer::Coded(taken(t, rows, state, block) as u16)
+}
+
 pub fn code(t: Table, state: &mut [u64], info: u16) -> CodeAnswer
     ensures answer { λ r. ⌜ r ≡ codeAnswer t (now (state .entry)) info ⌝ }
     ensures memory { λ r. ⌜ now (state .exit) ≡ codeMemory t (now (state .entry)) info ⌝ }
     ensures numbers { λ r. ⌜ Answered (coderFault t (now (state .entry)) info) (codedBlock t (now (state .entry)) info ∷ []) (coderNext t (now (state .entry)) info) (now (state .entry)) (codeNumbers r) (now (state .exit)) ⌝ }
 {
-    let block = info as u64;
-    let fits = is_fit(t.symbols, t.span, t.depth, &t.rows);
-    let number = fault(t, fits, state, block);
-    if number != 0 {
-        return CodeAnswer::Refused(number);
-    }
-    CodeAnswer::Coded(taken(t, &t.rows, state, block) as u16)
+    code_with(t, &t.rows, state, info)
 }

@@ -234,7 +234,7 @@ fn next_fill(delay: u64, fill: u64) -> u64
     if fill < delay { fill + 1 } else { fill }
 }
 
-// One block of the turn's stream: its part is lent on, and so are the table's rows, so as not to be copied.
+// One block of the turn's stream: its part is lent on.
 fn decode_stream(t: Table, rows: &[u64; 15], state: &mut [u64], received: u64) -> Delivered
     requires { ⌜ (decoderFault t (now state) received ≡ 0) × (now rows ≡ t .rows) ⌝ }
     ensures record { λ r. ⌜ r ≡ delivered t (now (state .entry)) received ⌝ }
@@ -274,16 +274,25 @@ fn taken(t: Table, rows: &[u64; 15], state: &mut [u64], received: u64) -> Decode
     }
 }
 
+// Any step, on a table whose rows are lent beside it: no step copies them.
+fn decode_with(t: Table, rows: &[u64; 15], state: &mut [u64], received: u16) -> DecodeAnswer
+    requires { ⌜ now rows ≡ t .rows ⌝ }
+    ensures answer { λ r. ⌜ r ≡ decodeAnswer t (now (state .entry)) received ⌝ }
+    ensures memory { λ r. ⌜ now (state .exit) ≡ decodeMemory t (now (state .entry)) received ⌝ }
+{
+    let block = received as u64;
+    let fits = is_fit(t.symbols, t.span, t.depth, rows);
+    let number = fault(t, fits, state, block);
+    if number != 0 {
+        return DecodeAnswer::Refused(number);
+    }
+    taken(t, rows, state, block)
+}
+
 pub fn decode(t: Table, state: &mut [u64], received: u16) -> DecodeAnswer
     ensures answer { λ r. ⌜ r ≡ decodeAnswer t (now (state .entry)) received ⌝ }
     ensures memory { λ r. ⌜ now (state .exit) ≡ decodeMemory t (now (state .entry)) received ⌝ }
     ensures numbers { λ r. ⌜ Answered (decoderFault t (now (state .entry)) received) (decodeValues t (now (state .entry)) received) (decoderNext t (now (state .entry)) received) (now (state .entry)) (decodeNumbers r) (now (state .exit)) ⌝ }
 {
-    let block = received as u64;
-    let fits = is_fit(t.symbols, t.span, t.depth, &t.rows);
-    let number = fault(t, fits, state, block);
-    if number != 0 {
-        return DecodeAnswer::Refused(number);
-    }
-    taken(t, &t.rows, state, block)
+    decode_with(t, &t.rows, state, received)
 }

@@ -28,6 +28,12 @@ fn clear(state: &mut [u64])
     }
 }
 
+fn fits(t: Table) -> bool
+    ensures { λ r. ⌜ r ≡ fit t ⌝ }
+{
+    is_fit(t.symbols, t.span, t.depth, &t.rows)
+}
+
 // The length is looked at once the table is known to be fit, which is why the answer is that of any fit table.
 fn start(state: &mut [u64], words: usize) -> StartAnswer
     ensures answer { λ r. ⌜ ((t : Table) → fit t ≡ true → r ≡ startAnswer t words (now (state .entry))) ⌝ }
@@ -45,7 +51,7 @@ pub fn start_coder(t: Table, state: &mut [u64]) -> StartAnswer
     ensures memory { λ r. ⌜ now (state .exit) ≡ startMemory t (coderWords t) (now (state .entry)) ⌝ }
     ensures numbers { λ r. ⌜ Answered (startFault t (coderWords t) (now (state .entry))) [] (started (coderWords t)) (now (state .entry)) (startNumbers r) (now (state .exit)) ⌝ }
 {
-    if is_fit(t.symbols, t.span, t.depth, &t.rows) {
+    if fits(t) {
         start(state, 1 + t.depth)
     } else {
         StartAnswer::Refused(12)
@@ -57,7 +63,7 @@ pub fn start_decoder(t: Table, state: &mut [u64]) -> StartAnswer
     ensures memory { λ r. ⌜ now (state .exit) ≡ startMemory t (decoderWords t) (now (state .entry)) ⌝ }
     ensures numbers { λ r. ⌜ Answered (startFault t (decoderWords t) (now (state .entry))) [] (started (decoderWords t)) (now (state .entry)) (startNumbers r) (now (state .exit)) ⌝ }
 {
-    if is_fit(t.symbols, t.span, t.depth, &t.rows) {
+    if fits(t) {
         start(state, 2 + t.depth * (t.span + 1))
     } else {
         StartAnswer::Refused(12)

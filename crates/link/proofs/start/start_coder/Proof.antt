@@ -10,13 +10,13 @@ use Rattle.link.specs.declared.start.StartAnswer.the-variants.{Refused}
 use Rattle.link.proofs.start.start_coder.Statement.{statement}
 use Rattle.link.proofs.start.start_coder.Tie as tie
 
-is-fit-requires : tie.Need-is-fit-requires
-is-fit-requires c κs = search needs
+fits-requires : tie.Need-fits-requires
+fits-requires c κs = search needs
 
 add-start : tie.Need-add-start
 add-start c =
-    let t = c .before .before .before .before .before .before .args .t1 in
-    let z = fit-facts t (sym (c .before .before .is-fit .ensures) ∙ c .before .if1 .taken) in
+    let t = c .before .before .before .before .before .args .t in
+    let z = fit-facts t (sym (c .before .before .before .fits2 .ensures) ∙ c .before .before .if1 .taken) in
     record { fits = omega arith }
 
 start-requires : tie.Need-start-requires
@@ -27,18 +27,18 @@ same-length c = search needs
 
 returns : tie.Need-returns
 returns c =
-    let a = c .before .before .before .before .before .before .before .before .before .args in
-    let f = sym (c .before .before .before .before .before .is-fit .ensures) ∙ c .before .before .before .before .if1 .taken in
-    start-told (a .t1) (coderWords (a .t1)) (a .state .now) (c .before .before .start .result) (c .before .before .start .last .0)
-    (c .before .before .start .ensures .0 (a .t1) f) (c .before .before .start .ensures .1 (a .t1) f)
+    let a = c .before .before .before .before .before .before .before .before .args in
+    let f = sym (c .before .before .before .before .before .before .fits2 .ensures) ∙ c .before .before .before .before .before .if1 .taken in
+    start-told (a .t) (coderWords (a .t)) (a .state .now) (c .before .before .start .result) (c .before .before .start .last .0)
+    (c .before .before .start .ensures .0 (a .t) f) (c .before .before .start .ensures .1 (a .t) f)
 
 returns-2 : tie.Need-returns-2
 returns-2 c =
-    let a = c .before .before .before .before .before .args in
-    let f = sym (c .before .is-fit .ensures) ∙ c .if1 .left in
-    let e = start-refuses (a .t1) (coderWords (a .t1)) (a .state .now) 12 (start-fault (a .t1) (coderWords (a .t1)) (a .state .now) ∙ simp f) (omega arith) in
-    start-told (a .t1) (coderWords (a .t1)) (a .state .now) (Refused 12) (a .state .now) (e .0) (e .1)
+    let a = c .before .before .before .args in
+    let f = sym (c .before .fits2 .ensures) ∙ c .if1 .left in
+    let e = start-refuses (a .t) (coderWords (a .t)) (a .state .now) 12 (start-fault (a .t) (coderWords (a .t)) (a .state .now) ∙ simp f) (omega arith) in
+    start-told (a .t) (coderWords (a .t)) (a .state .now) (Refused 12) (a .state .now) (e .0) (e .1)
 
 pub start-coder-spec : {M : Type 1} → statement M
 start-coder-spec =
-    tie.close (tie.spec is-fit-requires add-start start-requires same-length returns returns-2)
+    tie.close (tie.spec fits-requires add-start start-requires same-length returns returns-2)
