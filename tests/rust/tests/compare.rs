@@ -2,7 +2,7 @@
 
 use burst_compare::cases::*;
 use burst_compare::oracle::{self, Mark, ReadRefusal, Table, Triple};
-use burst_compare::{linked, Coded, Decoded, Reading};
+use burst_compare::{linked, program, Coded, Decoded, Reading};
 use std::ops::Range;
 use std::time::Instant;
 
@@ -878,6 +878,41 @@ fn malformed_memory_takes_few(tally: &mut Tally, draw: &mut Draw) {
     }
 }
 
+// ---- Groups: the listing program ----
+
+/// Compares what the program prints, and returns what it should print.
+fn compare_listing(tally: &mut Tally, input: &[u8]) -> String {
+    let expected = oracle::listing(input);
+    let got = program::listing(input).unwrap_or_else(|error| format!("target/bin/listing: {error}"));
+    tally.calls += 1;
+    tally.check(got == expected, || {
+        let same = expected.lines().zip(got.lines()).take_while(|(due, line)| due == line).count();
+        let (due, line) = (expected.lines().nth(same), got.lines().nth(same));
+        let head = &input[..input.len().min(12)];
+        format!("listing of {} bytes {head:?}..: line {same} should be {due:?}, got {line:?}", input.len())
+    });
+    expected
+}
+
+/// Every n to 17 and m to 66, each pair twice, and inputs without an m. The words count the listings that have them.
+fn listings(tally: &mut Tally, draw: &mut Draw) {
+    let mut words = ["clean", "held", "corrected", "doubtful", "refused 11", "refused 15", "odd byte"]
+        .map(|word| (word, 0));
+    compare_listing(tally, &[]);
+    for n in 0..=17 {
+        compare_listing(tally, &[n as u8]);
+        for m in (0..=66).chain(0..=66) {
+            let expected = compare_listing(tally, &listing_input(draw, n, m));
+            for (word, count) in &mut words {
+                *count += u64::from(expected.contains(*word));
+            }
+        }
+    }
+    for (word, count) in words {
+        tally.check(count >= 100, || format!("only {count} listings have {word:?}"));
+    }
+}
+
 // ---- Everything reached ----
 
 fn everything_reached(tally: &mut Tally, _: &mut Draw) {
@@ -895,7 +930,7 @@ fn everything_reached(tally: &mut Tally, _: &mut Draw) {
 
 type Group = (&'static str, fn(&mut Tally, &mut Draw));
 
-const GROUPS: [Group; 23] = [
+const GROUPS: [Group; 24] = [
     ("examples of tables", examples_of_tables),
     ("examples of steps", examples_of_steps),
     ("bytes of every refusal and place", bytes_of_every_refusal),
@@ -917,6 +952,7 @@ const GROUPS: [Group; 23] = [
     ("least error by trying", least_error_by_trying),
     ("after a fade", after_a_fade),
     ("malformed memories take few", malformed_memory_takes_few),
+    ("the listing program", listings),
     ("triangle forced", triangle_forced),
     ("everything reached", everything_reached),
 ];
