@@ -3,24 +3,37 @@
  *
  * Link with libexport.a (make staticlib), which is for x86-64 and needs memcpy, memmove and memset of the C library. Nothing
  * here keeps a state of its own, allocates, or calls back: a caller lends all memory, and a call writes only what its
- * comment says. What the comments say is proved of the functions, for every value of every argument, and that every call
- * ends; docs/ASSURANCE.md has the statements.
+ * comment says. What the comments say of answers and memory is proved, for every value of every argument, and so is that
+ * every call ends; docs/ASSURANCE.md has the statements. That this header fits the archive is tested.
  *
  * What a caller owes, as C cannot say it: a pointer is not null, not even with a length of 0, is aligned for its type,
  * and has behind it as many elements as the length says (18 for a table); what a call writes overlaps nothing else that
- * it is handed, and no other thread touches what a call is handed until it returns.
+ * it is handed; and until it returns no other thread writes what it is handed, nor reads what it writes. A block is a
+ * uint16_t: a number above 65,535 is cut to its low 16 bits by C before the call, and so is not itself refused.
  *
  * The code. A block has n symbols (bits): n - 1 of information, symbol j with weight 2^(j-1), and above them the parity,
- * with weight 2^(n-1). N is the decoding span, m the depth: blocks are dealt in turn to m streams. n is 2 to 16, N is 2
- * to 64, m is 1 to 64. Rows 1 to n - 1 are numbers below 2^N.
+ * symbol n. N is the decoding span, m the depth: blocks are dealt in turn to m streams. n is 2 to 16, N is 2 to 64, m is
+ * 1 to 64. Row j, 1 to n - 1, is a number below 2^N whose bit k is the coefficient of D^k in generator j; row n is 1
+ * always. In one stream the parity of block t is the exclusive or, over j from 1 to n - 1 and all k, of bit k of row j
+ * times symbol j of block t - k; blocks before the start are 0.
+ *
+ * An error block is below 2^n and has a one for each wrong symbol. Its image is the exclusive or of the rows of its ones.
+ * The image shifted by l is the image times 2^l, bits N and above dropped. A table is unsuitable if for some l from 1 to
+ * N - 1 the image of some error block e0 that is not 0 is the image of some error block e1, 0 allowed, shifted by l.
  *
  * A table is 18 numbers: n, N, m, then rows 1 to 15 (row j at table[2 + j]). Of a table that is handed in, rows past
  * n - 1 do not matter. Of a table that is given back they are 0. It is a plain value: it may be copied and kept.
  *
+ * Memory. A coder's words are the turn, then a pending word for each stream. A decoder's are the turn, the fill, then for
+ * each stream its pending word, its syndrome word, and N - 1 delayed blocks, the information as received, oldest first.
+ * The turn, 0 to m - 1, is the stream of the next block; the fill grows by one a step to m * (N - 1) and stays. Bit k of a
+ * pending word is what past blocks of the stream (in a decoder, as received) add to the parity k blocks after its next one.
+ * A step writes the turn, a decoder's fill, and the words of the turn's stream, and no others.
+ *
  * Refusals. A call that refuses returns the number of the first reason that applies, and 0 means that it did not refuse:
  *
  *   reading a table, records left to right (place: the offset of the record's first byte)
- *      1  the bytes end where a kind byte is due
+ *      1  the bytes end where a kind byte is due (place: there, which is their length)
  *      2  the kind is not 0, 1 or 2
  *      3  the body is cut short
  *      4  the sizes are not the first record, or come again
@@ -56,8 +69,8 @@ struct burst_reading {
     uint64_t refused; /* 0: accepted; else 1 to 10 */
     uint64_t place;   /* of refusals 1 to 9: the offset into the bytes */
     uint64_t l;       /* of refusal 10: a shift, 1 to N - 1, */
-    uint64_t e0;      /* an error block that is not 0, */
-    uint64_t e1;      /* and an error block whose image, shifted by l, is that of e0 */
+    uint64_t e0;      /* an error block, below 2^n and not 0, */
+    uint64_t e1;      /* and an error block, below 2^n and perhaps 0, whose image shifted by l is that of e0 */
 };
 
 /* What a coder's step says. */
@@ -69,7 +82,7 @@ struct burst_coded {
 /* What a decoder's step says: all 0 but its number if it is refused, all 0 if nothing is delivered yet. */
 struct burst_decoded {
     uint64_t refused; /* 0, or 12 to 15 */
-    uint64_t info;    /* the information of the block that was taken m * (N - 1) steps before, corrected */
+    uint64_t info;    /* the information of the block that was taken m * (N - 1) blocks before, corrected */
     uint64_t mark;    /* 0 nothing yet, 1 clean, 2 held, 3 corrected, 4 doubtful */
     uint64_t error;   /* the error block that was removed, below 2^n, where the mark is 3; else 0 */
 };
@@ -79,8 +92,8 @@ struct burst_decoded {
  * byte j, then eight bytes of row j, low byte first. Kind 0, end: no body. Sizes come first, rows in any order, end last.
  * Any bytes may be handed in.
  *
- * Accepted, the table has the sizes and rows of the records, and is suitable: no two error patterns that must differ look
- * alike. On a refusal, 1 to 10, all 18 numbers are written as 0. The bytes are only read.
+ * Accepted, the table has the sizes and rows of the records, and is suitable. On a refusal, 1 to 10, all 18 numbers are
+ * written as 0. The bytes are only read.
  */
 struct burst_reading burst_read(const uint8_t *bytes, size_t length, uint64_t table[18]);
 
@@ -114,16 +127,22 @@ uint64_t burst_start_decoder(const uint64_t table[18], uint64_t *words, size_t c
 struct burst_coded burst_code(const uint64_t table[18], uint64_t *words, size_t count, uint16_t info);
 
 /*
- * Takes one received block, which is below 2^n, on a decoder's memory of 2 + m * (N + 1) words, and delivers the one that
- * was taken m * (N - 1) steps before, corrected. The first m * (N - 1) steps of a started memory deliver nothing.
+ * Takes one received block, which is below 2^n, on a decoder's memory of 2 + m * (N + 1) words, and delivers the oldest
+ * delayed block of its stream, corrected: the one that was taken m * (N - 1) steps before, counting steps that were not
+ * refused. The first m * (N - 1) of these on a started memory deliver nothing.
  *
- * The mark tells what the decoder found in the last N terms of the syndrome of the block's stream, the register: clean, it
- * is 0; corrected, it is the image of an error block, and the least such block was removed; held, it is the image of none
- * and its bit 0 is 0; doubtful, it is the image of none and its bit 0 is 1. A doubtful block may be wrong.
+ * A term of the syndrome is the parity of the received information, exclusive or the received parity. The register is the
+ * stream's syndrome word with the new term as bit N - 1: the last N terms of the stream since the word was last cleared,
+ * and 0 before them. If the register is the image of an error block, the least such block is removed from what is
+ * delivered and the word is cleared; if not, the word is the register halved, its bit 0 dropped. The mark tells what was
+ * found: clean, the register is 0; corrected, it is not 0 and is the image of an error block; held, it is the image of
+ * none and its bit 0 is 0; doubtful, it is the image of none and its bit 0 is 1.
  *
- * One table throughout, read or made; both memories started; the coded blocks handed over in turn, wrong ones only in
- * bursts within m blocks with at least m * (N - 1) right ones between: then every block delivered is right, and none is
- * doubtful. From any other memory, that holds once 2 * m * (N - 1) right blocks were taken.
+ * One table throughout, read or made; both memories started, and then written by steps alone; every coded block taken, in
+ * order, wrong ones only in bursts within m blocks, with at least m * (N - 1) blocks between, all right: then every block
+ * delivered is right, and none is doubtful. From any other memory, and after any other damage, that holds once
+ * 2 * m * (N - 1) right blocks in a row were taken. A doubtful block may be wrong, and so may any other, where bursts were
+ * longer or closer than this.
  *
  * Refused, 12 to 15, it writes no word. The table is only read, and its suitability is not tested.
  */

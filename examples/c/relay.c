@@ -1,6 +1,6 @@
 /*
  * A station codes water levels, a fade damages a burst of m blocks on the way, and a relay decodes them.
- * Prints what was delivered, and fails if a call is refused or a delivered level is not the one that was sent.
+ * Prints what was delivered, and fails if a call is refused or the levels delivered are not those that were sent, all of them.
  */
 #include <inttypes.h>
 #include <stdio.h>
@@ -25,7 +25,7 @@ static const char *const marks[] = {"nothing yet", "clean", "held", "corrected",
 static int refused(const char *call, uint64_t number)
 {
     if (number != 0) {
-        printf("%s refused %" PRIu64 "\n", call, number);
+        fprintf(stderr, "%s refused %" PRIu64 "\n", call, number);
     }
     return number != 0;
 }
@@ -35,6 +35,7 @@ int main(void)
     uint64_t table[18];
     uint64_t coder[CODER_WORDS];
     uint64_t decoder[DECODER_WORDS];
+    int delivered = 0;
     int wrong = 0;
     int block;
 
@@ -61,11 +62,13 @@ int main(void)
         }
         if (got.mark != 0) {
             printf("%d %" PRIu64 " %s %" PRIu64 "\n", block - DELAY, got.info, marks[got.mark], got.error);
+            delivered++;
             wrong += block < DELAY || got.info != levels[block - DELAY];
         }
     }
-    if (wrong != 0) {
-        printf("%d wrong\n", wrong);
+    if (delivered != LEVELS || wrong != 0) {
+        fprintf(stderr, "%d levels sent, %d delivered, %d of them wrong\n", LEVELS, delivered, wrong);
+        return 1;
     }
-    return wrong != 0;
+    return 0;
 }

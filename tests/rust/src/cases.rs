@@ -1,6 +1,6 @@
-//! Drawn cases: tables, table bytes, memories and fades, repeatable from a seed.
+//! Drawn cases: tables, table bytes, memories, fades and inputs of the listing program, repeatable from a seed.
 
-use crate::oracle::{image, is_below, make_table, shifted_image, unsuitable, Table, MOST_ROWS};
+use crate::oracle::{code, image, is_below, make_table, shifted_image, unsuitable, Table, MOST_ROWS};
 
 /// The xorshift generator.
 pub struct Draw(u64);
@@ -500,4 +500,51 @@ fn burst(draw: &mut Draw, n: u64, depth: u64) -> Vec<u64> {
             }
         })
         .collect()
+}
+
+// ---- Inputs of the listing program ----
+
+/// A few blocks, enough for deliveries, or about as many as fill one or two of the program's parts of 1,024.
+fn block_count(draw: &mut Draw, delay: u64) -> u64 {
+    match draw.below(6) {
+        0 => draw.below(10),
+        1 => draw.between(1_021, 1_027),
+        2 => draw.between(2_045, 2_051),
+        _ => delay + draw.below(2 * delay),
+    }
+}
+
+/// What a started coder sends, with no, few or many blocks damaged.
+fn received_blocks(draw: &mut Draw, table: &Table, count: u64) -> Vec<u16> {
+    let damaged = draw.pick(&[u64::MAX, 200, 20, 2]); // one block in so many
+    let mut coder = vec![0; table.coder_words()];
+    let mut blocks = Vec::new();
+    for _ in 0..count {
+        let info = draw.bits(table.n - 1);
+        let sent = code(table, &mut coder, info).expect("a started memory");
+        let error = if draw.once_in(damaged) { wrong(draw, table.n) } else { 0 };
+        blocks.push((sent ^ error) as u16);
+    }
+    blocks
+}
+
+/// Input of the listing program: n, m and blocks, one that is refused among them now and then, and at times an
+/// odd byte at the end. Any bytes follow sizes that are refused.
+pub fn listing_input(draw: &mut Draw, n: u64, m: u64) -> Vec<u8> {
+    let mut input = vec![n as u8, m as u8];
+    let Ok(table) = make_table(n, m) else {
+        input.extend(random_bytes(draw));
+        return input;
+    };
+    let count = block_count(draw, table.delay());
+    let mut blocks = received_blocks(draw, &table, count);
+    if draw.once_in(4) {
+        let at = draw.below(count + 1) as usize;
+        blocks.splice(at..at, too_large_block(draw, n));
+    }
+    input.extend(blocks.iter().flat_map(|block| block.to_le_bytes()));
+    if draw.once_in(3) {
+        input.push(draw.bits(8) as u8);
+    }
+    input
 }

@@ -1,4 +1,5 @@
-//! The plain implementation of the burst codec and a safe wrapper over the proved one's C interface.
+//! The plain implementation of the burst codec, a safe wrapper over the proved one's C interface, and its listing
+//! program, run.
 
 pub mod cases;
 pub mod oracle;
@@ -87,5 +88,30 @@ pub mod linked {
     pub fn decode(table: &Numbers, words: &mut [u64], received: u16) -> Decoded {
         // SAFETY: as for starting.
         unsafe { burst_decode(table.as_ptr(), words.as_mut_ptr(), words.len(), received) }
+    }
+}
+
+/// The listing program.
+pub mod program {
+    use std::io::{Error, Result, Write};
+    use std::process::{Command, Stdio};
+    use std::thread;
+
+    const LISTING: &str = concat!(env!("CARGO_MANIFEST_DIR"), "/../../target/bin/listing");
+
+    /// What it prints on this input, or why it could not be run to its end.
+    pub fn listing(input: &[u8]) -> Result<String> {
+        let mut child = Command::new(LISTING).stdin(Stdio::piped()).stdout(Stdio::piped()).spawn()?;
+        let stdin = child.stdin.take();
+        let output = thread::scope(|scope| {
+            // Written beside the reading, so that neither pipe waits for the other. A program that stopped reads
+            // no more, and that is no error.
+            scope.spawn(move || stdin.map(|mut pipe| pipe.write_all(input)));
+            child.wait_with_output()
+        })?;
+        if output.status.code().is_none() {
+            return Err(Error::other(output.status.to_string()));
+        }
+        String::from_utf8(output.stdout).map_err(Error::other)
     }
 }

@@ -2,7 +2,7 @@
 
 use burst_compare::cases::*;
 use burst_compare::oracle::{self, Mark, ReadRefusal, Table, Triple};
-use burst_compare::{linked, Coded, Decoded, Reading};
+use burst_compare::{linked, program, Coded, Decoded, Numbers, Reading};
 use std::ops::Range;
 use std::time::Instant;
 
@@ -167,26 +167,6 @@ fn compare_make(tally: &mut Tally, n: u64, m: u64) {
     });
 }
 
-fn compare_start_coder(tally: &mut Tally, table: &Table, twin: &mut Twin) {
-    let expected = oracle::start_coder(table, twin.plain()).err().unwrap_or(0);
-    let got = linked::start_coder(&table.numbers(), twin.linked());
-    tally.count(expected);
-    let call = || format!("start coder {table:?} with {} words", twin.lent.len());
-    tally.check(got == expected, || format!("{}: expected {expected}, got {got}", call()));
-    let call = call();
-    twin.check(tally, || call);
-}
-
-fn compare_start_decoder(tally: &mut Tally, table: &Table, twin: &mut Twin) {
-    let expected = oracle::start_decoder(table, twin.plain()).err().unwrap_or(0);
-    let got = linked::start_decoder(&table.numbers(), twin.linked());
-    tally.count(expected);
-    let call = || format!("start decoder {table:?} with {} words", twin.lent.len());
-    tally.check(got == expected, || format!("{}: expected {expected}, got {got}", call()));
-    let call = call();
-    twin.check(tally, || call);
-}
-
 fn plain_coded(answer: Result<u64, u64>) -> Coded {
     match answer {
         Ok(block) => Coded { refused: 0, block },
@@ -234,6 +214,109 @@ fn compare_decode(tally: &mut Tally, table: &Table, twin: &mut Twin, received: u
     got
 }
 
+// ---- Coder and decoder alike ----
+
+/// What a coder and a decoder do not share.
+struct Side {
+    name: &'static str,
+    plain_start: fn(&Table, &mut [u64]) -> Result<(), u64>,
+    linked_start: fn(&Numbers, &mut [u64]) -> u64,
+    refusal: fn(&Table, &[u64], u64) -> Option<u64>,
+    compare: fn(&mut Tally, &Table, &mut Twin, u16),
+    memory: fn(&mut Draw, &Table) -> Vec<u64>,
+    /// How many bits a block has that a step is handed, by n.
+    bits: fn(u64) -> u64,
+}
+
+const CODER: Side = Side {
+    name: "coder",
+    plain_start: oracle::start_coder,
+    linked_start: linked::start_coder,
+    refusal: oracle::code_refusal,
+    compare: |tally, table, twin, info| _ = compare_code(tally, table, twin, info),
+    memory: any_coder_memory,
+    bits: |n| n - 1,
+};
+
+const DECODER: Side = Side {
+    name: "decoder",
+    plain_start: oracle::start_decoder,
+    linked_start: linked::start_decoder,
+    refusal: oracle::decode_refusal,
+    compare: |tally, table, twin, received| _ = compare_decode(tally, table, twin, received),
+    memory: any_decoder_memory,
+    bits: |n| n,
+};
+
+impl Side {
+    fn compare_start(&self, tally: &mut Tally, table: &Table, twin: &mut Twin) {
+        let expected = (self.plain_start)(table, twin.plain()).err().unwrap_or(0);
+        let got = (self.linked_start)(&table.numbers(), twin.linked());
+        tally.count(expected);
+        let call = format!("start {} {table:?} with {} words", self.name, twin.lent.len());
+        tally.check(got == expected, || format!("{call}: expected {expected}, got {got}"));
+        twin.check(tally, || call);
+    }
+
+    /// One step, now and then of a kind that is mostly refused.
+    fn any_step(&self, tally: &mut Tally, draw: &mut Draw, table: &Table, twin: &mut Twin) {
+        let block = any_block(draw, (self.bits)(table.n));
+        match draw.below(24) {
+            0 => (self.compare)(tally, &unfit_table(draw, table), twin, block),
+            1 => {
+                lend_some(draw, twin);
+                (self.compare)(tally, table, twin, block);
+                twin.lend_all();
+            }
+            _ => (self.compare)(tally, table, twin, block),
+        }
+    }
+
+    fn steps(&self, tally: &mut Tally, draw: &mut Draw, runs: u64, length: u64) {
+        for _ in 0..runs {
+            let table = any_table(draw);
+            let mut twin = Twin::new((self.memory)(draw, &table));
+            for _ in 0..length {
+                self.any_step(tally, draw, &table, &mut twin);
+            }
+        }
+    }
+
+    /// A step on the run's own memory that is refused, if the drawn one is.
+    fn refused_step(&self, tally: &mut Tally, draw: &mut Draw, table: &Table, twin: &mut Twin) {
+        let kind = draw.below(4);
+        let handed = match kind {
+            0 => unfit_table(draw, table),
+            1 => other_table(draw, table),
+            _ => table.clone(),
+        };
+        let block = too_large_block(draw, (self.bits)(handed.n.clamp(2, 16))).unwrap_or(0);
+        if kind == 2 {
+            lend_some(draw, twin);
+        }
+        if (self.refusal)(&handed, twin.plain(), u64::from(block)).is_some() {
+            (self.compare)(tally, &handed, twin, block);
+        }
+        twin.lend_all();
+    }
+
+    /// Steps on every table of these sizes and every memory within the bounds, which are one past what is fit, so
+    /// that refusals 12, 14 and 15 come by themselves.
+    fn every_small(&self, tally: &mut Tally, (n, span, depth): (u64, u64, u64), mut bounds: Vec<u64>) {
+        bounds.push(1 << (self.bits)(n));
+        let rows = vec![1 << span; n as usize - 1];
+        let mut twin = Twin::new(Vec::new());
+        each_tuple(&rows, |rows| {
+            let table = Table::new(n, span, depth, rows);
+            each_tuple(&bounds, |tuple| {
+                let (block, words) = tuple.split_last().unwrap_or((&0, &[]));
+                twin.set(words);
+                (self.compare)(tally, &table, &mut twin, *block as u16);
+            });
+        });
+    }
+}
+
 // ---- Groups: the scope's examples ----
 
 fn z() -> Table {
@@ -271,12 +354,12 @@ fn examples_of_tables(tally: &mut Tally, draw: &mut Draw) {
 
 fn examples_of_steps(tally: &mut Tally, _: &mut Draw) {
     let mut coder = Twin::new(vec![7; 2]);
-    compare_start_coder(tally, &z(), &mut coder);
+    CODER.compare_start(tally, &z(), &mut coder);
     let sent = [1, 1, 0, 0, 0].map(|info| compare_code(tally, &z(), &mut coder, info).block);
     tally.check(sent == [1, 3, 2, 2, 2], || format!("T10 sent {sent:?}"));
 
     let mut decoder = Twin::new(vec![7; 7]);
-    compare_start_decoder(tally, &z(), &mut decoder);
+    DECODER.compare_start(tally, &z(), &mut decoder);
     let marks = [2, 2, 0, 0].map(|received| compare_decode(tally, &z(), &mut decoder, received).mark);
     tally.check(marks == [0, 0, 0, 4], || format!("T11 marks {marks:?}"));
 
@@ -458,9 +541,9 @@ fn starting(tally: &mut Tally, draw: &mut Draw) {
         let fit = any_fit_table(draw);
         let table = if draw.once_in(4) { unfit_table(draw, &fit) } else { fit.clone() };
         let count = start_count(draw, fit.coder_words());
-        compare_start_coder(tally, &table, &mut Twin::new(random_words(draw, count)));
+        CODER.compare_start(tally, &table, &mut Twin::new(random_words(draw, count)));
         let count = start_count(draw, fit.decoder_words());
-        compare_start_decoder(tally, &table, &mut Twin::new(random_words(draw, count)));
+        DECODER.compare_start(tally, &table, &mut Twin::new(random_words(draw, count)));
     }
 }
 
@@ -489,49 +572,21 @@ fn each_tuple(bounds: &[u64], mut call: impl FnMut(&[u64])) {
     }
 }
 
-/// Bounds are one past what is well-formed, so refusals 12, 14 and 15 come by themselves.
-fn every_small_decoder(tally: &mut Tally, n: u64, span: u64, depth: u64) {
-    let rows = vec![1 << span; n as usize - 1];
-    let mut bounds = vec![depth, depth * (span - 1) + 1];
-    for _ in 0..depth {
-        bounds.extend([1 << (span - 1); 2]);
-        bounds.extend(vec![1 << (n - 1); span as usize - 1]);
-    }
-    bounds.push(1 << n);
-    let mut twin = Twin::new(Vec::new());
-    each_tuple(&rows, |rows| {
-        let table = Table::new(n, span, depth, rows);
-        each_tuple(&bounds, |tuple| {
-            let (received, words) = tuple.split_last().unwrap_or((&0, &[]));
-            twin.set(words);
-            compare_decode(tally, &table, &mut twin, *received as u16);
-        });
-    });
-}
-
-fn every_small_coder(tally: &mut Tally, n: u64, span: u64, depth: u64) {
-    let rows = vec![1 << span; n as usize - 1];
-    let mut bounds = vec![depth];
-    bounds.extend(vec![1 << (span - 1); depth as usize]);
-    bounds.push(1 << (n - 1));
-    let mut twin = Twin::new(Vec::new());
-    each_tuple(&rows, |rows| {
-        let table = Table::new(n, span, depth, rows);
-        each_tuple(&bounds, |tuple| {
-            let (info, words) = tuple.split_last().unwrap_or((&0, &[]));
-            twin.set(words);
-            compare_code(tally, &table, &mut twin, *info as u16);
-        });
-    });
-}
-
 fn every_small_memory(tally: &mut Tally, _: &mut Draw) {
-    for (n, span, depth) in [(2, 2, 1), (2, 3, 1), (2, 2, 2), (3, 2, 1)] {
-        every_small_decoder(tally, n, span, depth);
+    for sizes in [(2, 2, 1), (2, 3, 1), (2, 2, 2), (3, 2, 1), (2, 4, 1)] {
+        let (n, span, depth) = sizes;
+        let mut bounds = vec![depth, depth * (span - 1) + 1];
+        for _ in 0..depth {
+            bounds.extend([1 << (span - 1); 2]);
+            bounds.extend(vec![1 << (n - 1); span as usize - 1]);
+        }
+        DECODER.every_small(tally, sizes, bounds);
     }
-    every_small_decoder(tally, 2, 4, 1);
-    for (n, span, depth) in [(2, 2, 1), (2, 4, 2), (2, 3, 3), (3, 3, 2), (3, 4, 1), (4, 2, 2)] {
-        every_small_coder(tally, n, span, depth);
+    for sizes in [(2, 2, 1), (2, 4, 2), (2, 3, 3), (3, 3, 2), (3, 4, 1), (4, 2, 2)] {
+        let (_, span, depth) = sizes;
+        let mut bounds = vec![depth];
+        bounds.extend(vec![1 << (span - 1); depth as usize]);
+        CODER.every_small(tally, sizes, bounds);
     }
 }
 
@@ -567,43 +622,6 @@ fn lend_some(draw: &mut Draw, twin: &mut Twin) {
     twin.lend(part);
 }
 
-/// One coder step, now and then of a kind that is mostly refused.
-fn any_coder_step(tally: &mut Tally, draw: &mut Draw, table: &Table, twin: &mut Twin) -> Coded {
-    let info = any_block(draw, table.n - 1);
-    let disturbance = draw.below(24);
-    match disturbance {
-        0 => {
-            let unfit = unfit_table(draw, table);
-            compare_code(tally, &unfit, twin, info)
-        }
-        1 => {
-            lend_some(draw, twin);
-            let coded = compare_code(tally, table, twin, info);
-            twin.lend_all();
-            coded
-        }
-        _ => compare_code(tally, table, twin, info),
-    }
-}
-
-fn any_decoder_step(tally: &mut Tally, draw: &mut Draw, table: &Table, twin: &mut Twin) -> Decoded {
-    let received = any_block(draw, table.n);
-    let disturbance = draw.below(24);
-    match disturbance {
-        0 => {
-            let unfit = unfit_table(draw, table);
-            compare_decode(tally, &unfit, twin, received)
-        }
-        1 => {
-            lend_some(draw, twin);
-            let decoded = compare_decode(tally, table, twin, received);
-            twin.lend_all();
-            decoded
-        }
-        _ => compare_decode(tally, table, twin, received),
-    }
-}
-
 fn any_table(draw: &mut Draw) -> Table {
     if draw.once_in(3) {
         any_suitable_table(draw)
@@ -613,23 +631,11 @@ fn any_table(draw: &mut Draw) -> Table {
 }
 
 fn coder_steps(tally: &mut Tally, draw: &mut Draw) {
-    for _ in 0..20_000 {
-        let table = any_table(draw);
-        let mut twin = Twin::new(any_coder_memory(draw, &table));
-        for _ in 0..100 {
-            any_coder_step(tally, draw, &table, &mut twin);
-        }
-    }
+    CODER.steps(tally, draw, 20_000, 100);
 }
 
 fn decoder_steps(tally: &mut Tally, draw: &mut Draw) {
-    for _ in 0..60_000 {
-        let table = any_table(draw);
-        let mut twin = Twin::new(any_decoder_memory(draw, &table));
-        for _ in 0..40 {
-            any_decoder_step(tally, draw, &table, &mut twin);
-        }
-    }
+    DECODER.steps(tally, draw, 60_000, 40);
 }
 
 /// Long runs from a start, so that the fill completes by itself.
@@ -638,9 +644,9 @@ fn decoder_steps_from_the_start(tally: &mut Tally, draw: &mut Draw) {
         let table = any_table(draw);
         let count = table.decoder_words();
         let mut twin = Twin::new(random_words(draw, count));
-        compare_start_decoder(tally, &table, &mut twin);
+        DECODER.compare_start(tally, &table, &mut twin);
         for _ in 0..(2 * table.delay()).min(1500) {
-            any_decoder_step(tally, draw, &table, &mut twin);
+            DECODER.any_step(tally, draw, &table, &mut twin);
         }
     }
 }
@@ -662,8 +668,8 @@ fn extremes(tally: &mut Tally, draw: &mut Draw) {
         let mut coder = Twin::new(any_coder_memory(draw, &table));
         let mut decoder = Twin::new(any_decoder_memory(draw, &table));
         for _ in 0..300 {
-            any_coder_step(tally, draw, &table, &mut coder);
-            any_decoder_step(tally, draw, &table, &mut decoder);
+            CODER.any_step(tally, draw, &table, &mut coder);
+            DECODER.any_step(tally, draw, &table, &mut decoder);
         }
     }
 }
@@ -711,12 +717,12 @@ fn tables_handed_over(tally: &mut Tally, draw: &mut Draw) {
         let mut coder = Twin::new(any_coder_memory(draw, &table));
         let mut decoder = Twin::new(any_decoder_memory(draw, &table));
         for _ in 0..30 {
-            any_coder_step(tally, draw, &table, &mut coder);
-            any_decoder_step(tally, draw, &table, &mut decoder);
+            CODER.any_step(tally, draw, &table, &mut coder);
+            DECODER.any_step(tally, draw, &table, &mut decoder);
             if draw.once_in(3) {
                 let other = other_table(draw, &table);
-                any_coder_step(tally, draw, &other, &mut coder);
-                any_decoder_step(tally, draw, &other, &mut decoder);
+                CODER.any_step(tally, draw, &other, &mut coder);
+                DECODER.any_step(tally, draw, &other, &mut decoder);
                 let stays = other.decoder_words() == table.decoder_words() && draw.once_in(4);
                 table = if stays { other } else { table };
             }
@@ -770,41 +776,6 @@ fn least_error_by_trying(tally: &mut Tally, draw: &mut Draw) {
 
 // ---- Groups: demand 3 ----
 
-/// A step on the coder's own memory that is refused, if the drawn one is.
-fn refused_coder_step(tally: &mut Tally, draw: &mut Draw, table: &Table, twin: &mut Twin) {
-    let kind = draw.below(4);
-    let handed = match kind {
-        0 => unfit_table(draw, table),
-        1 => other_table(draw, table),
-        _ => table.clone(),
-    };
-    let info = too_large_block(draw, handed.n.clamp(2, 16) - 1).unwrap_or(0);
-    if kind == 2 {
-        lend_some(draw, twin);
-    }
-    if oracle::code_refusal(&handed, twin.plain(), u64::from(info)).is_some() {
-        compare_code(tally, &handed, twin, info);
-    }
-    twin.lend_all();
-}
-
-fn refused_decoder_step(tally: &mut Tally, draw: &mut Draw, table: &Table, twin: &mut Twin) {
-    let kind = draw.below(4);
-    let handed = match kind {
-        0 => unfit_table(draw, table),
-        1 => other_table(draw, table),
-        _ => table.clone(),
-    };
-    let received = too_large_block(draw, handed.n.clamp(2, 16)).unwrap_or(0);
-    if kind == 2 {
-        lend_some(draw, twin);
-    }
-    if oracle::decode_refusal(&handed, twin.plain(), u64::from(received)).is_some() {
-        compare_decode(tally, &handed, twin, received);
-    }
-    twin.lend_all();
-}
-
 /// A table that reading or making returned, as the linked functions return it.
 fn accepted_table(tally: &mut Tally, draw: &mut Draw) -> Table {
     let table = any_suitable_table(draw);
@@ -822,20 +793,20 @@ fn run_of_fades(tally: &mut Tally, draw: &mut Draw, table: &Table, places: u64) 
     let mut coder = Twin::new(well_formed_coder(draw, table));
     let mut decoder = Twin::new(well_formed_decoder(draw, table));
     if draw.once_in(4) {
-        compare_start_coder(tally, table, &mut coder);
+        CODER.compare_start(tally, table, &mut coder);
     }
     if draw.once_in(4) {
-        compare_start_decoder(tally, table, &mut decoder);
+        DECODER.compare_start(tally, table, &mut decoder);
     }
     let delay = table.delay();
     let mut fades = Fades::new(draw, table);
     let mut information = Vec::new();
     for p in 1..=places {
         if draw.once_in(16) {
-            refused_coder_step(tally, draw, table, &mut coder);
+            CODER.refused_step(tally, draw, table, &mut coder);
         }
         if draw.once_in(16) {
-            refused_decoder_step(tally, draw, table, &mut decoder);
+            DECODER.refused_step(tally, draw, table, &mut decoder);
         }
         let info = draw.bits(table.n - 1);
         information.push(info);
@@ -878,6 +849,41 @@ fn malformed_memory_takes_few(tally: &mut Tally, draw: &mut Draw) {
     }
 }
 
+// ---- Groups: the listing program ----
+
+/// Compares what the program prints, and returns what it should print.
+fn compare_listing(tally: &mut Tally, input: &[u8]) -> String {
+    let expected = oracle::listing(input);
+    let got = program::listing(input).unwrap_or_else(|error| format!("target/bin/listing: {error}"));
+    tally.calls += 1;
+    tally.check(got == expected, || {
+        let same = expected.lines().zip(got.lines()).take_while(|(due, line)| due == line).count();
+        let (due, line) = (expected.lines().nth(same), got.lines().nth(same));
+        let head = &input[..input.len().min(12)];
+        format!("listing of {} bytes {head:?}..: line {same} should be {due:?}, got {line:?}", input.len())
+    });
+    expected
+}
+
+/// Every n to 17 and m to 66, each pair twice, and inputs without an m. The words count the listings that have them.
+fn listings(tally: &mut Tally, draw: &mut Draw) {
+    let mut words = ["clean", "held", "corrected", "doubtful", "refused 11", "refused 15", "odd byte"]
+        .map(|word| (word, 0));
+    compare_listing(tally, &[]);
+    for n in 0..=17 {
+        compare_listing(tally, &[n as u8]);
+        for m in (0..=66).chain(0..=66) {
+            let expected = compare_listing(tally, &listing_input(draw, n, m));
+            for (word, count) in &mut words {
+                *count += u64::from(expected.contains(*word));
+            }
+        }
+    }
+    for (word, count) in words {
+        tally.check(count >= 100, || format!("only {count} listings have {word:?}"));
+    }
+}
+
 // ---- Everything reached ----
 
 fn everything_reached(tally: &mut Tally, _: &mut Draw) {
@@ -895,7 +901,7 @@ fn everything_reached(tally: &mut Tally, _: &mut Draw) {
 
 type Group = (&'static str, fn(&mut Tally, &mut Draw));
 
-const GROUPS: [Group; 23] = [
+const GROUPS: [Group; 24] = [
     ("examples of tables", examples_of_tables),
     ("examples of steps", examples_of_steps),
     ("bytes of every refusal and place", bytes_of_every_refusal),
@@ -917,6 +923,7 @@ const GROUPS: [Group; 23] = [
     ("least error by trying", least_error_by_trying),
     ("after a fade", after_a_fade),
     ("malformed memories take few", malformed_memory_takes_few),
+    ("the listing program", listings),
     ("triangle forced", triangle_forced),
     ("everything reached", everything_reached),
 ];
