@@ -1,14 +1,14 @@
 -- `report::chunk::lines`: turn by turn (`Loop`). Assumes nothing.
-use mathlib.Core.Path.{sym, ap, subst, _∙_}
-use Prim.Native.Nat.{_+_, _-_, _*_, _/_, _^_, _≤_, _<_}
+use mathlib.Core.Path.{_≡_, sym, ap, subst, _∙_}
+use Prim.Native.Nat.{ℕ, _+_, _-_, _*_, _/_, _^_, _≤_, _<_}
 use native.Mathlib.Omega.{arith}
 use borrow.Author.Needs.{needs}
-use lib.ListN.{length}
+use lib.ListN.{length, getD}
 use Rattle.link.specs.declared.decoder.DecodeAnswer.{DecodeAnswer}
 use Rattle.link.specs.Decoder.{decodeAnswer, decodeMemory}
 use Rattle.lines.specs.Text.{oddLine}
 use Rattle.lines.specs.Writing.{longest}
-use Rattle.report.specs.Listing.{Printed}
+use Rattle.report.specs.Listing.{blockOf, Printed}
 use Rattle.report.proofs.Answer.{put-wrote}
 use Rattle.report.proofs.Loop.{Going, going-start, going-next, going-stops, going-odd, going-even}
 use Rattle.report.proofs.chunk.lines.Statement.{statement}
@@ -50,17 +50,32 @@ same-length c = c .before .before .before .before .before .before .before .decod
 same-length-2 : tie.Need-same-length-2 Inv-loop μ-loop
 same-length-2 c = c .before .before .before .answer-line .kept .1 .1 .0 ∙ c .before .before .before .before .before .before .before .before .before .before .before .loop .inv .out-length
 
+-- this turn's block, its answer printed, and the memory after its step
+abbrev received : tie.After-answer-line Inv-loop μ-loop → ℕ
+received c =
+    let bytes = c .before .before .before .before .before .before .before .before .before .before .before .before .args .bytes .now in
+    let at = 2 * c .before .before .before .before .before .before .before .before .loop .i in
+    blockOf (getD bytes at 0) (getD bytes (at + 1) 0)
+
+printed : (c : tie.After-answer-line Inv-loop μ-loop)
+    → let l = c .before .before .before .before .before .before .before .before .loop in
+    let p = c .answer-line in
+    Printed (l .out) (l .end) (l .next) (decodeAnswer (c .before .before .before .before .before .before .before .before .before .before .before .before .args .t) (l .state) (received c)) (p .last .1 .1 .0) (p .result .end) (p .result .number) (p .result .stopped)
+printed c =
+    let l = c .before .before .before .before .before .before .before .before .loop in
+    let p = c .answer-line in
+    subst (λ (x : DecodeAnswer). Printed (l .out) (l .end) (l .next) x (p .last .1 .1 .0) (p .result .end) (p .result .number) (p .result .stopped))
+    (c .before .before .before .before .decode .ensures .0 ∙ ap (decodeAnswer (c .before .before .before .before .before .before .before .before .before .before .before .before .args .t) (l .state)) (c .before .before .before .before .before .block .ensures)) (p .ensures)
+
+remembered : (c : tie.After-answer-line Inv-loop μ-loop)
+    → c .before .before .before .before .decode .last .1 .0 ≡ decodeMemory (c .before .before .before .before .before .before .before .before .before .before .before .before .args .t) (c .before .before .before .before .before .before .before .before .loop .state) (received c)
+remembered c = c .before .before .before .before .decode .ensures .1 .0 ∙ ap (decodeMemory (c .before .before .before .before .before .before .before .before .before .before .before .before .args .t) (c .before .before .before .before .before .before .before .before .loop .state)) (c .before .before .before .before .before .block .ensures)
+
 returns : tie.Need-returns Inv-loop μ-loop
 returns c =
     let a = c .before .before .before .before .before .before .before .before .before .before .before .before .before .before .before .args in
     let l = c .before .before .before .before .before .before .before .before .before .before .before .loop in
-    let d = c .before .before .before .before .before .before .before .decode in
-    let b = c .before .before .before .before .before .before .before .before .block in
-    let p = c .before .before .before .answer-line in
-    let e = d .ensures .0 ∙ ap (decodeAnswer (a .t) (l .state)) (b .ensures) in
-    let m = d .ensures .1 .0 ∙ ap (decodeMemory (a .t) (l .state)) (b .ensures) in
-    let g = subst (λ (x : DecodeAnswer). Printed (l .out) (l .end) (l .next) x (p .last .1 .1 .0) (p .result .end) (p .result .number) (p .result .stopped)) e (p .ensures) in
-    rw m (going-stops (a .t) (a .state .now) (a .number) (a .bytes .now) (a .out .now) (known (c .before .before .before .before .before .before .before .before .before .before .before .before .before .before .before) .1) (l .inv) (omega arith) g (c .if1 .taken))
+    rw (remembered (c .before .before .before)) (going-stops (a .t) (a .state .now) (a .number) (a .bytes .now) (a .out .now) (known (c .before .before .before .before .before .before .before .before .before .before .before .before .before .before .before) .1) (l .inv) (omega arith) (printed (c .before .before .before)) (c .if1 .taken))
 
 add-i : tie.Need-add-i Inv-loop μ-loop
 add-i c = search needs
@@ -72,13 +87,8 @@ loop-again : tie.Need-loop-again Inv-loop μ-loop
 loop-again c =
     let a = c .before .before .before .before .before .before .before .before .before .before .before .before .before .before .before .args in
     let l = c .before .before .before .before .before .before .before .before .before .before .before .loop in
-    let d = c .before .before .before .before .before .before .before .decode in
-    let b = c .before .before .before .before .before .before .before .before .block in
-    let p = c .before .before .before .answer-line in
-    let e = d .ensures .0 ∙ ap (decodeAnswer (a .t) (l .state)) (b .ensures) in
-    let m = d .ensures .1 .0 ∙ ap (decodeMemory (a .t) (l .state)) (b .ensures) in
-    let g = subst (λ (x : DecodeAnswer). Printed (l .out) (l .end) (l .next) x (p .last .1 .1 .0) (p .result .end) (p .result .number) (p .result .stopped)) e (p .ensures) in
-    rw m (going-next (a .t) (a .state .now) (a .number) (a .bytes .now) (a .out .now) (known (c .before .before .before .before .before .before .before .before .before .before .before .before .before .before .before) .1) (l .inv) (omega arith) g (c .if1 .left) (p .kept .1 .1 .0) (sym (ap length m) ∙ d .kept .1 .0))
+    let m = remembered (c .before .before .before) in
+    rw m (going-next (a .t) (a .state .now) (a .number) (a .bytes .now) (a .out .now) (known (c .before .before .before .before .before .before .before .before .before .before .before .before .before .before .before) .1) (l .inv) (omega arith) (printed (c .before .before .before)) (c .if1 .left) (c .before .before .before .answer-line .kept .1 .1 .0) (sym (ap length m) ∙ c .before .before .before .before .before .before .before .decode .kept .1 .0))
 
 odd-byte-requires : tie.Need-odd-byte-requires Inv-loop μ-loop
 odd-byte-requires c κs = search needs
