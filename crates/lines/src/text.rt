@@ -99,6 +99,18 @@ fn has_room(out: &[u8], at: usize) -> bool
     at <= out.len() && LONGEST <= out.len() - at
 }
 
+// A line that is always the same.
+fn fixed(out: &mut [u8], at: usize, bytes: &[u8]) -> usize
+    requires { ⌜ length (now bytes) ≤ longest ⌝ }
+    ensures position { λ r. ⌜ r ≡ putEnd (now (out .entry)) at (now (bytes .entry)) ⌝ }
+    ensures bytes { λ r. ⌜ now (out .exit) ≡ put (now (out .entry)) at (now (bytes .entry)) ⌝ }
+{
+    if has_room(out, at) {
+        return put_bytes(out, at, bytes);
+    }
+    at
+}
+
 // ---- the public functions
 
 // The line of a delivery.
@@ -129,18 +141,12 @@ pub fn odd_byte(out: &mut [u8], at: usize) -> usize
     ensures position { λ r. ⌜ r ≡ putEnd (now (out .entry)) at oddLine ⌝ }
     ensures bytes { λ r. ⌜ now (out .exit) ≡ put (now (out .entry)) at oddLine ⌝ }
 {
-    if has_room(out, at) {
-        return put_bytes(out, at, b"odd byte\n");
-    }
-    at
+    fixed(out, at, b"odd byte\n")
 }
 
 pub fn header(out: &mut [u8], at: usize) -> usize
     ensures position { λ r. ⌜ r ≡ putEnd (now (out .entry)) at headerLine ⌝ }
     ensures bytes { λ r. ⌜ now (out .exit) ≡ put (now (out .entry)) at headerLine ⌝ }
 {
-    if has_room(out, at) {
-        return put_bytes(out, at, b"block info mark error\n");
-    }
-    at
+    fixed(out, at, b"block info mark error\n")
 }

@@ -1,25 +1,21 @@
--- `lines::text::odd_byte`: with room and without. Assumes nothing.
+-- `lines::text::fixed`: with room and without. Assumes nothing.
 use mathlib.Core.Path.{_≡_}
 use mathlib.Core.Bool.{true, false}
 use native.Mathlib.Omega.{arith}
-use Rattle.lines.specs.Text.{oddLine}
 use Rattle.lines.specs.Writing.{room}
 use Rattle.lines.proofs.Written.{room-free, put-there, put-nothing}
 use borrow.Author.Needs.{needs}
-use Rattle.lines.proofs.text.odd_byte.Statement.{statement}
-use Rattle.lines.proofs.text.odd_byte.Tie as tie
+use Rattle.lines.proofs.text.fixed.Statement.{statement}
+use Rattle.lines.proofs.text.fixed.Tie as tie
 
 has-room-requires : tie.Need-has-room-requires
 has-room-requires c κs = search needs
-
-slice-aggregate-put-bytes : tie.Need-slice-aggregate-put-bytes
-slice-aggregate-put-bytes c = search needs
 
 put-bytes-requires : tie.Need-put-bytes-requires
 put-bytes-requires c κs =
     let a = c .before .before .before .before .before .before .args in
     let h : room (a .out .now) (a .at) ≡ true = cc in
-    omega (arith, room-free (a .out .now) (a .at) h)
+    omega (arith, room-free (a .out .now) (a .at) h, c .before .before .before .before .before .before .pre)
 
 same-length : tie.Need-same-length
 same-length c = search needs
@@ -28,23 +24,22 @@ returns : tie.Need-returns
 returns c =
     let a = c .before .before .before .before .before .before .before .before .before .args in
     let h : room (a .out .now) (a .at) ≡ true = cc in
-    put-there oddLine h (c .before .before .put-bytes .ensures)
+    put-there (a .bytes .now) h (c .before .before .put-bytes .ensures)
 
 same-length-2 : tie.Need-same-length-2
 same-length-2 c = search needs
 
 returns-2 : tie.Need-returns-2
 returns-2 c =
-    let a = c .before .before .before .before .args in
+    let a = c .before .before .before .before .before .args in
     let h : room (a .out .now) (a .at) ≡ false = cc in
-    put-nothing (a .out .now) (a .at) oddLine h
+    put-nothing (a .out .now) (a .at) (a .bytes .now) h
 
-pub odd-byte-spec : {M : Type 1} → statement M
-odd-byte-spec =
+pub fixed-spec : {M : Type 1} → statement M
+fixed-spec =
     tie.close
     (tie.spec
     has-room-requires
-    slice-aggregate-put-bytes
     put-bytes-requires
     same-length
     returns
