@@ -7,8 +7,8 @@ use span::eliminate::Least;
 use span::eliminate::least_relation;
 ghost use mathlib.Core.Path.{_≡_};
 ghost use mathlib.Core.List.{_++_, map};
-ghost use Prim.Native.Nat.{_+_, _≤_, _<_};
-ghost use lib.ListN.{getD, take};
+ghost use Prim.Native.Nat.{_+_, _-_, _≤_, _<_};
+ghost use lib.ListN.{length, getD, take};
 ghost use Rattle.span.specs.Word.{shifted};
 ghost use Rattle.tables.specs.Table.{codeRows};
 ghost use Rattle.tables.specs.Judging.{Judged, Searched};
@@ -22,9 +22,9 @@ pub enum Judgement {
 }
 
 // Row i + 1 of the code: a stored one, or the parity's.
-fn code_row(rows: [u64; 15], n: usize, i: usize) -> u64
-    requires { ⌜ (i < n) × (n ≤ 16) ⌝ }
-    ensures { λ r. ⌜ r ≡ getD (codeRows n rows) i 0 ⌝ }
+fn code_row(rows: &[u64], n: usize, i: usize) -> u64
+    requires { ⌜ (i < n) × (n - 1 ≤ length (now rows)) ⌝ }
+    ensures { λ r. ⌜ r ≡ getD (codeRows n (now (rows .entry))) i 0 ⌝ }
 {
     if i < n - 1 {
         return rows[i];
@@ -33,9 +33,9 @@ fn code_row(rows: [u64; 15], n: usize, i: usize) -> u64
 }
 
 // The n shifted rows, then the n rows: each row is fetched once.
-fn clash_words(rows: [u64; 15], n: usize, span: usize, l: usize) -> [u64; 32]
-    requires { ⌜ (2 ≤ n) × (n ≤ 16) × (span ≤ 64) ⌝ }
-    ensures { λ r. ⌜ take (n + n) r ≡ map (shifted span l) (codeRows n rows) ++ codeRows n rows ⌝ }
+fn clash_words(rows: &[u64], n: usize, span: usize, l: usize) -> [u64; 32]
+    requires { ⌜ (2 ≤ n) × (n ≤ 16) × (span ≤ 64) × (n - 1 ≤ length (now rows)) ⌝ }
+    ensures { λ r. ⌜ take (n + n) r ≡ map (shifted span l) (codeRows n (now (rows .entry))) ++ codeRows n (now (rows .entry)) ⌝ }
 {
     let mut words = [0u64; 32];
     let mut i = 0;
@@ -49,9 +49,9 @@ fn clash_words(rows: [u64; 15], n: usize, span: usize, l: usize) -> [u64; 32]
 }
 
 // The first shift at which an image is a shifted one.
-fn search(rows: [u64; 15], n: usize, span: usize) -> Judgement
-    requires { ⌜ (2 ≤ n) × (n ≤ 16) × (span ≤ 64) ⌝ }
-    ensures { λ r. ⌜ Searched span (codeRows n rows) r ⌝ }
+fn search(rows: &[u64], n: usize, span: usize) -> Judgement
+    requires { ⌜ (2 ≤ n) × (n ≤ 16) × (span ≤ 64) × (n - 1 ≤ length (now rows)) ⌝ }
+    ensures { λ r. ⌜ Searched span (codeRows n (now (rows .entry))) r ⌝ }
 {
     let mut l = 1;
     while l < span {
@@ -69,8 +69,7 @@ pub fn judge(t: Table) -> Judgement
     ensures { λ r. ⌜ Judged t r ⌝ }
 {
     if is_fit(t.symbols, t.span, t.depth, &t.rows) {
-        let rows = t.rows;
-        search(rows, t.symbols, t.span)
+        search(&t.rows, t.symbols, t.span)
     } else {
         Judgement::Unfit
     }

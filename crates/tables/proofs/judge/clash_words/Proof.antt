@@ -110,21 +110,20 @@ loop-again : tie.Need-loop-again Inv-loop μ-loop
 loop-again c =
     let r = c .before in
     let l = r .before .before in
-    let a = l .before .args in
+    let a = l .before .before .args in
     let span : min (a .span) 64 ≡ a .span = omega arith in (
       omega arith,
       simp length-set (l .loop .inv .1),
-      filled-more (a .n) (a .span) (a .l) (codeRows (a .n) (a .rows)) (l .loop .i) (l .loop .words) (c .shift .result) (r .code-row .result)
+      filled-more (a .n) (a .span) (a .l) (codeRows (a .n) (a .rows .now)) (l .loop .i) (l .loop .words) (c .shift .result) (r .code-row .result)
           (omega arith) (omega arith) (c .shift .ensures ∙ ap (λ (N : ℕ). shifted N (a .l) (r .code-row .result)) span) (r .code-row .ensures) (l .loop .inv .2),
     )
 
 returns : tie.Need-returns Inv-loop μ-loop
 returns c =
     let l = c .before in
-    let a = l .before .args in
-    let long : length (a .rows) ≡ 15 = l .before .good .0 .1 .0 .1 in
-    let R = codeRows (a .n) (a .rows) in
-    let size : length R ≡ a .n = code-length (a .n) (a .rows) (omega arith) (omega arith) in
+    let a = l .before .before .args in
+    let R = codeRows (a .n) (a .rows .now) in
+    let size : length R ≡ a .n = code-length (a .n) (a .rows .now) (omega arith) (omega arith) in
     halves (a .n) (l .loop .words) (map (shifted (a .span) (a .l)) R) R (length-map R (shifted (a .span) (a .l)) ∙ size) size (omega arith)
     (λ k h. let f = l .loop .inv .2 k (omega arith) in (f .0 ∙ sym (map-at (a .span) (a .l) R k), f .1))
 

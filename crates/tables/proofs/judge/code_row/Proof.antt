@@ -26,21 +26,19 @@ sub-if1 c = search needs
 mul-result : tie.Need-mul-result
 mul-result c = search needs
 
-array-read-result : tie.Need-array-read-result
-array-read-result c = search needs
+shared-slice-read-result : tie.Need-shared-slice-read-result
+shared-slice-read-result c = search needs
 
 returns : tie.Need-returns
 returns c =
-    let a = c .before .args in
-    let long : length (a .t1) ≡ 15 = c .before .good .0 .1 .0 .1 in
-    stored-row (a .n) (a .t1) (a .i) (omega arith) (omega arith)
+    let a = c .before .before .args in
+    stored-row (a .n) (a .rows .now) (a .i) (omega arith) (omega arith)
 
 returns-2 : tie.Need-returns-2
 returns-2 c =
     let a = c .before .args in
-    let long : length (a .t1) ≡ 15 = c .before .good .0 .1 .0 .1 in
     let last : a .n - 1 ≡ a .i = omega arith in
-    parity-row (a .n) (a .t1) (omega arith) ∙ ap (λ (i : ℕ). getD (codeRows (a .n) (a .t1)) i 0) last
+    parity-row (a .n) (a .rows .now) (omega arith) ∙ ap (λ (i : ℕ). getD (codeRows (a .n) (a .rows .now)) i 0) last
 
 pub code-row-spec : {M : Type 1} → statement M
-code-row-spec = tie.close (tie.spec sub-if1 mul-result array-read-result returns returns-2)
+code-row-spec = tie.close (tie.spec sub-if1 mul-result shared-slice-read-result returns returns-2)
