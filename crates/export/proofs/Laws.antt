@@ -3,90 +3,91 @@ use mathlib.Core.Path.{_≡_, refl, ap, _∙_}
 use mathlib.Core.Bool.{Bool, true, false, cond}
 use mathlib.Core.Logic.{_≢_}
 use mathlib.Core.List.{List, [], _∷_}
-use Prim.Native.Nat.{ℕ, _*_, _≤_, _<_}
+use Prim.Native.Nat.{ℕ, _-_, _*_, _≤_, _<_}
 use native.Mathlib.Omega.{arith}
-use lib.ListN.{getD, replicate}
+use lib.ListN.{getD, take}
 use Rattle.tables.specs.declared.table.Table.{Table}
 use Rattle.tables.specs.declared.make.MakeAnswer.{MakeAnswer}
 use Rattle.tables.specs.declared.read.ReadAnswer.{ReadAnswer}
 use Rattle.tables.specs.declared.read.ReadAnswer.the-variants.{Accepted, Refused, Unsuitable}
 use Rattle.tables.specs.Code.{Clashes, Suitable}
-use Rattle.tables.specs.Table.{zeroTable, rowsOf, sizesFit}
+use Rattle.tables.specs.Table.{rowsOf, sizesFit}
 use Rattle.tables.specs.Format.{parse, refused, parsed}
 use Rattle.tables.specs.Reading.{numbers, Says}
 use Rattle.tables.specs.Written.{Whole}
-use Rattle.tables.specs.Made.{making, madeNumbers}
+use Rattle.tables.specs.Made.{columns, triangleRows, making, madeNumbers}
 use Rattle.tables.proofs.Laws.{refused-range, parses-exactly, made, made-whole, is-made, not-made}
 use Rattle.link.specs.declared.decoder.Mark.{Mark}
 use Rattle.link.specs.declared.decoder.Mark.the-variants.{Clean, Held, Corrected, Doubtful}
 use Rattle.link.specs.declared.decoder.DecodeAnswer.the-variants.{Delivery, NothingYet, Refused as DecodeRefused}
 use Rattle.link.specs.Answers.{markNumber, Answered}
 use Rattle.link.proofs.Answers.{start-numbers, code-numbers, decode-numbers}
-use Rattle.export.specs.Table.{tableOf, numbersOf}
+use Rattle.export.specs.Table.{tableOf, numbersOf, givenBack}
 use Rattle.export.specs.Answers.{numberOf, readingOf, codedOf, decodedOf}
 use Rattle.export.specs.Laws.{TABLE-BACK, READ-TOLD, MADE-TOLD, Told, START-TOLD, CODE-TOLD, DECODE-TOLD, MARK-RANGE}
+use Rattle.export.proofs.Given.{back, kept}
 
 pub table-back : TABLE-BACK
 unfolding tableOf numbersOf
 table-back t = refl
 
-zeros : numbersOf zeroTable ≡ replicate 18 0
-unfolding numbersOf
-zeros = refl
-
-said : (bytes : List ℕ) → ((i : ℕ) → getD bytes i 0 < 256) → (a : ReadAnswer) (u : Table) → Says bytes (numbers a) u
+said : (bytes : List ℕ) → ((i : ℕ) → getD bytes i 0 < 256) → (a : ReadAnswer) (u : Table) (before : List ℕ) → Says bytes (numbers a) u
     → let r = readingOf (numbers a) in
-    (r .refused ≡ 0 → (t : Table) × (parse bytes ≡ parsed t) × Suitable (t .span) (rowsOf t) × Whole t × (numbersOf u ≡ numbersOf t))
-    × (r .refused ≢ 0 → numbersOf u ≡ replicate 18 0)
+    let after = givenBack (r .refused) u before in
+    (r .refused ≡ 0
+    → (t : Table) × (parse bytes ≡ parsed t) × Suitable (t .span) (rowsOf t) × Whole t × (after ≡ numbersOf t) × (r ≡ readingOf []))
+    × (r .refused ≢ 0 → after ≡ before)
     × (r .refused ≢ 0 → r .refused ≢ 10 → (parse bytes ≡ refused (r .refused) (r .place)) × (r ≡ readingOf (r .refused ∷ r .place ∷ [])))
     × (r .refused ≡ 10
     → (t : Table) × (parse bytes ≡ parsed t) × Clashes (t .span) (rowsOf t) (r .l) (r .e0) (r .e1) × (r ≡ readingOf (10 ∷ r .l ∷ r .e0 ∷ r .e1 ∷ [])))
-said bytes low Accepted u s = (
-  λ z. (u, s .0, s .1, parses-exactly bytes u low .0 (s .0) .whole, refl),
+said bytes low Accepted u before s = (
+  λ z. (u, s .0, s .1, parses-exactly bytes u low .0 (s .0) .whole, back 0 u before refl, refl),
   λ n. absurd (n refl),
   λ n. absurd (n refl),
   λ e. absurd (omega arith),
 )
-said bytes low (Refused k p) u s =
+said bytes low (Refused k p) u before s =
     let range = refused-range bytes k p (s .0) in (
       λ z. absurd (omega arith),
-      λ n. ap numbersOf (s .1) ∙ zeros,
+      λ n. kept k u before n,
       λ n o. (s .0, refl),
       λ e. absurd (omega arith),
     )
-said bytes low (Unsuitable l e0 e1) u s = (
+said bytes low (Unsuitable l e0 e1) u before s = (
   λ z. absurd (omega arith),
-  λ n. ap numbersOf (s .3) ∙ zeros,
+  λ n. kept 10 u before n,
   λ n o. absurd (o refl),
   λ e. (s .0, s .1, s .2, refl),
 )
 
 pub read-told : READ-TOLD
-read-told bytes r after low reads =
-    let told = said bytes low (reads .reading .answer) (reads .reading .table) (reads .right) in
-    rw (reads .answer, reads .table) told
+read-told bytes r before after low reads =
+    let told = said bytes low (reads .reading .answer) (reads .reading .table) before (reads .right) in
+    rw (reads .table, reads .answer) told
 
 pub made-told : MADE-TOLD
-made-told n m = go (sizesFit n 2 m) refl
+made-told n m before = go (sizesFit n 2 m) refl
   where
     go : (b : Bool) → sizesFit n 2 m ≡ b
         → let number = numberOf (madeNumbers (making n m .answer)) in
         let t = making n m .table in
         (number ≡ cond b 0 11)
-        × (number ≡ 0 → (t .symbols ≡ n) × (t .span ≡ 2 * n) × (t .depth ≡ m) × Suitable (t .span) (rowsOf t) × Whole t)
-        × (number ≢ 0 → numbersOf t ≡ replicate 18 0)
+        × (number ≡ 0
+        → (t .symbols ≡ n) × (t .span ≡ 2 * n) × (t .depth ≡ m) × Suitable (t .span) (rowsOf t) × (rowsOf t ≡ triangleRows (take (n - 1) columns) n)
+        × Whole t × (givenBack number t before ≡ numbersOf t))
+        × (number ≢ 0 → givenBack number t before ≡ before)
     go true q =
         let yes = is-made n m q in
         let l = made n m yes in (
           ap (λ (a : MakeAnswer). numberOf (madeNumbers a)) yes,
-          λ z. (l .0, l .1, l .2, l .4, made-whole n m yes),
-          λ some. absurd (some (ap (λ (a : MakeAnswer). numberOf (madeNumbers a)) yes)),
+          λ z. (l .0, l .1, l .2, l .4, l .5, made-whole n m yes, back _ (making n m .table) before z),
+          λ some. kept _ (making n m .table) before some,
         )
     go false q =
         let l = not-made n m q in (
           ap numberOf (l .0),
           λ z. absurd (let e = ap numberOf (l .0) in omega arith),
-          λ some. ap numbersOf (l .1) ∙ zeros,
+          λ some. kept _ (making n m .table) before some,
         )
 
 -- a struct that has of a number alone what it has of the number and zeros

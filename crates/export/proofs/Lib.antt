@@ -1,3 +1,4 @@
 -- What the proofs of several functions use, and the laws.
 mod Copy
+mod Given
 pub mod Laws

@@ -5,7 +5,7 @@
 --   codedOf ns        of a coder's step: number, block
 --   decodedOf ns      of a decoder's step: number, information, the mark's number, e or 0
 --   readingOf ns      of reading: number; the place of refusals 1 to 9; l, e0 and e1 of 10
---   Reads bytes r after   reading answers r, and leaves `after` as the numbers of the table
+--   Reads bytes r before after   reading answers r, and leaves `after` of the numbers lent for the table
 use mathlib.Core.Path.{_≡_}
 use mathlib.Core.List.{List, [], _∷_}
 use Prim.Native.Nat.{ℕ}
@@ -15,7 +15,7 @@ use Rattle.tables.specs.Reading.{numbers, Read}
 use Rattle.export.specs.declared.read.BurstReading.{BurstReading}
 use Rattle.export.specs.declared.coder.BurstCoded.{BurstCoded}
 use Rattle.export.specs.declared.decoder.BurstDecoded.{BurstDecoded}
-use Rattle.export.specs.Table.{numbersOf}
+use Rattle.export.specs.Table.{givenBack}
 
 abbrev pub numberOf : List ℕ → ℕ
 numberOf ns = getD ns 0 0
@@ -34,9 +34,9 @@ readingOf (k ∷ p ∷ []) = record { refused = k; place = p; l = 0; e0 = 0; e1 
 readingOf (k ∷ l ∷ e0 ∷ []) = record { refused = k; place = 0; l = l; e0 = e0; e1 = 0 }
 readingOf (k ∷ l ∷ e0 ∷ e1 ∷ ns) = record { refused = k; place = 0; l = l; e0 = e0; e1 = e1 }
 
--- "Only the triple of refusal 10 is left free": there is a reading that is right of the bytes (`Read`), and these are its numbers and its table's
-pub record Reads (bytes : List ℕ) (r : BurstReading) (after : List ℕ) : Type 0 where
+-- "Only the triple of refusal 10 is left free": there is a reading that is right of the bytes (`Read`), and these are its numbers and, if it is no refusal, its table's
+pub record Reads (bytes : List ℕ) (r : BurstReading) (before after : List ℕ) : Type 0 where
   pub reading : Reading
   pub right : Read bytes reading
   pub answer : r ≡ readingOf (numbers (reading .answer))
-  pub table : after ≡ numbersOf (reading .table)
+  pub table : after ≡ givenBack (r .refused) (reading .table) before

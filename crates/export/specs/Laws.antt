@@ -1,9 +1,9 @@
 -- What the numbers tell a caller. `proofs/Laws` has a proof of each.
 --
 --   TABLE-BACK    a table that is given back, handed in again, is that table
---   READ-TOLD     reading: number 0 says that the bytes say a suitable table, which is given back; any other, that all 18 numbers are 0, and
---                 the place, or the triple, is the refusal's
---   MADE-TOLD     making: number 0 says that n and m are in range, and the table is suitable; any other is 11, and all 18 numbers are 0
+--   READ-TOLD     reading: number 0 says that the bytes say a suitable table, which is given back; any other, that no number was written, and the
+--                 place, or the triple, is the refusal's
+--   MADE-TOLD     making: number 0 says that n and m are in range, and our suitable table is given back; any other is 11, and no number was written
 --   Told f fault values next before ns after   f of the numbers ns of an answer, and the memory, after a call that has this fault
 --   START-TOLD, CODE-TOLD, DECODE-TOLD   a start or a step: refused, the struct has its number and zeros, and no word is written
 --   MARK-RANGE    a mark's number is at most 4
@@ -11,21 +11,21 @@ use mathlib.Core.Path.{_≡_}
 use mathlib.Core.Bool.{cond}
 use mathlib.Core.Logic.{_≢_}
 use mathlib.Core.List.{List, [], _∷_}
-use Prim.Native.Nat.{ℕ, _*_, _≤_, _<_}
-use lib.ListN.{getD, replicate}
+use Prim.Native.Nat.{ℕ, _-_, _*_, _≤_, _<_}
+use lib.ListN.{getD, take}
 use Rattle.tables.specs.declared.table.Table.{Table}
 use Rattle.tables.specs.Code.{Clashes, Suitable}
 use Rattle.tables.specs.Table.{rowsOf, sizesFit}
 use Rattle.tables.specs.Format.{parse, refused, parsed}
 use Rattle.tables.specs.Written.{Whole}
-use Rattle.tables.specs.Made.{making, madeNumbers}
+use Rattle.tables.specs.Made.{columns, triangleRows, making, madeNumbers}
 use Rattle.link.specs.declared.decoder.DecodeAnswer.{DecodeAnswer}
 use Rattle.link.specs.Start.{startFault, started, startAnswer, startMemory}
 use Rattle.link.specs.Coder.{coderFault, codedBlock, coderNext, codeAnswer, codeMemory}
 use Rattle.link.specs.Decoder.{decoderFault, decoderNext, decodeAnswer, decodeMemory}
 use Rattle.link.specs.Answers.{startNumbers, codeNumbers, decodeNumbers, decodeValues}
 use Rattle.export.specs.declared.read.BurstReading.{BurstReading}
-use Rattle.export.specs.Table.{tableOf, numbersOf}
+use Rattle.export.specs.Table.{tableOf, numbersOf, givenBack}
 use Rattle.export.specs.Answers.{numberOf, readingOf, codedOf, decodedOf, Reads}
 
 abbrev pub TABLE-BACK : Type 0
@@ -34,21 +34,24 @@ TABLE-BACK = (t : Table) → tableOf (numbersOf t) ≡ t
 -- `Whole`: the table is fit, and its rows past n − 1 are 0
 abbrev pub READ-TOLD : Type 0
 READ-TOLD =
-    (bytes : List ℕ) (r : BurstReading) (after : List ℕ) → ((i : ℕ) → getD bytes i 0 < 256) → Reads bytes r after
-    → (r .refused ≡ 0 → (t : Table) × (parse bytes ≡ parsed t) × Suitable (t .span) (rowsOf t) × Whole t × (after ≡ numbersOf t))
-    × (r .refused ≢ 0 → after ≡ replicate 18 0)
+    (bytes : List ℕ) (r : BurstReading) (before after : List ℕ) → ((i : ℕ) → getD bytes i 0 < 256) → Reads bytes r before after
+    → (r .refused ≡ 0
+    → (t : Table) × (parse bytes ≡ parsed t) × Suitable (t .span) (rowsOf t) × Whole t × (after ≡ numbersOf t) × (r ≡ readingOf []))
+    × (r .refused ≢ 0 → after ≡ before)
     × (r .refused ≢ 0 → r .refused ≢ 10 → (parse bytes ≡ refused (r .refused) (r .place)) × (r ≡ readingOf (r .refused ∷ r .place ∷ [])))
     × (r .refused ≡ 10
     → (t : Table) × (parse bytes ≡ parsed t) × Clashes (t .span) (rowsOf t) (r .l) (r .e0) (r .e1) × (r ≡ readingOf (10 ∷ r .l ∷ r .e0 ∷ r .e1 ∷ [])))
 
 abbrev pub MADE-TOLD : Type 0
 MADE-TOLD =
-    (n m : ℕ)
+    (n m : ℕ) (before : List ℕ)
     → let number = numberOf (madeNumbers (making n m .answer)) in
     let t = making n m .table in
     (number ≡ cond (sizesFit n 2 m) 0 11)
-    × (number ≡ 0 → (t .symbols ≡ n) × (t .span ≡ 2 * n) × (t .depth ≡ m) × Suitable (t .span) (rowsOf t) × Whole t)
-    × (number ≢ 0 → numbersOf t ≡ replicate 18 0)
+    × (number ≡ 0
+    → (t .symbols ≡ n) × (t .span ≡ 2 * n) × (t .depth ≡ m) × Suitable (t .span) (rowsOf t) × (rowsOf t ≡ triangleRows (take (n - 1) columns) n)
+    × Whole t × (givenBack number t before ≡ numbersOf t))
+    × (number ≢ 0 → givenBack number t before ≡ before)
 
 -- `Answered` of `link`, in the struct's numbers: of a refusal the number, and 0 for all else
 abbrev pub Told : {X : Type 0} → (List ℕ → X) → ℕ → List ℕ → List ℕ → List ℕ → List ℕ → List ℕ → Type 0

@@ -2,8 +2,11 @@
 --
 --   tableOf ns     the table of these numbers; numbers out of range are 12's matter
 --   numbersOf t    the numbers of a table
+--   givenBack k t before   what a call leaves of the numbers lent for a table: a refusal, k not 0, leaves them as they were
+use mathlib.Core.Bool.{true, false}
 use mathlib.Core.List.{List, _∷_}
 use Prim.Native.Nat.{ℕ}
+use lib.Dec.{eqb}
 use lib.ListN.{getD, drop}
 use Rattle.tables.specs.declared.table.Table.{Table}
 use Rattle.tables.specs.Table.{table}
@@ -13,3 +16,7 @@ tableOf ns = table (getD ns 0 0) (getD ns 1 0) (getD ns 2 0) (drop 3 ns)
 
 unfoldable pub numbersOf : Table → List ℕ
 numbersOf t = t .symbols ∷ t .span ∷ t .depth ∷ t .rows
+
+-- "It writes no lent word"
+unfoldable pub givenBack : ℕ → Table → List ℕ → List ℕ
+givenBack k t before = elim (eqb k 0) [ true ↦ numbersOf t | false ↦ before ]

@@ -1,5 +1,5 @@
 // Reading a table.
-use crate::table::put_table;
+use crate::table::give_back;
 use tables::read::ReadAnswer;
 use tables::read::read;
 ghost use mathlib.Core.Path.{_≡_};
@@ -45,11 +45,12 @@ fn reading(answer: ReadAnswer) -> BurstReading
 
 #[no_mangle]
 pub extern "C" fn burst_read(bytes: &[u8], table: &mut [u64; 18]) -> BurstReading
-    ensures { λ r. ⌜ Reads (now (bytes .entry)) r (now (table .exit)) ⌝ }
+    ensures { λ r. ⌜ Reads (now (bytes .entry)) r (now (table .entry)) (now (table .exit)) ⌝ }
 {
     let r = read(bytes);
     let t = r.table;
-    put_table(t, table);
     let answer = r.answer;
-    reading(answer)
+    let told = reading(answer);
+    give_back(told.refused, t, table);
+    told
 }

@@ -2,7 +2,7 @@
 use tables::table::Table;
 ghost use mathlib.Core.Path.{_≡_};
 ghost use lib.ListN.{length, drop};
-ghost use Rattle.export.specs.Table.{tableOf, numbersOf};
+ghost use Rattle.export.specs.Table.{tableOf, numbersOf, givenBack};
 
 fn rows_of(numbers: &[u64]) -> [u64; 15]
     requires { ⌜ length (now numbers) ≡ 18 ⌝ }
@@ -29,7 +29,7 @@ pub fn table_of(numbers: &[u64; 18]) -> Table
     }
 }
 
-pub fn put_table(t: Table, numbers: &mut [u64; 18])
+fn put_table(t: Table, numbers: &mut [u64; 18])
     ensures { λ r. ⌜ now (numbers .exit) ≡ numbersOf t ⌝ }
 {
     let mut all = [0u64; 18];
@@ -42,4 +42,13 @@ pub fn put_table(t: Table, numbers: &mut [u64; 18])
         i += 1;
     }
     *numbers = all;
+}
+
+// A refusal leaves the lent numbers as they were.
+pub fn give_back(refused: u64, t: Table, numbers: &mut [u64; 18])
+    ensures { λ r. ⌜ now (numbers .exit) ≡ givenBack refused t (now (numbers .entry)) ⌝ }
+{
+    if refused == 0 {
+        put_table(t, numbers);
+    }
 }

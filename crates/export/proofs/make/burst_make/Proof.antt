@@ -1,9 +1,10 @@
 -- `export::make::burst_make`: number and table of what making answers. Assumes nothing.
-use mathlib.Core.Path.{ap, _∙_}
+use mathlib.Core.Path.{ap, ap₂, _∙_}
+use Prim.Native.Nat.{ℕ}
 use borrow.Author.Needs.{needs}
 use Rattle.tables.specs.declared.make.Making.{Making}
 use Rattle.tables.specs.Made.{madeNumbers}
-use Rattle.export.specs.Table.{numbersOf}
+use Rattle.export.specs.Table.{givenBack}
 use Rattle.export.specs.Answers.{numberOf}
 use Rattle.export.proofs.make.burst_make.Statement.{statement}
 use Rattle.export.proofs.make.burst_make.Tie as tie
@@ -11,18 +12,21 @@ use Rattle.export.proofs.make.burst_make.Tie as tie
 make-requires : tie.Need-make-requires
 make-requires c κs = search needs
 
-put-table-requires : tie.Need-put-table-requires
-put-table-requires c κs = search needs
-
 number-requires : tie.Need-number-requires
 number-requires c κs = search needs
 
+give-back-requires : tie.Need-give-back-requires
+give-back-requires c κs = search needs
+
 returns : tie.Need-returns
 returns c =
-    let m = c .before .before .before .before in (
-      c .number .ensures ∙ ap (λ (x : Making). numberOf (madeNumbers (x .answer))) (m .make .ensures),
-      c .before .put-table .ensures ∙ ap (λ (x : Making). numbersOf (x .table)) (m .make .ensures),
+    let a = c .before .before .before .before .before .args in
+    let m = c .before .before .before .before .make in
+    let k = c .before .before .number in
+    let told = k .ensures ∙ ap (λ (x : Making). numberOf (madeNumbers (x .answer))) (m .ensures) in (
+      told,
+      c .give-back .ensures ∙ ap₂ (λ (x : ℕ) (y : Making). givenBack x (y .table) (a .table .now)) told (m .ensures),
     )
 
 pub burst-make-spec : {M : Type 1} → statement M
-burst-make-spec = tie.close (tie.spec make-requires put-table-requires number-requires returns)
+burst-make-spec = tie.close (tie.spec make-requires number-requires give-back-requires returns)
