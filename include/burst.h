@@ -1,10 +1,10 @@
 /*
  * The relay's burst codec for C99 and C++: tables, coder, decoder.
  *
- * Link with libexport.a (make staticlib), which is for x86-64 and needs memcpy, memmove and memset of the C library. Nothing
- * here keeps a state of its own, allocates, or calls back: a caller lends all memory, and a call writes only what its
- * comment says. What the comments say of answers and memory is proved, for every value of every argument, and so is that
- * every call ends; docs/ASSURANCE.md has the statements. That this header fits the archive is tested.
+ * Link with libexport.a (make staticlib), which is for x86-64 Linux and needs memcpy, memmove and memset of the C
+ * library. Nothing here keeps a state of its own, allocates, or calls back: a caller lends all memory, and a call writes
+ * only what its comment says. What the comments say of answers and memory is proved, for every value of every argument,
+ * and so is that every call ends; docs/ASSURANCE.md has the statements. That this header fits the archive is tested.
  *
  * What a caller owes, as C cannot say it: a pointer is not null, not even with a length of 0, is aligned for its type,
  * and has behind it as many elements as the length says (18 for a table); what a call writes overlaps nothing else that
@@ -17,18 +17,20 @@
  * always. In one stream the parity of block t is the exclusive or, over j from 1 to n - 1 and all k, of bit k of row j
  * times symbol j of block t - k; blocks before the start are 0.
  *
- * An error block is below 2^n and has a one for each wrong symbol. Its image is the exclusive or of the rows of its ones.
- * The image shifted by l is the image times 2^l, bits N and above dropped. A table is unsuitable if for some l from 1 to
- * N - 1 the image of some error block e0 that is not 0 is the image of some error block e1, 0 allowed, shifted by l.
+ * An error block is below 2^n and has a one for each wrong symbol. Its image is the exclusive or of the rows of its
+ * ones. The image shifted by l is the image times 2^l, bits N and above dropped. A table is unsuitable if for some l
+ * from 1 to N - 1 the image of some error block e0 that is not 0 is the image of some error block e1, 0 allowed, shifted
+ * by l.
  *
  * A table is 18 numbers: n, N, m, then rows 1 to 15 (row j at table[2 + j]). Of a table that is handed in, rows past
  * n - 1 do not matter. Of a table that is given back they are 0. It is a plain value: it may be copied and kept.
  *
- * Memory. A coder's words are the turn, then a pending word for each stream. A decoder's are the turn, the fill, then for
- * each stream its pending word, its syndrome word, and N - 1 delayed blocks, the information as received, oldest first.
- * The turn, 0 to m - 1, is the stream of the next block; the fill grows by one a step to m * (N - 1) and stays. Bit k of a
- * pending word is what past blocks of the stream (in a decoder, as received) add to the parity k blocks after its next one.
- * A step writes the turn, a decoder's fill, and the words of the turn's stream, and no others.
+ * Memory. A coder's words are the turn, then a pending word for each stream. A decoder's are the turn, the fill, then
+ * for each stream its pending word, its syndrome word, and N - 1 delayed blocks, the information as received, oldest
+ * first. The turn, 0 to m - 1, is the stream of the next block; the fill grows by one a step to m * (N - 1) and stays.
+ * Once started, bit k of a pending word is what past blocks of the stream (in a decoder, as received) add to the parity
+ * k blocks after its next one. A step writes the turn, a decoder's fill, and the words of the turn's stream, and no
+ * others.
  *
  * Refusals. A call that refuses returns the number of the first reason that applies, and 0 means that it did not refuse:
  *
@@ -49,10 +51,11 @@
  *     12  n, N or m of the table is out of range, or one of its rows 1 to n - 1 is 2^N or more
  *     13  the lent memory has not exactly the length that is asked for
  *     14  a step: the turn is m or more, the fill exceeds m * (N - 1), or in the turn's stream a pending or syndrome word
- *         is 2^(N-1) or more or a delayed block 2^(n-1) or more (never so once started, and stepped with one table)
+ *         is 2^(N-1) or more or a delayed block 2^(n-1) or more (never so once started, and stepped with one table;
+ *         such a memory is to be started again)
  *     15  a step: the block is 2^(n-1) or more (information) or 2^n or more (received)
  *
- * A start or a step that refuses writes no word, so a sequence goes on as if the call had not come.
+ * A call that refuses writes nothing that it is lent, so a sequence goes on as if the call had not come.
  */
 #ifndef BURST_H
 #define BURST_H
@@ -76,43 +79,43 @@ struct burst_reading {
 /* What a coder's step says. */
 struct burst_coded {
     uint64_t refused; /* 0, or 12 to 15 */
-    uint64_t block;   /* the coded block, below 2^n: the information and its parity; 0 if refused */
+    uint64_t block;   /* the coded block, below 2^n and so a uint16_t: the information and its parity; 0 if refused */
 };
 
 /* What a decoder's step says: all 0 but its number if it is refused, all 0 if nothing is delivered yet. */
 struct burst_decoded {
     uint64_t refused; /* 0, or 12 to 15 */
-    uint64_t info;    /* the information of the block that was taken m * (N - 1) blocks before, corrected */
+    uint64_t info;    /* the information of the block taken m * (N - 1) blocks before, corrected if the mark is 3 */
     uint64_t mark;    /* 0 nothing yet, 1 clean, 2 held, 3 corrected, 4 doubtful */
     uint64_t error;   /* the error block that was removed, below 2^n, where the mark is 3; else 0 */
 };
 
 /*
  * Reads a table from bytes: records of one byte of kind and a body. Kind 1, sizes: three bytes n, N, m. Kind 2, row: one
- * byte j, then eight bytes of row j, low byte first. Kind 0, end: no body. Sizes come first, rows in any order, end last.
- * Any bytes may be handed in.
+ * byte j, then eight bytes of row j, low byte first. Kind 0, end: no body. Sizes come first, rows in any order, end
+ * last. Any bytes may be handed in.
  *
- * Accepted, the table has the sizes and rows of the records, and is suitable. On a refusal, 1 to 10, all 18 numbers are
- * written as 0. The bytes are only read.
+ * Accepted, the table has the sizes and rows of the records, and is suitable. Refused, 1 to 10, its 18 numbers stay as
+ * they were. The bytes are only read.
  */
 struct burst_reading burst_read(const uint8_t *bytes, size_t length, uint64_t table[18]);
 
 /*
  * Makes the table of Berlekamp and Preparata for n symbols, with N = 2n and depth m. It is suitable.
  *
- * Returns 0; or 11, if n is not 2 to 16 or m is not 1 to 64, and then all 18 numbers are written as 0.
+ * Returns 0; or 11, if n is not 2 to 16 or m is not 1 to 64, and then the 18 numbers stay as they were.
  */
 uint64_t burst_make(uint64_t n, uint64_t m, uint64_t table[18]);
 
 /*
- * Starts a coder's memory of 1 + m words: every word becomes 0.
+ * Starts a coder's memory of 1 + m words, at most 65: every word becomes 0.
  *
  * Returns 0; or 12 or 13, and then no word is written. The table is only read.
  */
 uint64_t burst_start_coder(const uint64_t table[18], uint64_t *words, size_t count);
 
 /*
- * Starts a decoder's memory of 2 + m * (N + 1) words: every word becomes 0.
+ * Starts a decoder's memory of 2 + m * (N + 1) words, at most 4,162: every word becomes 0.
  *
  * Returns 0; or 12 or 13, and then no word is written. The table is only read.
  */
@@ -129,20 +132,22 @@ struct burst_coded burst_code(const uint64_t table[18], uint64_t *words, size_t 
 /*
  * Takes one received block, which is below 2^n, on a decoder's memory of 2 + m * (N + 1) words, and delivers the oldest
  * delayed block of its stream, corrected: the one that was taken m * (N - 1) steps before, counting steps that were not
- * refused. The first m * (N - 1) of these on a started memory deliver nothing.
+ * refused. The first m * (N - 1) of these on a started memory deliver nothing; to get the last blocks, m * (N - 1) more
+ * are coded and taken.
  *
- * A term of the syndrome is the parity of the received information, exclusive or the received parity. The register is the
- * stream's syndrome word with the new term as bit N - 1: the last N terms of the stream since the word was last cleared,
- * and 0 before them. If the register is the image of an error block, the least such block is removed from what is
- * delivered and the word is cleared; if not, the word is the register halved, its bit 0 dropped. The mark tells what was
- * found: clean, the register is 0; corrected, it is not 0 and is the image of an error block; held, it is the image of
- * none and its bit 0 is 0; doubtful, it is the image of none and its bit 0 is 1.
+ * A term of the syndrome is the parity of the received information, exclusive or the received parity. The register is
+ * the stream's syndrome word with the new term as bit N - 1; once started, the last N terms of the stream since the word
+ * was last cleared, and 0 before them. If the register is the image of an error block, the least such block is removed
+ * from what is delivered and the word is cleared; if not, the word is the register halved, its bit 0 dropped. The mark
+ * tells what was found: clean, the register is 0; corrected, it is not 0 and is the image of an error block; held, it is
+ * the image of none and its bit 0 is 0; doubtful, it is the image of none and its bit 0 is 1.
  *
- * One table throughout, read or made; both memories started, and then written by steps alone; every coded block taken, in
- * order, wrong ones only in bursts within m blocks, with at least m * (N - 1) blocks between, all right: then every block
- * delivered is right, and none is doubtful. From any other memory, and after any other damage, that holds once
- * 2 * m * (N - 1) right blocks in a row were taken. A doubtful block may be wrong, and so may any other, where bursts were
- * longer or closer than this.
+ * One table throughout, read or made; both memories started, and then written by steps alone; every coded block taken,
+ * in order, wrong ones only in bursts within m blocks, with at least m * (N - 1) blocks between, all right: then every
+ * block delivered is right, and none is doubtful. From any other memory, and after any other damage, that holds once 2 *
+ * m * (N - 1) right blocks in a row were taken. A doubtful block may be wrong, and so may any other, where bursts were
+ * longer or closer than this. A block that was not received is a wrong one: any block below 2^n, such as 0, is handed in
+ * for it. One that is left out, or refused, gives all later ones to other streams.
  *
  * Refused, 12 to 15, it writes no word. The table is only read, and its suitability is not tested.
  */

@@ -21,10 +21,19 @@ static void numbers(const uint64_t *at, int count)
     printf("\n");
 }
 
+/* What stands in the table's numbers before they are written. */
+static void scribble(void)
+{
+    int i;
+    for (i = 0; i < 18; i++) {
+        table[i] = (uint64_t)(i + 1);
+    }
+}
+
 static void reading(const char *what, const uint8_t *bytes, size_t length)
 {
     struct burst_reading r;
-    memset(table, 0xff, sizeof table);
+    scribble();
     r = burst_read(bytes, length, table);
     printf("read %s: %" PRIu64 " place %" PRIu64 " triple %" PRIu64 " %" PRIu64 " %" PRIu64 "; table", what, r.refused, r.place, r.l, r.e0, r.e1);
     numbers(table, 18);
@@ -54,6 +63,7 @@ static void unsuitable(void)
         bytes[6 + 10 * j] = (uint8_t)(rows[j] & 255);
         bytes[7 + 10 * j] = (uint8_t)(rows[j] >> 8);
     }
+    scribble();
     r = burst_read(bytes, sizeof bytes, table);
     printf("read T9, unsuitable: %" PRIu64 " place %" PRIu64 ", %s; table", r.refused, r.place,
            1 <= r.l && r.l < 10 && 1 <= r.e0 && r.e0 < 32 && r.e1 < 32
@@ -66,7 +76,7 @@ static void unsuitable(void)
 static void make(uint64_t n, uint64_t m)
 {
     uint64_t refused;
-    memset(table, 0xff, sizeof table);
+    scribble();
     refused = burst_make(n, m, table);
     printf("make %" PRIu64 " %" PRIu64 ": %" PRIu64 "; table", n, m, refused);
     numbers(table, 18);

@@ -38,7 +38,6 @@ refusal-longest k h = omega (arith, digits-64 k h, field-length k newline)
 
 pub longest-line : LONGEST
 longest-line = record {
-  number = λ x h. let d = digits-64 x h in omega arith;
   delivery = line-longest;
   refusal = refusal-longest;
   odd = omega arith;

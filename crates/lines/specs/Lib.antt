@@ -1,3 +1,3 @@
--- `lines`: the lines of the listing program, how they are written, and what it prints of an input.
+-- `lines`: the lines of the listing program, and how they are written.
 pub mod Text
 pub mod Writing

@@ -1,6 +1,9 @@
 -- The lines of the listing program, as bytes: 01, "It prints a header, then one line a delivery: number from 0, information, mark, e or 0."
 --
 --   decimalOf x         the decimal digits of x, with no zero in front, and "0" for 0
+--   glyph d             the byte of a digit
+--   decimalWithin fuel x   the digits of x, if they are at most `fuel`
+--   space, newline      the two other bytes
 --   headerLine          "block info mark error"
 --   lineOf number d     the line of a delivery
 --   refusedLine k       "refused", a space and the number
@@ -23,7 +26,7 @@ unfoldable pub decimalWithin : ℕ → ℕ → List ℕ
 decimalWithin zero x = []
 decimalWithin (suc fuel) x = elim (ltb x 10) [ true ↦ glyph x ∷ [] | false ↦ decimalWithin fuel (x / 10) ++ (glyph (x % 10) ∷ []) ]
 
--- a number has fewer digits than x + 1, or as many
+-- x has at most x + 1 digits
 unfoldable pub decimalOf : ℕ → List ℕ
 decimalOf x = decimalWithin (suc x) x
 

@@ -6,7 +6,7 @@
 --   room out at             whether as many are free
 --   put out at bs           the bytes after a call that is to write bs: where there is no room, nothing is written
 --   putEnd out at bs        the position after it: where there is no room, it stays
---   LONGEST                 no line is longer
+--   Longest, LONGEST        no line is longer
 use mathlib.Core.Path.{_≡_}
 use mathlib.Core.Bool.{Bool, true, false}
 use mathlib.Core.List.{List, _++_}
@@ -15,7 +15,7 @@ use lib.Dec.{leb}
 use lib.ListN.{length, take, drop}
 use Rattle.link.specs.declared.decoder.Delivered.{Delivered}
 use Rattle.link.specs.Answers.{markError}
-use Rattle.lines.specs.Text.{decimalOf, headerLine, lineOf, refusedLine, oddLine}
+use Rattle.lines.specs.Text.{headerLine, lineOf, refusedLine, oddLine}
 
 unfoldable pub written : List ℕ → ℕ → List ℕ → List ℕ
 written out at bs = take at out ++ (bs ++ drop (at + length bs) out)
@@ -37,9 +37,8 @@ put out at bs = elim (room out at) [ true ↦ written out at bs | false ↦ out 
 unfoldable pub putEnd : List ℕ → ℕ → List ℕ → ℕ
 putEnd out at bs = elim (room out at) [ true ↦ at + length bs | false ↦ at ]
 
--- so where there is room every line, and every number, is written whole
+-- so where there is room every line is written whole
 pub record Longest : Type 0 where
-  pub number : (x : ℕ) → x < 2 ^ 64 → length (decimalOf x) ≤ longest
   pub delivery : (k : ℕ) (d : Delivered) → k < 2 ^ 64 → d .info < 2 ^ 16 → markError (d .mark) < 2 ^ 16 → length (lineOf k d) ≤ longest
   pub refusal : (k : ℕ) → k < 2 ^ 64 → length (refusedLine k) ≤ longest
   pub odd : length oddLine ≤ longest

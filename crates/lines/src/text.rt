@@ -1,4 +1,4 @@
-// Numbers and lines, written into lent bytes from a position on. Each public function returns the position after them; where there is no
+// Lines, written into lent bytes from a position on. Each public function returns the position after them; where there is no
 // room for the longest line it writes nothing, and the position stays.
 use link::decoder::Delivered;
 use link::decoder::Mark;

@@ -1,5 +1,5 @@
 -- The numbers of an answer, and the memory after the call: every function picks both by the same test of its fault. Assumes nothing.
-use mathlib.Core.Path.{_≡_, refl, _∙_}
+use mathlib.Core.Path.{_≡_, refl, sym, _∙_}
 use mathlib.Core.Bool.{Bool, true, false}
 use mathlib.Core.List.{List, [], _∷_}
 use Prim.Native.Nat.{ℕ, suc, _+_}
@@ -44,7 +44,9 @@ start-numbers t words s =
     answered startNumbers (startFault t words s) Started (StartRefused (startFault t words s)) [] (started words) s refl refl
 
 pub starts-whole : STARTS
-starts-whole t words s f size = starts t words s (start-fault t words s ∙ simp (f, eq-eqb (length s) words size))
+starts-whole t words s f size =
+    let e = starts t words s (start-fault t words s ∙ simp (f, eq-eqb (length s) words size)) in
+    (sym (e .0), sym (e .1))
 
 pub code-numbers : CODE-NUMBERS
 unfolding codeAnswer codeMemory

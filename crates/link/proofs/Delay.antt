@@ -2,6 +2,7 @@
 -- blocks taken. Nothing is asked of the first memory. Assumes nothing.
 --
 --   fill-complete    past m × (N − 1) steps the fill is complete
+--   fill-waits       after p steps it has grown by no more than p
 --   oldest           the oldest delayed block is the information received m × (N − 1) places before
 --   oldest-first     or a block of the first memory, where there is no such place
 use mathlib.Core.Path.{_≡_, refl, sym, ap, ap₂, _∙_}
@@ -38,6 +39,15 @@ module _ {n N m : ℕ} {infos : List ℕ} {S : ℕ → List ℕ} {R : ℕ → �
       go : (p ≤ fillOf (S p)) ⊎ (m * (N - 1) ≤ fillOf (S p)) → m * (N - 1) ≤ fillOf (S p)
       go (inl z) = omega arith
       go (inr z) = z
+
+  pub fill-waits : (p : ℕ) → p ≤ count → fillOf (S p) ≤ fillOf (S 0) + p
+  fill-waits zero h = omega arith
+  fill-waits (suc p) h = go (ltb (fillOf (S p)) (m * (N - 1))) (l .decodes p (omega arith) .fill-on) (fill-waits p (omega arith))
+    where
+      go : (b : Bool) → fillOf (S (suc p)) ≡ cond b (fillOf (S p) + 1) (fillOf (S p)) → fillOf (S p) ≤ fillOf (S 0) + p
+          → fillOf (S (suc p)) ≤ fillOf (S 0) + suc p
+      go true e z = omega arith
+      go false e z = omega arith
 
   abbrev dl : ℕ → ℕ → ℕ
   dl i p = delayedIn N (S p) i

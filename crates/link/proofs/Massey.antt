@@ -25,9 +25,9 @@ use Rattle.link.specs.declared.decoder.DecodeAnswer.the-variants.{Delive
 use Rattle.link.specs.Stream.{joining, information, errorOf, keptOf, markOf}
 use Rattle.link.specs.Start.{started}
 use Rattle.link.specs.Coder.{infoRows, coderWords, turnOf, pendingAt, coderFault, coderNext}
-use Rattle.link.specs.Decoder.{decoderWords, delayOf, pendingOf, decoderFault, decoderNext}
+use Rattle.link.specs.Decoder.{decoderWords, fillOf, delayOf, pendingOf, decoderFault, decoderNext}
 use Rattle.link.specs.Runs.{Call, sentBy, takenBy, takenAt}
-use Rattle.link.specs.Massey.{convolution, HoldsPast, stream, infoSent, blockSent, blockTaken, rawAt, registerAt, foundAt, PARITY, SYNDROME, SYNDROME-ERRORS, REGISTER, PENDING, PENDING-RECEIVED, DELIVERY}
+use Rattle.link.specs.Massey.{convolution, HoldsPast, stream, infoSent, blockSent, blockTaken, rawAt, registerAt, foundAt, PARITY, SYNDROME, SYNDROME-ERRORS, REGISTER, PENDING, PENDING-RECEIVED, DELIVERY, WAITING}
 use Rattle.link.proofs.Origin.{below-snoc}
 use Rattle.link.proofs.Step.{topped-low, topped-bit, joined-half, joined-odd, coder-half, coder-even}
 use Rattle.link.proofs.Started.{started-word}
@@ -36,7 +36,7 @@ use Rattle.link.proofs.Runs.{coderBefore, decoderBefore, before-first, 
 use Rattle.link.proofs.Memory.{Fits, CoderStep, Verdict, streamIn, pendingIn, syndromeIn, delayedIn}
 use Rattle.link.proofs.OneTable.{coded, taken-table, decoded, verdict}
 use Rattle.link.proofs.Turn.{CoderRun, DecoderRun, coder-again, coder-first, pending-again, pending-first, syndrome-again, syndrome-first}
-use Rattle.link.proofs.Delay.{fill-complete, oldest}
+use Rattle.link.proofs.Delay.{fill-complete, fill-waits, oldest}
 use Rattle.link.proofs.Convolution.{convolution-xor, stream-convolution, stream-past}
 use Rattle.link.proofs.Register.{register-lt, register-bit}
 
@@ -274,3 +274,11 @@ deliveries t s ds tables p late inside =
       info = information (t .symbols) (takenAt taken k .block) ⊕ information (t .symbols) (errorOf error);
       mark = markOf error (registerAt s ds (p - 1));
     })) there
+
+pub waiting : WAITING
+waiting t s ds tables p from inside few =
+    let run = decoded t s ds tables in
+    let here : suc (p - 1) ≡ p = omega arith in
+    let first = ap fillOf (before-first decoderFault decoderNext s ds) in
+    ap (λ (k : ℕ). takenAt (takenBy s ds) k .answer) (sym here)
+    ∙ run .decodes (p - 1) (omega arith) .waits (omega (arith, fill-waits run (p - 1) (omega arith), first))

@@ -7,6 +7,7 @@
 --   Answered fault values next before ns after   the numbers and the memory after a call that has this fault; every start and step promises it
 --   decodeValues t s r          the values of a decoder's step that is taken
 --   START-NUMBERS, CODE-NUMBERS, DECODE-NUMBERS  those of every start and of every step
+--   Ranges fault most           a fault that is not 0 is from 12 to `most`
 --   FAULT-RANGE                 a refusal's number is 12 or 13 of a start, and 12 to 15 of a step
 use mathlib.Core.Path.{_≡_}
 use mathlib.Core.Bool.{true, false}
@@ -93,6 +94,7 @@ DECODE-NUMBERS =
 abbrev pub Ranges : ℕ → ℕ → Type 0
 Ranges fault most = fault ≢ 0 → (12 ≤ fault) × (fault ≤ most)
 
+-- x is the length that a start asks for, and the block of a step
 abbrev pub FAULT-RANGE : Type 0
 FAULT-RANGE =
     (t : Table) (s : List ℕ) (x : ℕ) → Ranges (startFault t x s) 13 × Ranges (coderFault t s x) 15 × Ranges (decoderFault t s x) 15

@@ -1,7 +1,7 @@
 -- The examples T1 to T12 of 01, as data. T1 to T9 are those of `tables`. The depth m is 1 throughout.
 --
 --   Example     what is asked and what is answered
---   Holds x     the definitions give that answer
+--   Holds x, AllHold xs   the definitions give that answer, and all of these
 --   bytesOfZ    the bytes of T1
 --   steps       T10 to T12
 --   examples    T1 to T12

@@ -1,6 +1,6 @@
 -- In the guard the syndrome word runs empty, whatever it was: 000, VI. Nothing is said of bursts, and nothing of the memories.
 --
---   syndromesBy s ds     the syndrome word of the turn's stream before each step that is taken
+--   syndromeEntry, syndromesBy s ds   the syndrome word of the turn's stream, before a step and before each step that is taken
 --   syndromeAt xs p      entry p of such a list, counted from 1
 --   GUARD                after N − 1 + i right blocks of a stream it is below 2^(N−1−i)
 use Prim.Native.Nat.{ℕ, _+_, _-_, _*_, _^_, _≤_, _<_}

@@ -18,6 +18,7 @@
 --   REGISTER                          the register holds the last N raw terms since the word was last cleared
 --   PENDING, PENDING-RECEIVED         what a bit of a pending word is, of coder and of decoder
 --   DELIVERY                          which block a delivery is of, from any memory
+--   WAITING                           until the fill is complete nothing is delivered
 use mathlib.Core.Path.{_≡_}
 use mathlib.Core.Bool.{Bool, false, cond, xor, _&&_}
 use mathlib.Core.Logic.{_⊎_}
@@ -30,11 +31,11 @@ use Rattle.span.specs.declared.eliminate.Least.the-variants.{Found, Missing}
 use Rattle.span.specs.Word.{_⊕_, bit}
 use Rattle.tables.specs.declared.table.Table.{Table}
 use Rattle.tables.specs.Table.{rowsOf}
-use Rattle.link.specs.declared.decoder.DecodeAnswer.the-variants.{Delivery}
+use Rattle.link.specs.declared.decoder.DecodeAnswer.the-variants.{Delivery, NothingYet}
 use Rattle.link.specs.Stream.{information, parity, rawTerm, errorOf, markOf}
 use Rattle.link.specs.Start.{started}
 use Rattle.link.specs.Coder.{infoRows, coderWords, turnOf, pendingAt, coderFault, coderNext}
-use Rattle.link.specs.Decoder.{decoderWords, delayOf, pendingOf, decoderFault, decoderNext, decoderJoining, decoderRegister, decoderFound}
+use Rattle.link.specs.Decoder.{decoderWords, fillOf, delayOf, pendingOf, decoderFault, decoderNext, decoderJoining, decoderRegister, decoderFound}
 use Rattle.link.specs.Runs.{Call, Sent, Taken, run, sentBy, takenBy, sentAt, takenAt}
 use Rattle.link.specs.Recovery.{CoderTables, DecoderTables}
 
@@ -197,3 +198,10 @@ DELIVERY =
       info = information (t .symbols) (takenAt taken (p - delayOf t) .block) ⊕ information (t .symbols) (errorOf found);
       mark = markOf found register;
     })
+
+-- 01, "if not, the answer is "nothing yet" and fill grows by one": from a started memory, whose fill is 0, the first m × (N − 1) taken places.
+abbrev pub WAITING : Type 0
+WAITING =
+    (t : Table) (memory : List ℕ) (ds : List Call) →
+    let taken = takenBy memory ds in
+    DecoderTables t memory ds → (p : ℕ) → 1 ≤ p → p ≤ length taken → fillOf memory + (p - 1) < delayOf t → takenAt taken p .answer ≡ NothingYet

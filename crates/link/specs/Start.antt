@@ -33,4 +33,4 @@ startMemory t words s = elim (eqb (startFault t words s) 0) [ true ↦ started w
 
 -- a fit table starts a memory of the stated length
 abbrev pub STARTS : Type 0
-STARTS = (t : Table) (words : ℕ) (s : List ℕ) → fit t ≡ true → length s ≡ words → (Started ≡ startAnswer t words s) × (started words ≡ startMemory t words s)
+STARTS = (t : Table) (words : ℕ) (s : List ℕ) → fit t ≡ true → length s ≡ words → (startAnswer t words s ≡ Started) × (startMemory t words s ≡ started words)

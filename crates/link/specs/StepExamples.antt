@@ -2,6 +2,7 @@
 --
 --   outcome side t s b     numbers and memory after a coder's or a decoder's step
 --   takes, declines        a line of the table: a step that is taken, with its values and the memory after it; or a refusal, which writes nothing
+--   nothingYet             the values of a step that delivers nothing
 --   stepCases              the table
 --   STEP-CASES             every line of it is right
 use mathlib.Core.Path.{_≡_}

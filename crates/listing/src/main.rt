@@ -2,12 +2,12 @@
 // from which memory and number the next part goes on, is decided in `report`; here bytes move between the input, the buffers and the output.
 use libc::STDIN_FILENO;
 use libc::STDOUT_FILENO;
-use report::chunk::Progress;
-use report::chunk::chunk;
 use report::opening::opening;
+use report::part::Progress;
+use report::part::part;
 use tables::table::Table;
 
-// The most bytes that a turn reads, an even number: their lines have room in a large buffer (`PART-ROOM`).
+// The most bytes that a turn reads, an even number: their lines have room in a large buffer (`PROGRAM-ROOM`).
 const PART: usize = 2048;
 
 // The first `end` bytes of a buffer are written.
@@ -23,12 +23,12 @@ fn turn(t: Table, state: &mut [u64], number: u64) -> Progress {
     let mut bytes = [0u8; PART];
     let mut out = io::large_buffer();
     let got = io::read_full(STDIN_FILENO, &mut bytes);
-    let p = chunk(t, state, &bytes[..got], number, &mut out);
+    let p = part(t, state, &bytes[..got], number, &mut out);
     let is_written = print(&out, p.end);
     Progress {
         end: p.end,
         number: p.number,
-        stopped: p.stopped | !is_written | (got == 0),
+        stopped: p.stopped | !is_written | (got < PART),
     }
 }
 

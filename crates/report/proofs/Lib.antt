@@ -1,6 +1,6 @@
 -- Answers printed, listing in parts, the opening, the whole listing and the example. Lowest first.
 mod Answer
-mod Chunks
+mod Continued
 mod Loop
 mod Room
 mod Opens

@@ -58,7 +58,7 @@ unfolding openedWithin
 opens-nowhere s out sizes r h e =
     rw (h, openedWithin, e) (record { wrote = wrote-nothing out 0; table = refl; words = refl; memory = refl; number = refl; stops = refl })
 
-opened-there : (words bytes : ℕ) (sizes : List ℕ) → openingRoom words bytes ≡ true → openedWithin words bytes sizes ≡ opened sizes
+pub opened-there : (words bytes : ℕ) (sizes : List ℕ) → openingRoom words bytes ≡ true → openedWithin words bytes sizes ≡ opened sizes
 unfolding openedWithin
 opened-there words bytes sizes h = rw (h, openedWithin)
 

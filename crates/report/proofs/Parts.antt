@@ -12,8 +12,10 @@ use Rattle.tables.specs.declared.make.MakeAnswer.the-variants.{Made, OutOfRange
 use Rattle.tables.specs.Made.{making}
 use Rattle.lines.specs.Text.{headerLine, refusedLine}
 use Rattle.report.specs.Listing.{Listed, prefixed, madeListing, listed, listing, continued}
-use Rattle.report.specs.Opening.{openedMade, headed, opened, joined, wholeBlocks, partsListed, nothingListed, afterOpening, LISTING}
-use Rattle.report.proofs.Chunks.{continued-prefixed, chunks}
+use Rattle.report.specs.Opening.{openedMade, headed, opened, joined, wholeBlocks, partsListed, nothingListed, afterOpening, LISTING, openingRoom, PROGRAM-ROOM}
+use Rattle.report.proofs.Room.{part-room, listed-there}
+use Rattle.report.proofs.Opens.{opened-there}
+use Rattle.report.proofs.Continued.{continued-prefixed, parts}
 
 continued-nothing : (t : Table) (l : Listed) (b : Bool) → l .stopped ≡ b → continued t l [] ≡ l
 unfolding listed
@@ -25,7 +27,7 @@ continued-twice : (t : Table) (l : Listed) (b : Bool) (p q : List ℕ) → l .st
 continued-twice t l true p q e h = rw e
 continued-twice t l false p q e (inl even) =
     rw e (continued-prefixed t (l .text) (listed t (l .memory) (l .number) p) _ q refl
-    ∙ ap (prefixed (l .text)) (sym (chunks t (l .memory) (l .number) p q even)))
+    ∙ ap (prefixed (l .text)) (sym (parts t (l .memory) (l .number) p q even)))
 continued-twice t l false p q e (inr none) =
     rw (none, append-nil) (continued-nothing t (continued t l p) _ refl)
 
@@ -55,3 +57,10 @@ whole-listing (n ∷ []) parts (inr e) w = short-listing (n ∷ []) (joined part
 whole-listing (n ∷ m ∷ []) parts h w = opened-listing (making n m .answer) (making n m .table) parts w
 whole-listing (n ∷ m ∷ a ∷ bs) parts (inl e) w = absurd (omega arith)
 whole-listing (n ∷ m ∷ a ∷ bs) parts (inr e) w = absurd (omega (arith, e .0))
+
+pub program-room : PROGRAM-ROOM
+unfolding openingRoom
+program-room = (
+  λ sizes. opened-there 2114 86 sizes refl,
+  λ t s k bs few small. listed-there t s k bs 65536 (part-room k (length bs) few small),
+)

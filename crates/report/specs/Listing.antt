@@ -8,13 +8,12 @@
 --   Printed out at k a r end number stopped   what writing its bytes does
 --   listedAfter a s k rest   an answer listed, and then the rest
 --   listed t s k bs     the bytes bs listed, from the memory s and the number k on
---   continued t l bs    the bytes bs listed after l
 --   madeListing a t bs  the bytes bs listed with the made table, or refusal 11
 --   listing bs          all that the program prints of the input bs
---   CHUNKS              listing even parts one after the other is listing the whole
---   chunkRoom k bytes room      whether the lines of a part of so many bytes have room, and the numbers from k on
---   PART-ROOM                   the parts that the program reads have room
---   chunkListed t s k bs room   what a call that lists a part does, with `room` bytes for the lines
+--   continued t l bs    the bytes bs listed after l
+--   PARTS              listing even parts one after the other is listing the whole
+--   partRoom k bytes room      whether the lines of a part of so many bytes have room, and the numbers from k on
+--   partListed t s k bs room   what a call that lists a part does, with `room` bytes for the lines
 --   Lists l out r memory end number stopped   what such a call leaves and answers
 --   EXAMPLE             01's example
 use mathlib.Core.Path.{_≡_}
@@ -22,11 +21,11 @@ use mathlib.Core.Bool.{Bool, true, false, _&&_}
 use mathlib.Core.List.{List, [], _∷_, _++_}
 use Prim.Native.Nat.{ℕ, _+_, _*_, _/_, _%_, _^_, _≤_}
 use lib.Dec.{leb}
-use lib.ListN.{length}
+use lib.ListN.{length, getD}
 use Rattle.tables.specs.declared.table.Table.{Table}
 use Rattle.tables.specs.declared.make.MakeAnswer.{MakeAnswer}
 use Rattle.tables.specs.declared.make.MakeAnswer.the-variants.{Made, OutOfRange}
-use Rattle.tables.specs.Made.{making}
+use Rattle.tables.specs.Made.{making, madeNumbers}
 use Rattle.link.specs.declared.decoder.DecodeAnswer.{DecodeAnswer}
 use Rattle.link.specs.declared.decoder.DecodeAnswer.the-variants.{Delivery, NothingYet, Refused}
 use Rattle.link.specs.Start.{started}
@@ -91,7 +90,7 @@ listed t s k (low ∷ high ∷ bs) =
 -- refusal 11 is one of making the table; a made table is fit, and its decoder starts with zeros
 abbrev pub madeListing : MakeAnswer → Table → List ℕ → List ℕ
 madeListing Made t bs = (listed t (started (decoderWords t)) 0 bs) .text
-madeListing OutOfRange t bs = refusedLine 11
+madeListing OutOfRange t bs = refusedLine (getD (madeNumbers OutOfRange) 0 0)
 
 -- "The header comes first in any case"; "under two bytes, the header only"
 unfoldable pub listing : List ℕ → List ℕ
@@ -103,21 +102,17 @@ listing (n ∷ m ∷ bs) = headerLine ++ madeListing (making n m .answer) (makin
 abbrev pub continued : Table → Listed → List ℕ → Listed
 continued t l bs = elim (l .stopped) [ true ↦ l | false ↦ prefixed (l .text) (listed t (l .memory) (l .number) bs) ]
 
-abbrev pub CHUNKS : Type 0
-CHUNKS = (t : Table) (s : List ℕ) (k : ℕ) (before after : List ℕ) → length before % 2 ≡ 0 → listed t s k (before ++ after) ≡ continued t (listed t s k before) after
+abbrev pub PARTS : Type 0
+PARTS = (t : Table) (s : List ℕ) (k : ℕ) (before after : List ℕ) → length before % 2 ≡ 0 → listed t s k (before ++ after) ≡ continued t (listed t s k before) after
 
 -- What a call that lists a part does: for every block, and an odd byte, the longest line must have room, and the numbers must stay below 2^64.
 -- Otherwise the call lists nothing, and says that it stopped.
-unfoldable pub chunkRoom : ℕ → ℕ → ℕ → Bool
-chunkRoom k bytes room = leb k (2 ^ 63) && leb (longest * (bytes / 2 + 1)) room
+unfoldable pub partRoom : ℕ → ℕ → ℕ → Bool
+partRoom k bytes room = leb k (2 ^ 63) && leb (longest * (bytes / 2 + 1)) room
 
--- no run has so many deliveries; the program lends 65,536 bytes to a part
-abbrev pub PART-ROOM : Type 0
-PART-ROOM = (k bytes : ℕ) → k ≤ 2 ^ 63 → bytes ≤ 2048 → chunkRoom k bytes 65536 ≡ true
-
-unfoldable pub chunkListed : Table → List ℕ → ℕ → List ℕ → ℕ → Listed
-chunkListed t s k bs room =
-    elim (chunkRoom k (length bs) room) [ true ↦ listed t s k bs | false ↦ record { text = []; memory = s; number = k; stopped = true } ]
+unfoldable pub partListed : Table → List ℕ → ℕ → List ℕ → ℕ → Listed
+partListed t s k bs room =
+    elim (partRoom k (length bs) room) [ true ↦ listed t s k bs | false ↦ record { text = []; memory = s; number = k; stopped = true } ]
 
 -- the listing l is written from the start of `out` on, and its memory, number and stop are those that are left and answered
 pub record Lists (l : Listed) (out r memory : List ℕ) (end number : ℕ) (stopped : Bool) : Type 0 where

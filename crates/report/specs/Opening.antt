@@ -15,25 +15,27 @@
 --   wholeBlocks parts     no part ends in the middle of a block, unless no byte follows
 --   partsListed t l parts the parts listed one after the other, after l
 --   nothingListed t       a decoder started, and nothing listed
+--   afterOpening o parts  what the parts print, if the opening has not stopped
 --   LISTING               the opening, and then the parts, are the listing of the input
+--   PROGRAM-ROOM          with the program's buffers `opening` and `part` have the room that `LISTING` takes for granted
 use mathlib.Core.Path.{_≡_}
 use mathlib.Core.Bool.{Bool, true, false, _&&_}
 use mathlib.Core.Logic.{_⊎_}
 use mathlib.Core.List.{List, [], _∷_, _++_}
-use Prim.Native.Nat.{ℕ, _+_, _*_, _%_, _<_}
+use Prim.Native.Nat.{ℕ, _+_, _*_, _%_, _^_, _≤_, _<_}
 use lib.Dec.{leb}
-use lib.ListN.{length, drop}
+use lib.ListN.{length, getD, drop}
 use Rattle.tables.specs.declared.table.Table.{Table}
 use Rattle.tables.specs.declared.make.MakeAnswer.{MakeAnswer}
 use Rattle.tables.specs.declared.make.MakeAnswer.the-variants.{Made, OutOfRange}
 use Rattle.tables.specs.Table.{zeroTable}
-use Rattle.tables.specs.Made.{making}
+use Rattle.tables.specs.Made.{making, madeNumbers}
 use Rattle.link.specs.Start.{started}
 use Rattle.link.specs.Decoder.{decoderWords}
 use Rattle.report.specs.declared.opening.Opened.{Opened}
 use Rattle.lines.specs.Text.{headerLine, refusedLine}
 use Rattle.lines.specs.Writing.{Wrote, longest}
-use Rattle.report.specs.Listing.{Listed, continued, listing}
+use Rattle.report.specs.Listing.{Listed, listed, continued, listing, partListed}
 
 pub record Opening : Type 0 where
   pub text : List ℕ
@@ -43,7 +45,7 @@ pub record Opening : Type 0 where
 -- 11. "n or m is out of range", of making
 abbrev pub openedMade : MakeAnswer → Table → Opening
 openedMade Made t = record { text = []; table = t; stopped = false }
-openedMade OutOfRange t = record { text = refusedLine 11; table = zeroTable; stopped = true }
+openedMade OutOfRange t = record { text = refusedLine (getD (madeNumbers OutOfRange) 0 0); table = zeroTable; stopped = true }
 
 abbrev pub headed : Opening → Opening
 headed o = record { text = headerLine ++ o .text; table = o .table; stopped = o .stopped }
@@ -104,8 +106,14 @@ nothingListed t = record { text = []; memory = started (decoderWords t); number 
 abbrev pub afterOpening : Opening → List (List ℕ) → List ℕ
 afterOpening o parts = elim (o .stopped) [ true ↦ [] | false ↦ partsListed (o .table) (nothingListed (o .table)) parts .text ]
 
--- whatever the parts are in which the input is read
+-- in whatever parts the input is read, if none ends in the middle of a block while bytes follow
 abbrev pub LISTING : Type 0
 LISTING =
     (sizes : List ℕ) (parts : List (List ℕ)) → (length sizes ≡ 2) ⊎ ((length sizes < 2) × (joined parts ≡ [])) → wholeBlocks parts
     → listing (sizes ++ joined parts) ≡ opened sizes .text ++ afterOpening (opened sizes) parts
+
+-- 2,114 words and 86 bytes for the opening, and 65,536 bytes for the lines of a part of at most 2,048; no run has 2^63 deliveries
+abbrev pub PROGRAM-ROOM : Type 0
+PROGRAM-ROOM =
+    ((sizes : List ℕ) → openedWithin 2114 86 sizes ≡ opened sizes)
+    × ((t : Table) (s : List ℕ) (k : ℕ) (bs : List ℕ) → k ≤ 2 ^ 63 → length bs ≤ 2048 → partListed t s k bs 65536 ≡ listed t s k bs)

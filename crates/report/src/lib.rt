@@ -1,3 +1,3 @@
 // What the listing program prints of an input: its opening, and then one part after the other.
-pub mod chunk;
 pub mod opening;
+pub mod part;

@@ -76,7 +76,7 @@ fn after_header(n: usize, m: usize, memory: &mut [u64], out: &mut [u8], end: usi
     }
 }
 
-// `sizes` are the first two bytes of the input, or all that it has. Without room nothing is written, and the program is to stop.
+// `sizes` are the first two bytes of the input, or all that it has; of more, those after the second are not looked at. Without room nothing is written, and the program is to stop.
 pub fn opening(sizes: &[u8], memory: &mut [u64], out: &mut [u8]) -> Opened
     ensures { λ r. ⌜ Opens (openedWithin (length (now (memory .entry))) (length (now (out .entry))) (now (sizes .entry))) 0 (now (memory .entry)) (now (memory .exit)) (now (out .entry)) (now (out .exit)) r ⌝ }
 {

@@ -1,7 +1,8 @@
 -- The examples T1 to T9 of 01, as data. The depth m is 1 throughout.
 --
 --   Example     what is asked and what is answered
---   Holds x     the definitions give that answer
+--   Holds x, AllHold xs   the definitions give that answer, and all of these
+--   row j a b   a row record
 --   examples    T1 to T9
 --   EXAMPLES    all of them hold
 use mathlib.Core.Path.{_≡_}

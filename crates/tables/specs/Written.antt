@@ -1,9 +1,11 @@
 -- The bytes that say a table: the sizes record, the row records in some order, the end. The format read backwards.
 --
 --   bytesOf c w        the c bytes of the number w, low byte first
---   rowRecords t js    the row records of t for the row numbers js
+--   sizesRecord t      the sizes record of t
+--   rowRecord t j, rowRecords t js   the row record of t for row j, and those for the row numbers js
 --   times j js         how often j stands in js
 --   EachOnce n js      each of 1 to n − 1 stands in js exactly once, and nothing else does
+--   Whole t            t is fit, and its rows past n − 1 are 0
 --   Written bytes t    the bytes say t
 --   PARSES-EXACTLY     bytes parse to a table exactly if they are written so
 use mathlib.Core.Path.{_≡_}

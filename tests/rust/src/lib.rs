@@ -53,8 +53,8 @@ pub mod linked {
         fn burst_decode(table: *const u64, words: *mut u64, count: usize, received: u16) -> Decoded;
     }
 
-    /// What a returned table holds before the call, so that a number left unwritten shows.
-    const UNWRITTEN: Numbers = [0xA5A5_A5A5_A5A5_A5A5; 18];
+    /// What the numbers lent for a table hold before the call: a refusal leaves them so.
+    pub const UNWRITTEN: Numbers = [0xA5A5_A5A5_A5A5_A5A5; 18];
 
     pub fn read(bytes: &[u8]) -> (Reading, Numbers) {
         let mut table = UNWRITTEN;

@@ -147,7 +147,7 @@ fn readings_agree(bytes: &[u8], expected: Reading, got: Reading) -> bool {
 fn compare_read(tally: &mut Tally, bytes: &[u8]) -> Reading {
     let answer = oracle::read_table(bytes);
     let expected = plain_reading(&answer);
-    let numbers = answer.map_or([0; 18], |table| table.numbers());
+    let numbers = answer.map_or(linked::UNWRITTEN, |table| table.numbers());
     let (got, got_numbers) = linked::read(bytes);
     tally.count(expected.refused);
     tally.check(readings_agree(bytes, expected, got) && got_numbers == numbers, || {
@@ -159,7 +159,7 @@ fn compare_read(tally: &mut Tally, bytes: &[u8]) -> Reading {
 fn compare_make(tally: &mut Tally, n: u64, m: u64) {
     let answer = oracle::make_table(n, m);
     let refused = answer.as_ref().err().copied().unwrap_or(0);
-    let numbers = answer.map_or([0; 18], |table| table.numbers());
+    let numbers = answer.map_or(linked::UNWRITTEN, |table| table.numbers());
     let got = linked::make(n, m);
     tally.count(refused);
     tally.check(got == (refused, numbers), || {

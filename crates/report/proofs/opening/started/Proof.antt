@@ -52,7 +52,7 @@ returns c =
     let room : n ≤ length (a .memory .now) = omega (arith, few (c .before .before .before .before .before .before .before), p .2) in
     let whole = starts-whole (a .t) n (midOf 0 (n - 0) (a .memory .now)) (p .0) (let l = mid-len 0 n (a .memory .now) room in omega arith) in (
       refl,
-      ap₂ _++_ (c .before .before .start-decoder .ensures .1 .0 ∙ sym (whole .1)) (post-is 0 n (a .memory .now) (omega arith)),
+      ap₂ _++_ (c .before .before .start-decoder .ensures .1 .0 ∙ whole .1) (post-is 0 n (a .memory .now) (omega arith)),
     )
 
 pub started-spec : {M : Type 1} → statement M

@@ -9,7 +9,7 @@ use Rattle.link.specs.declared.decoder.DecodeAnswer.{DecodeAnswer}
 use Rattle.link.specs.declared.decoder.DecodeAnswer.the-variants.{Delivery, NothingYet, Refused}
 use Rattle.link.specs.Decoder.{decodeAnswer, decodeMemory}
 use Rattle.lines.specs.Text.{lineOf}
-use Rattle.report.specs.Listing.{Listed, prefixed, blockOf, listedAfter, listed, continued, CHUNKS}
+use Rattle.report.specs.Listing.{Listed, prefixed, blockOf, listedAfter, listed, continued, PARTS}
 
 -- what is printed before it does not change how a listing goes on
 pub continued-prefixed : (t : Table) (ps : List ℕ) (l : Listed) (b : Bool) (bs : List ℕ) → l .stopped ≡ b
@@ -25,11 +25,11 @@ continued-after t (Delivery d) s k xs bs h =
 continued-after t NothingYet s k xs bs h = h k ∙ sym (continued-prefixed t [] (listed t s k xs) _ bs refl)
 continued-after t (Refused f) s k xs bs h = refl
 
-pub chunks : CHUNKS
+pub parts : PARTS
 unfolding listed
-chunks t s k [] bs h = refl
-chunks t s k (a ∷ []) bs h = absurd (omega arith)
-chunks t s k (low ∷ high ∷ xs) bs h =
+parts t s k [] bs h = refl
+parts t s k (a ∷ []) bs h = absurd (omega arith)
+parts t s k (low ∷ high ∷ xs) bs h =
     let r = blockOf low high in
     let after = decodeMemory t s r in
-    continued-after t (decodeAnswer t s r) after k xs bs (λ next. chunks t after next xs bs (omega arith))
+    continued-after t (decodeAnswer t s r) after k xs bs (λ next. parts t after next xs bs (omega arith))

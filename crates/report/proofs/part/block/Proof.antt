@@ -1,10 +1,10 @@
--- `report::chunk::block`: two bytes make a number of 16 bits. Assumes nothing.
+-- `report::part::block`: two bytes make a number of 16 bits. Assumes nothing.
 use Prim.Native.Nat.{_+_, _<_}
 use native.Mathlib.Omega.{arith}
 use lib.ListN.{getD}
 use borrow.Author.Needs.{needs}
-use Rattle.report.proofs.chunk.block.Statement.{statement}
-use Rattle.report.proofs.chunk.block.Tie as tie
+use Rattle.report.proofs.part.block.Statement.{statement}
+use Rattle.report.proofs.part.block.Tie as tie
 
 -- the high byte is a byte
 high : (c : tie.After-shared-slice-known2) → getD (c .before .before .args .bytes .now) (c .before .before .args .at + 1) 0 < 256

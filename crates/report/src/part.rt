@@ -9,7 +9,7 @@ ghost use mathlib.Core.Path.{_≡_};
 ghost use Prim.Native.Nat.{_+_, _*_, _/_, _≤_, _<_, _^_};
 ghost use lib.ListN.{length, getD};
 ghost use Rattle.lines.specs.Writing.{longest};
-ghost use Rattle.report.specs.Listing.{blockOf, Printed, listed, chunkRoom, chunkListed, Lists};
+ghost use Rattle.report.specs.Listing.{blockOf, Printed, listed, partRoom, partListed, Lists};
 
 // How far a listing came: the count of bytes written, the number of the next delivery, and whether it stopped.
 pub struct Progress {
@@ -51,7 +51,7 @@ fn answer_line(answer: DecodeAnswer, number: u64, out: &mut [u8], at: usize) -> 
 }
 
 // Every block, and then an odd byte. There is room for all of their lines.
-fn lines(t: Table, state: &mut [u64], bytes: &[u8], number: u64, out: &mut [u8]) -> Progress
+fn list(t: Table, state: &mut [u64], bytes: &[u8], number: u64, out: &mut [u8]) -> Progress
     requires { ⌜ (number ≤ 2 ^ 63) × (longest * (length (now bytes) / 2 + 1) ≤ length (now out)) ⌝ }
     ensures { λ r. ⌜ Lists (listed t (now (state .entry)) number (now (bytes .entry))) (now (out .entry)) (now (out .exit)) (now (state .exit)) (r .end) (r .number) (r .stopped) ⌝ }
 {
@@ -88,7 +88,7 @@ fn lines(t: Table, state: &mut [u64], bytes: &[u8], number: u64, out: &mut [u8])
 
 // Whether the numbers of the lines and the lines themselves have room.
 fn fits(number: u64, bytes: usize, room: usize) -> bool
-    ensures { λ r. ⌜ r ≡ chunkRoom number bytes room ⌝ }
+    ensures { λ r. ⌜ r ≡ partRoom number bytes room ⌝ }
 {
     (number <= 9223372036854775808) & (bytes / 2 + 1 <= room / 43)
 }
@@ -96,11 +96,11 @@ fn fits(number: u64, bytes: usize, room: usize) -> bool
 // A part of the input, an even one unless it is the last, listed into `out` from its start on. The listing goes on from the memory, with the
 // number that is returned. Where its lines have no room, or the number is above 2^63, nothing is listed, no word is written, and the listing
 // stops.
-pub fn chunk(t: Table, state: &mut [u64], bytes: &[u8], number: u64, out: &mut [u8]) -> Progress
-    ensures { λ r. ⌜ Lists (chunkListed t (now (state .entry)) number (now (bytes .entry)) (length (now (out .entry)))) (now (out .entry)) (now (out .exit)) (now (state .exit)) (r .end) (r .number) (r .stopped) ⌝ }
+pub fn part(t: Table, state: &mut [u64], bytes: &[u8], number: u64, out: &mut [u8]) -> Progress
+    ensures { λ r. ⌜ Lists (partListed t (now (state .entry)) number (now (bytes .entry)) (length (now (out .entry)))) (now (out .entry)) (now (out .exit)) (now (state .exit)) (r .end) (r .number) (r .stopped) ⌝ }
 {
     if fits(number, bytes.len(), out.len()) {
-        return lines(t, state, bytes, number, out);
+        return list(t, state, bytes, number, out);
     }
     Progress {
         end: 0,

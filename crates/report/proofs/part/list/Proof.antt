@@ -1,4 +1,4 @@
--- `report::chunk::lines`: turn by turn (`Loop`). Assumes nothing.
+-- `report::part::list`: turn by turn (`Loop`). Assumes nothing.
 use mathlib.Core.Path.{_≡_, sym, ap, subst, _∙_}
 use Prim.Native.Nat.{ℕ, _+_, _-_, _*_, _/_, _^_, _≤_, _<_}
 use native.Mathlib.Omega.{arith}
@@ -11,8 +11,8 @@ use Rattle.lines.specs.Writing.{longest}
 use Rattle.report.specs.Listing.{blockOf, Printed}
 use Rattle.report.proofs.Answer.{put-wrote}
 use Rattle.report.proofs.Loop.{Going, going-start, going-next, going-stops, going-odd, going-even}
-use Rattle.report.proofs.chunk.lines.Statement.{statement}
-use Rattle.report.proofs.chunk.lines.Tie as tie
+use Rattle.report.proofs.part.list.Statement.{statement}
+use Rattle.report.proofs.part.list.Tie as tie
 
 abbrev Inv-loop : tie.InvT-loop
 Inv-loop t state₀ bytes number out₀ end₀ next₀ i₀ state out end next i = Going t state₀ number bytes out₀ state out end next i
@@ -120,8 +120,8 @@ returns-3 c =
     let l = c .before .before .loop in
     going-even (a .t) (a .state .now) (a .number) (a .bytes .now) (a .out .now) (known (c .before .before .before .before .before .before) .1) (l .inv) (omega arith)
 
-pub lines-spec : {M : Type 1} → statement M
-lines-spec =
+pub list-spec : {M : Type 1} → statement M
+list-spec =
     tie.close
     (tie.spec
     Inv-loop

@@ -1,10 +1,10 @@
--- `report::chunk::answer_line`: answer by answer. Assumes nothing.
+-- `report::part::answer_line`: answer by answer. Assumes nothing.
 use native.Mathlib.Omega.{arith}
 use Rattle.lines.proofs.Longest.{longest-line}
 use Rattle.report.proofs.Answer.{printed-delivery, printed-nothing, printed-refusal}
 use borrow.Author.Needs.{needs}
-use Rattle.report.proofs.chunk.answer_line.Statement.{statement}
-use Rattle.report.proofs.chunk.answer_line.Tie as tie
+use Rattle.report.proofs.part.answer_line.Statement.{statement}
+use Rattle.report.proofs.part.answer_line.Tie as tie
 
 enum-known-answer : tie.Need-enum-known-answer
 enum-known-answer c = search needs
