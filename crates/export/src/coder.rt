@@ -1,8 +1,11 @@
 // A coder's step.
-use crate::table::table_of;
+use crate::table::sizes_of;
 use link::coder::CodeAnswer;
-use link::coder::code;
+use link::coder::code_lent;
+use tables::table::Table;
 ghost use mathlib.Core.Path.{_≡_};
+ghost use lib.ListN.{length, drop};
+ghost use Rattle.link.specs.Lent.{withRows};
 ghost use Rattle.link.specs.Coder.{codeAnswer, codeMemory};
 ghost use Rattle.link.specs.Answers.{codeNumbers};
 ghost use Rattle.export.specs.Table.{tableOf};
@@ -29,10 +32,19 @@ fn coded(answer: CodeAnswer) -> BurstCoded
     }
 }
 
+// The rows are lent where they stand.
+fn step(t: Table, numbers: &[u64], words: &mut [u64], info: u16) -> CodeAnswer
+    requires { ⌜ length (now numbers) ≡ 18 ⌝ }
+    ensures answer { λ r. ⌜ r ≡ codeAnswer (withRows t (drop 3 (now (numbers .entry)))) (now (words .entry)) info ⌝ }
+    ensures memory { λ r. ⌜ now (words .exit) ≡ codeMemory (withRows t (drop 3 (now (numbers .entry)))) (now (words .entry)) info ⌝ }
+{
+    code_lent(t, &numbers[3..18], words, info)
+}
+
 #[no_mangle]
 pub extern "C" fn burst_code(table: &[u64; 18], words: &mut [u64], info: u16) -> BurstCoded
     ensures answer { λ r. ⌜ r ≡ codedOf (codeNumbers (codeAnswer (tableOf (now (table .entry))) (now (words .entry)) info)) ⌝ }
     ensures memory { λ r. ⌜ now (words .exit) ≡ codeMemory (tableOf (now (table .entry))) (now (words .entry)) info ⌝ }
 {
-    coded(code(table_of(table), words, info))
+    coded(step(sizes_of(table), table, words, info))
 }

@@ -1,11 +1,14 @@
 // A decoder's step.
-use crate::table::table_of;
+use crate::table::sizes_of;
 use link::decoder::DecodeAnswer;
 use link::decoder::Delivered;
 use link::decoder::Mark;
-use link::decoder::decode;
+use link::decoder::decode_lent;
+use tables::table::Table;
 ghost use mathlib.Core.Path.{_≡_};
 ghost use mathlib.Core.List.{_∷_};
+ghost use lib.ListN.{length, drop};
+ghost use Rattle.link.specs.Lent.{withRows};
 ghost use Rattle.link.specs.Decoder.{decodeAnswer, decodeMemory};
 ghost use Rattle.link.specs.Answers.{recordNumbers, decodeNumbers};
 ghost use Rattle.export.specs.Table.{tableOf};
@@ -73,10 +76,19 @@ fn decoded(answer: DecodeAnswer) -> BurstDecoded
     }
 }
 
+// The rows are lent where they stand.
+fn step(t: Table, numbers: &[u64], words: &mut [u64], received: u16) -> DecodeAnswer
+    requires { ⌜ length (now numbers) ≡ 18 ⌝ }
+    ensures answer { λ r. ⌜ r ≡ decodeAnswer (withRows t (drop 3 (now (numbers .entry)))) (now (words .entry)) received ⌝ }
+    ensures memory { λ r. ⌜ now (words .exit) ≡ decodeMemory (withRows t (drop 3 (now (numbers .entry)))) (now (words .entry)) received ⌝ }
+{
+    decode_lent(t, &numbers[3..18], words, received)
+}
+
 #[no_mangle]
 pub extern "C" fn burst_decode(table: &[u64; 18], words: &mut [u64], received: u16) -> BurstDecoded
     ensures answer { λ r. ⌜ r ≡ decodedOf (decodeNumbers (decodeAnswer (tableOf (now (table .entry))) (now (words .entry)) received)) ⌝ }
     ensures memory { λ r. ⌜ now (words .exit) ≡ decodeMemory (tableOf (now (table .entry))) (now (words .entry)) received ⌝ }
 {
-    decoded(decode(table_of(table), words, received))
+    decoded(step(sizes_of(table), table, words, received))
 }

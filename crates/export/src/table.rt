@@ -2,7 +2,7 @@
 use tables::table::Table;
 ghost use mathlib.Core.Path.{_≡_};
 ghost use lib.ListN.{length, drop};
-ghost use Rattle.export.specs.Table.{tableOf, numbersOf, givenBack};
+ghost use Rattle.export.specs.Table.{tableOf, sizesOf, numbersOf, givenBack};
 
 fn rows_of(numbers: &[u64]) -> [u64; 15]
     requires { ⌜ length (now numbers) ≡ 18 ⌝ }
@@ -17,14 +17,27 @@ fn rows_of(numbers: &[u64]) -> [u64; 15]
     rows
 }
 
-pub fn table_of(numbers: &[u64; 18]) -> Table
-    ensures { λ r. ⌜ r ≡ tableOf (now (numbers .entry)) ⌝ }
+// The table of the sizes alone, for a step that is lent the rows.
+pub fn sizes_of(numbers: &[u64; 18]) -> Table
+    ensures { λ r. ⌜ r ≡ sizesOf (now (numbers .entry)) ⌝ }
 {
-    let rows = rows_of(numbers);
     Table {
         symbols: numbers[0] as usize,
         span: numbers[1] as usize,
         depth: numbers[2] as usize,
+        rows: [0; 15],
+    }
+}
+
+pub fn table_of(numbers: &[u64; 18]) -> Table
+    ensures { λ r. ⌜ r ≡ tableOf (now (numbers .entry)) ⌝ }
+{
+    let rows = rows_of(numbers);
+    let t = sizes_of(numbers);
+    Table {
+        symbols: t.symbols,
+        span: t.span,
+        depth: t.depth,
         rows,
     }
 }

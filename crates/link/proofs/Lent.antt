@@ -39,29 +39,23 @@ module _ (t : Table) (s : List ℕ) (r : ℕ) (span-from : 2 ≤ t .span) (room 
   pub oldest-is : getD part 2 0 ≡ delayedOf t s (turnOf s) 0
   oldest-is = word 2 (omega arith) ∙ ap (λ (i : ℕ). getD s i 0) (sym (add-zero (at + 2)))
 
-  -- the rows are lent beside the table
-  module _ (rows : List ℕ) (same : rows ≡ t .rows) where
-    pub lent-part : streamNext (t .symbols) (t .span) rows (getD part 0 0) (getD part 1 0) (drop 3 part) r ≡ partNext t s r
-    unfolding partNext
-    lent-part =
-        ap (λ (rs : List ℕ). streamNext (t .symbols) (t .span) rs (getD part 0 0) (getD part 1 0) (drop 3 part) r) same
-        ∙ ap₂ (λ (p q : ℕ). streamNext (t .symbols) (t .span) (t .rows) p q (drop 3 part) r) pending-is syndrome-is
-        ∙ ap (λ (l : List ℕ). streamNext (t .symbols) (t .span) (t .rows) (pendingOf t s (turnOf s)) (syndromeOf t s (turnOf s)) l r)
-        (mid-drop s at end 3 (omega arith) room)
+  pub lent-part : streamNext (t .symbols) (t .span) (t .rows) (getD part 0 0) (getD part 1 0) (drop 3 part) r ≡ partNext t s r
+  unfolding partNext
+  lent-part =
+      ap₂ (λ (p q : ℕ). streamNext (t .symbols) (t .span) (t .rows) p q (drop 3 part) r) pending-is syndrome-is
+      ∙ ap (λ (l : List ℕ). streamNext (t .symbols) (t .span) (t .rows) (pendingOf t s (turnOf s)) (syndromeOf t s (turnOf s)) l r)
+      (mid-drop s at end 3 (omega arith) room)
 
-    pub lent-info : streamInfo (t .symbols) (t .span) rows (getD part 0 0) (getD part 1 0) (getD part 2 0) r ≡ delivered t s r .info
-    unfolding delivered
-    lent-info =
-        ap (λ (rs : List ℕ). streamInfo (t .symbols) (t .span) rs (getD part 0 0) (getD part 1 0) (getD part 2 0) r) same
-        ∙ ap₂ (λ (p q : ℕ). streamInfo (t .symbols) (t .span) (t .rows) p q (getD part 2 0) r) pending-is syndrome-is
-        ∙ ap (λ (o : ℕ). streamInfo (t .symbols) (t .span) (t .rows) (pendingOf t s (turnOf s)) (syndromeOf t s (turnOf s)) o r) oldest-is
+  pub lent-info : streamInfo (t .symbols) (t .span) (t .rows) (getD part 0 0) (getD part 1 0) (getD part 2 0) r ≡ delivered t s r .info
+  unfolding delivered
+  lent-info =
+      ap₂ (λ (p q : ℕ). streamInfo (t .symbols) (t .span) (t .rows) p q (getD part 2 0) r) pending-is syndrome-is
+      ∙ ap (λ (o : ℕ). streamInfo (t .symbols) (t .span) (t .rows) (pendingOf t s (turnOf s)) (syndromeOf t s (turnOf s)) o r) oldest-is
 
-    pub lent-mark : streamMark (t .symbols) (t .span) rows (getD part 0 0) (getD part 1 0) r ≡ delivered t s r .mark
-    unfolding delivered
-    lent-mark =
-        ap (λ (rs : List ℕ). streamMark (t .symbols) (t .span) rs (getD part 0 0) (getD part 1 0) r) same
-        ∙ ap₂ (λ (p q : ℕ). streamMark (t .symbols) (t .span) (t .rows) p q r) pending-is syndrome-is
+  pub lent-mark : streamMark (t .symbols) (t .span) (t .rows) (getD part 0 0) (getD part 1 0) r ≡ delivered t s r .mark
+  unfolding delivered
+  lent-mark = ap₂ (λ (p q : ℕ). streamMark (t .symbols) (t .span) (t .rows) p q r) pending-is syndrome-is
 
-    pub lent-memory : (last : List ℕ) → last ≡ streamNext (t .symbols) (t .span) rows (getD part 0 0) (getD part 1 0) (drop 3 part) r
-        → putMid at (end - at) s last ≡ streamReplaced t s r
-    lent-memory last e = ap (putMid at (end - at) s) (e ∙ lent-part) ∙ put-part s (partNext t s r) at end (omega arith)
+  pub lent-memory : (last : List ℕ) → last ≡ streamNext (t .symbols) (t .span) (t .rows) (getD part 0 0) (getD part 1 0) (drop 3 part) r
+      → putMid at (end - at) s last ≡ streamReplaced t s r
+  lent-memory last e = ap (putMid at (end - at) s) (e ∙ lent-part) ∙ put-part s (partNext t s r) at end (omega arith)

@@ -9,8 +9,8 @@ ghost use mathlib.Core.List.{[], _∷_};
 ghost use Prim.Native.Nat.{_+_, _-_, _/_, _≤_};
 ghost use lib.ListN.{length, getD, set, take};
 ghost use Rattle.span.specs.Word.{odd, digit};
-ghost use Rattle.tables.specs.Table.{fit};
 ghost use Rattle.link.specs.Stream.{joining};
+ghost use Rattle.link.specs.Lent.{withRows, lent};
 ghost use Rattle.link.specs.Coder.{coderMalformed, coderFault, codedBlock, coderNext, codeAnswer, codeMemory};
 ghost use Rattle.link.specs.Answers.{codeNumbers, Answered};
 
@@ -34,11 +34,10 @@ fn malformed(t: Table, state: &[u64]) -> bool
 }
 
 // The first of refusals 12 to 15 that applies, or 0.
-fn fault(t: Table, fits: bool, state: &[u64], block: u64) -> u64
-    requires { ⌜ fits ≡ fit t ⌝ }
-    ensures { λ r. ⌜ r ≡ coderFault t (now (state .entry)) block ⌝ }
+fn fault(t: Table, rows: &[u64], state: &[u64], block: u64) -> u64
+    ensures { λ r. ⌜ r ≡ coderFault (withRows t (now (rows .entry))) (now (state .entry)) block ⌝ }
 {
-    if !fits {
+    if !is_fit(t.symbols, t.span, t.depth, rows) {
         return 12;
     }
     if state.len() != 1 + t.depth {
@@ -66,10 +65,10 @@ fn join(part: &mut [u64], rows: &[u64], count: usize, info: u64) -> u64
 }
 
 // A step that no refusal applies to: the turn's stream is lent on, and the turn advances.
-fn taken(t: Table, rows: &[u64; 15], state: &mut [u64], info: u64) -> u64
-    requires { ⌜ (coderFault t (now state) info ≡ 0) × (now rows ≡ t .rows) ⌝ }
-    ensures block { λ r. ⌜ r ≡ codedBlock t (now (state .entry)) info ⌝ }
-    ensures memory { λ r. ⌜ now (state .exit) ≡ coderNext t (now (state .entry)) info ⌝ }
+fn taken(t: Table, rows: &[u64], state: &mut [u64], info: u64) -> u64
+    requires { ⌜ coderFault (withRows t (now rows)) (now state) info ≡ 0 ⌝ }
+    ensures block { λ r. ⌜ r ≡ codedBlock (withRows t (now (rows .entry))) (now (state .entry)) info ⌝ }
+    ensures memory { λ r. ⌜ now (state .exit) ≡ coderNext (withRows t (now (rows .entry))) (now (state .entry)) info ⌝ }
 {
     let turn = state[0];
     let at = 1 + (turn as usize);
@@ -80,19 +79,28 @@ fn taken(t: Table, rows: &[u64; 15], state: &mut [u64], info: u64) -> u64
     info + (parity << (width as u64))
 }
 
-// Any step, on a table whose rows are lent beside it: no step copies them.
-fn code_with(t: Table, rows: &[u64; 15], state: &mut [u64], info: u16) -> CodeAnswer
-    requires { ⌜ now rows ≡ t .rows ⌝ }
-    ensures answer { λ r. ⌜ r ≡ codeAnswer t (now (state .entry)) info ⌝ }
-    ensures memory { λ r. ⌜ now (state .exit) ≡ codeMemory t (now (state .entry)) info ⌝ }
+// Any step.
+fn code_with(t: Table, rows: &[u64], state: &mut [u64], info: u16) -> CodeAnswer
+    ensures answer { λ r. ⌜ r ≡ codeAnswer (withRows t (now (rows .entry))) (now (state .entry)) info ⌝ }
+    ensures memory { λ r. ⌜ now (state .exit) ≡ codeMemory (withRows t (now (rows .entry))) (now (state .entry)) info ⌝ }
 {
     let block = info as u64;
-    let fits = is_fit(t.symbols, t.span, t.depth, rows);
-    let number = fault(t, fits, state, block);
+    let number = fault(t, rows, state, block);
     if number != 0 {
         return CodeAnswer::Refused(number);
     }
     CodeAnswer::Coded(taken(t, rows, state, block) as u16)
+}
+
+// A step on a table whose rows are lent beside it, which copies none. Other than fifteen are those of no table.
+pub fn code_lent(t: Table, rows: &[u64], state: &mut [u64], info: u16) -> CodeAnswer
+    ensures answer { λ r. ⌜ r ≡ codeAnswer (lent t (now (rows .entry))) (now (state .entry)) info ⌝ }
+    ensures memory { λ r. ⌜ now (state .exit) ≡ codeMemory (lent t (now (rows .entry))) (now (state .entry)) info ⌝ }
+{
+    if rows.len() != 15 {
+        return CodeAnswer::Refused(12);
+    }
+    code_with(t, rows, state, info)
 }
 
 pub fn code(t: Table, state: &mut [u64], info: u16) -> CodeAnswer

@@ -8,12 +8,13 @@ use tables::table::Table;
 use tables::table::is_fit;
 ghost use mathlib.Core.Path.{_≡_};
 ghost use mathlib.Core.Bool.{true, cond, _||_};
-ghost use mathlib.Core.List.{[], _∷_, _++_};
-ghost use Prim.Native.Nat.{_+_, _-_, _*_, _^_, _≤_, _<_};
+ghost use mathlib.Core.List.{List, [], _∷_, _++_};
+ghost use Prim.Native.Nat.{ℕ, _+_, _-_, _*_, _^_, _≤_, _<_};
 ghost use lib.Dec.{leb, ltb};
 ghost use lib.ListN.{length, getD, set, take, drop};
 ghost use Rattle.tables.specs.Table.{codeRows, fit};
 ghost use Rattle.link.specs.Stream.{nextTurn, information, rawTerm, register, found, errorOf, keptOf, markOf, streamNext, streamInfo, streamMark};
+ghost use Rattle.link.specs.Lent.{withRows, lent};
 ghost use Rattle.link.specs.Decoder.{decoderWords, someAbove, decoderMalformed, decoderFault, streamReplaced, decoderNext, delivered, delivery, decodeAnswer, decodeMemory};
 ghost use Rattle.link.specs.Answers.{decodeNumbers, decodeValues, Answered};
 
@@ -73,7 +74,7 @@ fn stream_malformed(state: &[u64], at: usize, n: usize, span: usize) -> bool
 
 // The condition of 14: the turn is tested before it is an index.
 fn malformed(t: Table, state: &[u64]) -> bool
-    requires { ⌜ (fit t ≡ true) × (length (now state) ≡ decoderWords t) ⌝ }
+    requires { ⌜ ((rows : List ℕ) × (fit (withRows t rows) ≡ true)) × (length (now state) ≡ decoderWords t) ⌝ }
     ensures { λ r. ⌜ r ≡ decoderMalformed t (now (state .entry)) ⌝ }
 {
     let turn = state[0];
@@ -87,11 +88,10 @@ fn malformed(t: Table, state: &[u64]) -> bool
 }
 
 // The first of refusals 12 to 15 that applies, or 0.
-fn fault(t: Table, fits: bool, state: &[u64], block: u64) -> u64
-    requires { ⌜ fits ≡ fit t ⌝ }
-    ensures { λ r. ⌜ r ≡ decoderFault t (now (state .entry)) block ⌝ }
+fn fault(t: Table, rows: &[u64], state: &[u64], block: u64) -> u64
+    ensures { λ r. ⌜ r ≡ decoderFault (withRows t (now (rows .entry))) (now (state .entry)) block ⌝ }
 {
-    if !fits {
+    if !is_fit(t.symbols, t.span, t.depth, rows) {
         return 12;
     }
     if state.len() != 2 + t.depth * (t.span + 1) {
@@ -235,10 +235,10 @@ fn next_fill(delay: u64, fill: u64) -> u64
 }
 
 // One block of the turn's stream: its part is lent on.
-fn decode_stream(t: Table, rows: &[u64; 15], state: &mut [u64], received: u64) -> Delivered
-    requires { ⌜ (decoderFault t (now state) received ≡ 0) × (now rows ≡ t .rows) ⌝ }
-    ensures record { λ r. ⌜ r ≡ delivered t (now (state .entry)) received ⌝ }
-    ensures memory { λ r. ⌜ now (state .exit) ≡ streamReplaced t (now (state .entry)) received ⌝ }
+fn decode_stream(t: Table, rows: &[u64], state: &mut [u64], received: u64) -> Delivered
+    requires { ⌜ (decoderFault (withRows t (now rows)) (now state) received ≡ 0) × (length (now rows) ≡ 15) ⌝ }
+    ensures record { λ r. ⌜ r ≡ delivered (withRows t (now (rows .entry))) (now (state .entry)) received ⌝ }
+    ensures memory { λ r. ⌜ now (state .exit) ≡ streamReplaced (withRows t (now (rows .entry))) (now (state .entry)) received ⌝ }
 {
     let turn = state[0] as usize;
     let span = t.span;
@@ -258,10 +258,10 @@ fn advance(state: &mut [u64], depth: u64, delay: u64)
 }
 
 // A step that no refusal applies to.
-fn taken(t: Table, rows: &[u64; 15], state: &mut [u64], received: u64) -> DecodeAnswer
-    requires { ⌜ (decoderFault t (now state) received ≡ 0) × (now rows ≡ t .rows) ⌝ }
-    ensures answer { λ r. ⌜ r ≡ delivery t (now (state .entry)) received ⌝ }
-    ensures memory { λ r. ⌜ now (state .exit) ≡ decoderNext t (now (state .entry)) received ⌝ }
+fn taken(t: Table, rows: &[u64], state: &mut [u64], received: u64) -> DecodeAnswer
+    requires { ⌜ (decoderFault (withRows t (now rows)) (now state) received ≡ 0) × (length (now rows) ≡ 15) ⌝ }
+    ensures answer { λ r. ⌜ r ≡ delivery (withRows t (now (rows .entry))) (now (state .entry)) received ⌝ }
+    ensures memory { λ r. ⌜ now (state .exit) ≡ decoderNext (withRows t (now (rows .entry))) (now (state .entry)) received ⌝ }
 {
     let delay = (t.depth * (t.span - 1)) as u64;
     let fill = state[1];
@@ -274,19 +274,29 @@ fn taken(t: Table, rows: &[u64; 15], state: &mut [u64], received: u64) -> Decode
     }
 }
 
-// Any step, on a table whose rows are lent beside it: no step copies them.
-fn decode_with(t: Table, rows: &[u64; 15], state: &mut [u64], received: u16) -> DecodeAnswer
-    requires { ⌜ now rows ≡ t .rows ⌝ }
-    ensures answer { λ r. ⌜ r ≡ decodeAnswer t (now (state .entry)) received ⌝ }
-    ensures memory { λ r. ⌜ now (state .exit) ≡ decodeMemory t (now (state .entry)) received ⌝ }
+// Any step.
+fn decode_with(t: Table, rows: &[u64], state: &mut [u64], received: u16) -> DecodeAnswer
+    requires { ⌜ length (now rows) ≡ 15 ⌝ }
+    ensures answer { λ r. ⌜ r ≡ decodeAnswer (withRows t (now (rows .entry))) (now (state .entry)) received ⌝ }
+    ensures memory { λ r. ⌜ now (state .exit) ≡ decodeMemory (withRows t (now (rows .entry))) (now (state .entry)) received ⌝ }
 {
     let block = received as u64;
-    let fits = is_fit(t.symbols, t.span, t.depth, rows);
-    let number = fault(t, fits, state, block);
+    let number = fault(t, rows, state, block);
     if number != 0 {
         return DecodeAnswer::Refused(number);
     }
     taken(t, rows, state, block)
+}
+
+// A step on a table whose rows are lent beside it, which copies none. Other than fifteen are those of no table.
+pub fn decode_lent(t: Table, rows: &[u64], state: &mut [u64], received: u16) -> DecodeAnswer
+    ensures answer { λ r. ⌜ r ≡ decodeAnswer (lent t (now (rows .entry))) (now (state .entry)) received ⌝ }
+    ensures memory { λ r. ⌜ now (state .exit) ≡ decodeMemory (lent t (now (rows .entry))) (now (state .entry)) received ⌝ }
+{
+    if rows.len() != 15 {
+        return DecodeAnswer::Refused(12);
+    }
+    decode_with(t, rows, state, received)
 }
 
 pub fn decode(t: Table, state: &mut [u64], received: u16) -> DecodeAnswer

@@ -1,5 +1,6 @@
 // The table by value, and when it is fit. Row j stands at rows[j − 1]; row n, the parity's, is 1 always and is not stored.
 use span::bits::mask;
+use span::bound::at_most;
 ghost use mathlib.Core.Path.{_≡_};
 ghost use Prim.Native.Nat.{_≤_};
 ghost use lib.ListN.{take};
@@ -31,14 +32,15 @@ pub fn sizes_fit(symbols: usize, span: usize, depth: usize) -> bool
     (2 <= symbols) & (symbols <= 16) & (2 <= span) & (span <= 64) & (1 <= depth) & (depth <= 64)
 }
 
-fn rows_fit(rows: &[u64; 15], count: usize, span: usize) -> bool
-    requires { ⌜ (count ≤ 15) × (span ≤ 64) ⌝ }
+fn rows_fit(rows: &[u64], count: usize, span: usize) -> bool
+    requires { ⌜ span ≤ 64 ⌝ }
     ensures { λ r. ⌜ r ≡ rowsFit span (take count (now (rows .entry))) ⌝ }
 {
     let most = mask(span);
+    let end = at_most(count, rows.len());
     let mut fit = true;
     let mut i = 0;
-    while i < count {
+    while i < end {
         fit = fit & (rows[i] <= most);
         i += 1;
     }
@@ -46,7 +48,7 @@ fn rows_fit(rows: &[u64; 15], count: usize, span: usize) -> bool
 }
 
 // Whether the table of these sizes and rows is fit: the condition of refusal 12 does not hold. The rows are lent: every step asks this.
-pub fn is_fit(symbols: usize, span: usize, depth: usize, rows: &[u64; 15]) -> bool
+pub fn is_fit(symbols: usize, span: usize, depth: usize, rows: &[u64]) -> bool
     ensures { λ r. ⌜ r ≡ fit (table symbols span depth (now (rows .entry))) ⌝ }
 {
     if sizes_fit(symbols, span, depth) {

@@ -6,43 +6,44 @@ use native.Mathlib.Nat.{add-zero}
 use native.Mathlib.Omega.{arith}
 use borrow.Author.Needs.{needs}
 use borrow.Rule.Slice.PartMut.{midOf, putMid}
-use lib.ListN.{length, getD, set, take, length-set}
+use lib.ListN.{length, getD, set, length-set}
 use Rattle.span.specs.Word.{odd, digit}
 use Rattle.link.specs.Stream.{joining}
-use Rattle.link.specs.Coder.{turnOf, coderJoining, codedBlock, coderNext}
+use Rattle.link.specs.Coder.{infoRows, turnOf, coderJoining, codedBlock, coderNext}
 use Rattle.link.proofs.Words.{bit-shifted}
 use Rattle.link.proofs.Parts.{mid-word, put-word}
 use Rattle.link.proofs.Memory.{CoderTaken, coder-taken, coded-fits}
+use Rattle.link.specs.Lent.{withRows}
 use Rattle.link.proofs.coder.taken.Statement.{statement}
 use Rattle.link.proofs.coder.taken.Tie as tie
 
 -- what the tests of the step said
-tests : (c : tie.Start) → CoderTaken (c .args .t) (c .args .state .now) (c .args .info)
-tests c = coder-taken (c .args .t) (c .args .state .now) (c .args .info) (c .pre .0)
+tests : (c : tie.Start) → CoderTaken (withRows (c .args .t) (c .args .rows .now)) (c .args .state .now) (c .args .info)
+tests c = coder-taken (withRows (c .args .t) (c .args .rows .now)) (c .args .state .now) (c .args .info) (c .pre)
 
 slice-read-turn : tie.Need-slice-read-turn
 slice-read-turn c =
-    let k = tests (c .before .before) in
+    let k = tests (c .before .before .before) in
     omega arith
 
 add-at : tie.Need-add-at
 add-at c =
-    let k = tests (c .before .before) in
+    let k = tests (c .before .before .before) in
     record { fits = omega arith }
 
 add-end : tie.Need-add-end
 add-end c =
-    let k = tests (c .before .before) in
+    let k = tests (c .before .before .before) in
     record { fits = omega arith }
 
 sub-width : tie.Need-sub-width
 sub-width c =
-    let k = tests (c .before .before .before) in
+    let k = tests (c .before .before .before .before) in
     omega arith
 
 mul-join : tie.Need-mul-join
 mul-join c =
-    let k = tests (c .before .before .before) in
+    let k = tests (c .before .before .before .before) in
     record { fits = omega arith }
 
 sub-join : tie.Need-sub-join
@@ -53,7 +54,7 @@ part-join-start c = search needs
 
 part-join-end : tie.Need-part-join-end
 part-join-end c =
-    let k = tests (c .before .before .before) in
+    let k = tests (c .before .before .before .before) in
     omega arith
 
 join-requires : tie.Need-join-requires
@@ -65,38 +66,37 @@ next-turn-requires c κs = search needs
 -- the parity, and the memory as the part comes back
 parity-is : (c : tie.After-next-turn)
     → let a = c .before .before .before .before .before .before .before .before .before .args in
-    c .before .before .before .join .result ≡ digit (odd (coderJoining (a .t) (a .state .now) (a .info)))
+    c .before .before .before .join .result ≡ digit (odd (coderJoining (withRows (a .t) (a .rows .now)) (a .state .now) (a .info)))
 unfolding coderJoining
 parity-is c =
     let a = c .before .before .before .before .before .before .before .before .before .args in
     let at = 1 + turnOf (a .state .now) in
     c .before .before .before .join .ensures .0
-    ∙ ap₂ (λ (rs : List ℕ) (p : ℕ). digit (odd (joining (take (a .t .symbols - 1) rs) p (a .info)))) (c .before .before .before .before .before .before .before .before .before .pre .1)
-    (mid-word (a .state .now) at (at + 1) 0 (omega arith) ∙ ap (λ (i : ℕ). getD (a .state .now) i 0) (add-zero at))
+    ∙ ap (λ (p : ℕ). digit (odd (joining (infoRows (withRows (a .t) (a .rows .now))) p (a .info)))) (mid-word (a .state .now) at (at + 1) 0 (omega arith) ∙ ap (λ (i : ℕ). getD (a .state .now) i 0) (add-zero at))
 
 shifted-is : (c : tie.After-next-turn)
     → let a = c .before .before .before .before .before .before .before .before .before .args in
     c .before .before .before .join .result * 2 ^ (a .t .symbols - 1) % 2 ^ 64
-    ≡ digit (odd (coderJoining (a .t) (a .state .now) (a .info))) * 2 ^ (a .t .symbols - 1)
+    ≡ digit (odd (coderJoining (withRows (a .t) (a .rows .now)) (a .state .now) (a .info))) * 2 ^ (a .t .symbols - 1)
 shifted-is c =
     let a = c .before .before .before .before .before .before .before .before .before .args in
     let k = tests (c .before .before .before .before .before .before .before .before .before) in
     ap (λ (x : ℕ). x * 2 ^ (a .t .symbols - 1) % 2 ^ 64) (parity-is c)
-    ∙ bit-shifted (odd (coderJoining (a .t) (a .state .now) (a .info))) (a .t .symbols - 1) (omega arith)
+    ∙ bit-shifted (odd (coderJoining (withRows (a .t) (a .rows .now)) (a .state .now) (a .info))) (a .t .symbols - 1) (omega arith)
 
 memory-is : (c : tie.After-next-turn)
     → let a = c .before .before .before .before .before .before .before .before .before .args in
     let at = 1 + turnOf (a .state .now) in
     putMid at (at + 1 - at) (a .state .now) (c .before .before .before .join .last .0)
-    ≡ set (a .state .now) at (coderJoining (a .t) (a .state .now) (a .info) / 2)
+    ≡ set (a .state .now) at (coderJoining (withRows (a .t) (a .rows .now)) (a .state .now) (a .info) / 2)
 unfolding coderJoining
 memory-is c =
     let a = c .before .before .before .before .before .before .before .before .before .args in
     let k = tests (c .before .before .before .before .before .before .before .before .before) in
     let at = 1 + turnOf (a .state .now) in
-    put-word (a .state .now) (c .before .before .before .join .last .0) at (coderJoining (a .t) (a .state .now) (a .info) / 2) (omega arith)
+    put-word (a .state .now) (c .before .before .before .join .last .0) at (coderJoining (withRows (a .t) (a .rows .now)) (a .state .now) (a .info) / 2) (omega arith)
     (c .before .before .before .join .ensures .1
-    ∙ ap₂ (λ (rs : List ℕ) (p : ℕ). set (midOf at (at + 1 - at) (a .state .now)) 0 (joining (take (a .t .symbols - 1) rs) p (a .info) / 2)) (c .before .before .before .before .before .before .before .before .before .pre .1)
+    ∙ ap (λ (p : ℕ). set (midOf at (at + 1 - at) (a .state .now)) 0 (joining (infoRows (withRows (a .t) (a .rows .now))) p (a .info) / 2))
     (mid-word (a .state .now) at (at + 1) 0 (omega arith) ∙ ap (λ (i : ℕ). getD (a .state .now) i 0) (add-zero at)))
 
 slice-write-state : tie.Need-slice-write-state
@@ -104,7 +104,7 @@ slice-write-state c =
     let a = c .before .before .before .before .before .before .before .before .before .args in
     let k = tests (c .before .before .before .before .before .before .before .before .before) in
     let l = memory-is c in
-    omega (arith, ap length l, length-set (a .state .now) (1 + turnOf (a .state .now)) (coderJoining (a .t) (a .state .now) (a .info) / 2))
+    omega (arith, ap length l, length-set (a .state .now) (1 + turnOf (a .state .now)) (coderJoining (withRows (a .t) (a .rows .now)) (a .state .now) (a .info) / 2))
 
 shl-result : tie.Need-shl-result
 shl-result c =
@@ -116,7 +116,7 @@ add-result : tie.Need-add-result
 unfolding codedBlock
 add-result c =
     let a = c .before .before .before .before .before .before .before .before .before .args in
-    let l = coded-fits (a .t) (a .state .now) (a .info) (c .before .before .before .before .before .before .before .before .before .pre .0) in
+    let l = coded-fits (withRows (a .t) (a .rows .now)) (a .state .now) (a .info) (c .before .before .before .before .before .before .before .before .before .pre) in
     let e = shifted-is c in
     record { fits = omega arith }
 

@@ -12,7 +12,7 @@ same-length c = search needs
 
 returns : tie.Need-returns
 returns c =
-    let a = c .before .before .before .before .before .before .before .args in
+    let a = c .before .before .before .before .before .before .before .before .args in
     let w = c .before .before .decode-with in
     decode-told (a .t1) (a .state .now) (a .received) (w .result) (w .last .1 .1 .0) (w .ensures .0) (w .ensures .1)
 

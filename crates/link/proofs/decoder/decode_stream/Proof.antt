@@ -13,55 +13,56 @@ use Rattle.link.specs.Decoder.{streamAt, delivered}
 use Rattle.link.proofs.Memory.{decoder-taken}
 use Rattle.link.proofs.Room.{fit-room, turn-room, oldest-lt}
 use Rattle.link.proofs.Lent.{syndrome-is, oldest-is, lent-info, lent-mark, lent-memory}
+use Rattle.link.specs.Lent.{withRows}
 use Rattle.link.proofs.decoder.decode_stream.Statement.{statement}
 use Rattle.link.proofs.decoder.decode_stream.Tie as tie
 
 -- the turn's part lies inside, and nothing overflows
 room : (c : tie.Start)
-    → let t = c .args .t in
+    → let t = withRows (c .args .t) (c .args .rows .now) in
     let s = c .args .state .now in
     Fitting t × (streamAt t (turnOf s) + (t .span + 1) ≤ length s) × (length s ≤ 4162)
 room c =
     let s = c .args .state .now in
-    let k = decoder-taken (c .args .t) s (c .args .received) (c .pre .0) in
+    let k = decoder-taken (withRows (c .args .t) (c .args .rows .now)) s (c .args .received) (c .pre .0) in
     let z = k .sizes in
-    let most = fit-room (c .args .t) z in
-    let inside = turn-room (c .args .t) z (turnOf s) (k .turn) in
+    let most = fit-room (withRows (c .args .t) (c .args .rows .now)) z in
+    let inside = turn-room (withRows (c .args .t) (c .args .rows .now)) z (turnOf s) (k .turn) in
     (z, omega arith, omega arith)
 
 slice-read-turn : tie.Need-slice-read-turn
 slice-read-turn c =
-    let r = room (c .before .before) in
+    let r = room (c .before .before .before) in
     omega arith
 
 add-at : tie.Need-add-at
 add-at c =
-    let r = room (c .before .before) in
+    let r = room (c .before .before .before) in
     record { fits = omega arith }
 
 mul-at : tie.Need-mul-at
 mul-at c =
-    let r = room (c .before .before) in
+    let r = room (c .before .before .before) in
     record { fits = omega arith }
 
 add-at-2 : tie.Need-add-at-2
 add-at-2 c =
-    let r = room (c .before .before) in
+    let r = room (c .before .before .before) in
     record { fits = omega arith }
 
 add-end : tie.Need-add-end
 add-end c =
-    let r = room (c .before .before) in
+    let r = room (c .before .before .before) in
     record { fits = omega arith }
 
 add-end-2 : tie.Need-add-end-2
 add-end-2 c =
-    let r = room (c .before .before) in
+    let r = room (c .before .before .before) in
     record { fits = omega arith }
 
 mul-step : tie.Need-mul-step
 mul-step c =
-    let r = room (c .before .before) in
+    let r = room (c .before .before .before) in
     record { fits = omega arith }
 
 sub-step : tie.Need-sub-step
@@ -72,17 +73,17 @@ part-step-start c = search needs
 
 part-step-end : tie.Need-part-step-end
 part-step-end c =
-    let r = room (c .before .before) in
+    let r = room (c .before .before .before) in
     omega arith
 
 step-requires : tie.Need-step-requires
 step-requires c κs =
     let a = c .before .before .before .before .args in
     let s = a .state .now in
-    let k = decoder-taken (a .t) s (a .received) (c .before .before .before .before .pre .0) in
+    let k = decoder-taken (withRows (a .t) (a .rows .now)) s (a .received) (c .before .before .before .before .pre .0) in
     let z = k .sizes in
-    let inside = turn-room (a .t) z (turnOf s) (k .turn) in
-    let at = streamAt (a .t) (turnOf s) in
+    let inside = turn-room (withRows (a .t) (a .rows .now)) z (turnOf s) (k .turn) in
+    let at = streamAt (withRows (a .t) (a .rows .now)) (turnOf s) in
     let size = mid-len at (at + (a .t .span + 1)) s (omega arith) in (
       omega arith,
       z .n-from,
@@ -90,8 +91,8 @@ step-requires c κs =
       z .N-from,
       z .N-to,
       omega arith,
-      rw (syndrome-is (a .t) s (a .received) (z .N-from) (omega arith)) (k .syndrome),
-      rw (oldest-is (a .t) s (a .received) (z .N-from) (omega arith)) (oldest-lt (a .t) s (a .received) k),
+      rw (syndrome-is (withRows (a .t) (a .rows .now)) s (a .received) (z .N-from) (omega arith)) (k .syndrome),
+      rw (oldest-is (withRows (a .t) (a .rows .now)) s (a .received) (z .N-from) (omega arith)) (oldest-lt (withRows (a .t) (a .rows .now)) s (a .received) k),
     )
 
 same-length : tie.Need-same-length
@@ -104,14 +105,13 @@ returns : tie.Need-returns
 returns c =
     let a = c .before .before .before .before .before .before .before .args in
     let s = a .state .now in
-    let k = decoder-taken (a .t) s (a .received) (c .before .before .before .before .before .before .before .pre .0) in
+    let k = decoder-taken (withRows (a .t) (a .rows .now)) s (a .received) (c .before .before .before .before .before .before .before .pre .0) in
     let z = k .sizes in
-    let inside = turn-room (a .t) z (turnOf s) (k .turn) in
-    let same = c .before .before .before .before .before .before .before .pre .1 in
+    let inside = turn-room (withRows (a .t) (a .rows .now)) z (turnOf s) (k .turn) in
     let p = c .before .before .step in (
-      delivered-is (p .result) (delivered (a .t) s (a .received)) (p .ensures .0 ∙ lent-info (a .t) s (a .received) (z .N-from) (omega arith) (a .rows .now) same)
-          (p .ensures .1 .0 ∙ lent-mark (a .t) s (a .received) (z .N-from) (omega arith) (a .rows .now) same),
-      lent-memory (a .t) s (a .received) (z .N-from) (omega arith) (a .rows .now) same (p .last .0) (p .ensures .1 .1),
+      delivered-is (p .result) (delivered (withRows (a .t) (a .rows .now)) s (a .received)) (p .ensures .0 ∙ lent-info (withRows (a .t) (a .rows .now)) s (a .received) (z .N-from) (omega arith))
+          (p .ensures .1 .0 ∙ lent-mark (withRows (a .t) (a .rows .now)) s (a .received) (z .N-from) (omega arith)),
+      lent-memory (withRows (a .t) (a .rows .now)) s (a .received) (z .N-from) (omega arith) (p .last .0) (p .ensures .1 .1),
     )
 
 pub decode-stream-spec : {M : Type 1} → statement M

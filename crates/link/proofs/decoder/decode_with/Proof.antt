@@ -1,21 +1,14 @@
 -- `link::decoder::decode_with`: a refusal, or a step that is taken. Assumes nothing.
-use mathlib.Core.Path.{sym, ap, _∙_}
-use mathlib.Core.List.{List}
-use Prim.Native.Nat.{ℕ}
+use mathlib.Core.Path.{sym, _∙_}
 use native.Mathlib.Omega.{arith}
 use borrow.Author.Needs.{needs}
-use Rattle.tables.specs.Table.{table, fit}
+use Rattle.link.specs.Lent.{withRows}
 use Rattle.link.proofs.Faults.{decode-refuses, decodes}
 use Rattle.link.proofs.decoder.decode_with.Statement.{statement}
 use Rattle.link.proofs.decoder.decode_with.Tie as tie
 
-is-fit-requires : tie.Need-is-fit-requires
-is-fit-requires c κs = search needs
-
 fault-requires : tie.Need-fault-requires
-fault-requires c κs =
-    let a = c .before .before .before .args in
-    c .before .is-fit .ensures ∙ ap (λ (rows : List ℕ). fit (table (a .t .symbols) (a .t .span) (a .t .depth) rows)) (c .before .before .before .pre)
+fault-requires c κs = search needs
 
 same-length : tie.Need-same-length
 same-length c = search needs
@@ -23,7 +16,7 @@ same-length c = search needs
 returns : tie.Need-returns
 returns c =
     let a = c .before .before .before .before .before .args in
-    decode-refuses (a .t) (a .state .now) (a .received) (c .before .fault .result) (sym (c .before .fault .ensures)) (omega arith)
+    decode-refuses (withRows (a .t) (a .rows .now)) (a .state .now) (a .received) (c .before .fault .result) (sym (c .before .fault .ensures)) (omega arith)
 
 taken-requires : tie.Need-taken-requires
 taken-requires c κs = search needs
@@ -34,9 +27,9 @@ same-length-2 c = search needs
 returns-2 : tie.Need-returns-2
 returns-2 c =
     let a = c .before .before .before .before .before .before .before .before .before .args in
-    let e = decodes (a .t) (a .state .now) (a .received) (sym (c .before .before .before .before .before .fault .ensures) ∙ c .before .before .before .before .if1 .left) in
+    let e = decodes (withRows (a .t) (a .rows .now)) (a .state .now) (a .received) (sym (c .before .before .before .before .before .fault .ensures) ∙ c .before .before .before .before .if1 .left) in
     (c .before .before .taken .ensures .0 ∙ e .0, c .before .before .taken .ensures .1 ∙ e .1)
 
 pub decode-with-spec : {M : Type 1} → statement M
 decode-with-spec =
-    tie.close (tie.spec is-fit-requires fault-requires same-length returns taken-requires same-length-2 returns-2)
+    tie.close (tie.spec fault-requires same-length returns taken-requires same-length-2 returns-2)

@@ -11,6 +11,7 @@ use Rattle.tables.proofs.Bounds.{fit-facts}
 use Rattle.link.specs.Coder.{turnOf}
 use Rattle.link.specs.Decoder.{fillOf, delayOf, pendingOf, syndromeOf, delayedOut}
 use Rattle.link.proofs.Room.{fit-room, turn-room}
+use Rattle.link.specs.Lent.{withRows}
 use Rattle.link.proofs.decoder.malformed.Statement.{statement}
 use Rattle.link.proofs.decoder.malformed.Tie as tie
 
@@ -23,14 +24,14 @@ returns c = simp (le-leb _ _ (c .if1 .taken))
 sub-if2 : tie.Need-sub-if2
 sub-if2 c =
     let a = c .before .before .before .before .args in
-    let z = fit-facts (a .t) (c .before .before .before .before .pre .0) in
+    let z = fit-facts (withRows (a .t) (c .before .before .before .before .pre .0 .0)) (c .before .before .before .before .pre .0 .1) in
     omega arith
 
 mul-if2 : tie.Need-mul-if2
 mul-if2 c =
     let a = c .before .before .before .before .before .args in
-    let z = fit-facts (a .t) (c .before .before .before .before .before .pre .0) in
-    let m = fit-room (a .t) z in
+    let z = fit-facts (withRows (a .t) (c .before .before .before .before .before .pre .0 .0)) (c .before .before .before .before .before .pre .0 .1) in
+    let m = fit-room (withRows (a .t) (c .before .before .before .before .before .pre .0 .0)) z in
     record { fits = omega arith }
 
 shared-slice-read-if2 : tie.Need-shared-slice-read-if2
@@ -45,30 +46,30 @@ returns-2 c =
 add-stream-malformed : tie.Need-add-stream-malformed
 add-stream-malformed c =
     let a = c .before .before .before .before .before .before .before .before .args in
-    let z = fit-facts (a .t) (c .before .before .before .before .before .before .before .before .pre .0) in
+    let z = fit-facts (withRows (a .t) (c .before .before .before .before .before .before .before .before .pre .0 .0)) (c .before .before .before .before .before .before .before .before .pre .0 .1) in
     record { fits = omega arith }
 
 mul-stream-malformed : tie.Need-mul-stream-malformed
 mul-stream-malformed c =
     let a = c .before .before .before .before .before .before .before .before .args in
-    let z = fit-facts (a .t) (c .before .before .before .before .before .before .before .before .pre .0) in
-    let m = fit-room (a .t) z in
-    let l = turn-room (a .t) z (getD (a .state .now) 0 0) (omega arith) in
+    let z = fit-facts (withRows (a .t) (c .before .before .before .before .before .before .before .before .pre .0 .0)) (c .before .before .before .before .before .before .before .before .pre .0 .1) in
+    let m = fit-room (withRows (a .t) (c .before .before .before .before .before .before .before .before .pre .0 .0)) z in
+    let l = turn-room (withRows (a .t) (c .before .before .before .before .before .before .before .before .pre .0 .0)) z (getD (a .state .now) 0 0) (omega arith) in
     record { fits = omega arith }
 
 add-stream-malformed-2 : tie.Need-add-stream-malformed-2
 add-stream-malformed-2 c =
     let a = c .before .before .before .before .before .before .before .before .args in
-    let z = fit-facts (a .t) (c .before .before .before .before .before .before .before .before .pre .0) in
-    let m = fit-room (a .t) z in
-    let l = turn-room (a .t) z (getD (a .state .now) 0 0) (omega arith) in
+    let z = fit-facts (withRows (a .t) (c .before .before .before .before .before .before .before .before .pre .0 .0)) (c .before .before .before .before .before .before .before .before .pre .0 .1) in
+    let m = fit-room (withRows (a .t) (c .before .before .before .before .before .before .before .before .pre .0 .0)) z in
+    let l = turn-room (withRows (a .t) (c .before .before .before .before .before .before .before .before .pre .0 .0)) z (getD (a .state .now) 0 0) (omega arith) in
     record { fits = omega arith }
 
 stream-malformed-requires : tie.Need-stream-malformed-requires
 stream-malformed-requires c κs =
     let a = c .before .before .before .before .before .before .before .before .args in
-    let z = fit-facts (a .t) (c .before .before .before .before .before .before .before .before .pre .0) in
-    let l = turn-room (a .t) z (getD (a .state .now) 0 0) (omega arith) in
+    let z = fit-facts (withRows (a .t) (c .before .before .before .before .before .before .before .before .pre .0 .0)) (c .before .before .before .before .before .before .before .before .pre .0 .1) in
+    let l = turn-room (withRows (a .t) (c .before .before .before .before .before .before .before .before .pre .0 .0)) z (getD (a .state .now) 0 0) (omega arith) in
     let size = c .before .before .before .before .before .before .before .before .pre .1 in
     (omega arith, z .n-from, z .n-to, z .N-from, z .N-to)
 

@@ -16,6 +16,7 @@ use Rattle.link.specs.Coder.{turnOf}
 use Rattle.link.specs.Decoder.{fillOf, delayOf, streamReplaced, decoderNext, delivered, delivery}
 use Rattle.link.proofs.Memory.{decoder-taken, replaced-front}
 use Rattle.link.proofs.Room.{fit-room, turn-room}
+use Rattle.link.specs.Lent.{withRows}
 use Rattle.link.proofs.decoder.taken.Statement.{statement}
 use Rattle.link.proofs.decoder.taken.Tie as tie
 
@@ -27,27 +28,27 @@ answer b d = elim b [ true ↦ NothingYet | false ↦ Delivery d ]
 
 sub-delay : tie.Need-sub-delay
 sub-delay c =
-    let a = c .before .before .args in
+    let a = c .before .before .before .args in
     let s = a .state .now in
-    let k = decoder-taken (a .t) s (a .received) (c .before .before .pre .0) in
+    let k = decoder-taken (withRows (a .t) (a .rows .now)) s (a .received) (c .before .before .before .pre .0) in
     let z = k .sizes in
     omega arith
 
 mul-delay : tie.Need-mul-delay
 mul-delay c =
-    let a = c .before .before .before .args in
+    let a = c .before .before .before .before .args in
     let s = a .state .now in
-    let k = decoder-taken (a .t) s (a .received) (c .before .before .before .pre .0) in
+    let k = decoder-taken (withRows (a .t) (a .rows .now)) s (a .received) (c .before .before .before .before .pre .0) in
     let z = k .sizes in
-    let room = fit-room (a .t) z in
+    let room = fit-room (withRows (a .t) (a .rows .now)) z in
     record { fits = omega arith }
 
 slice-read-fill : tie.Need-slice-read-fill
 slice-read-fill c =
-    let a = c .before .before .before .before .args in
+    let a = c .before .before .before .before .before .args in
     let s = a .state .now in
-    let k = decoder-taken (a .t) s (a .received) (c .before .before .before .before .pre .0) in
-    let inside = turn-room (a .t) (k .sizes) (turnOf s) (k .turn) in
+    let k = decoder-taken (withRows (a .t) (a .rows .now)) s (a .received) (c .before .before .before .before .before .pre .0) in
+    let inside = turn-room (withRows (a .t) (a .rows .now)) (k .sizes) (turnOf s) (k .turn) in
     omega arith
 
 decode-stream-requires : tie.Need-decode-stream-requires
@@ -55,12 +56,12 @@ decode-stream-requires c κs = search needs
 
 advance-requires : tie.Need-advance-requires
 advance-requires c κs =
-    let a = c .before .before .before .before .before .before .before .before .before .args in
+    let a = c .before .before .before .before .before .before .before .before .before .before .args in
     let s = a .state .now in
-    let k = decoder-taken (a .t) s (a .received) (c .before .before .before .before .before .before .before .before .before .pre .0) in
+    let k = decoder-taken (withRows (a .t) (a .rows .now)) s (a .received) (c .before .before .before .before .before .before .before .before .before .before .pre .0) in
     let m = c .before .before .before .decode-stream .ensures .1 in
-    let r = replaced-front (a .t) s (a .received) k in
-    let inside = turn-room (a .t) (k .sizes) (turnOf s) (k .turn) in
+    let r = replaced-front (withRows (a .t) (a .rows .now)) s (a .received) k in
+    let inside = turn-room (withRows (a .t) (a .rows .now)) (k .sizes) (turnOf s) (k .turn) in
     let l = ap length m in
     let u = ap turnOf m in
     let n = k .turn in
@@ -68,17 +69,17 @@ advance-requires c κs =
 
 -- fill and turn advance from what they were
 next-is : (c : tie.After-advance)
-    → let a = c .before .before .before .before .before .before .before .before .before .before .args in
-    c .advance .last .0 ≡ decoderNext (a .t) (a .state .now) (a .received)
+    → let a = c .before .before .before .before .before .before .before .before .before .before .before .args in
+    c .advance .last .0 ≡ decoderNext (withRows (a .t) (a .rows .now)) (a .state .now) (a .received)
 unfolding decoderNext
 next-is c =
-    let a = c .before .before .before .before .before .before .before .before .before .before .args in
+    let a = c .before .before .before .before .before .before .before .before .before .before .before .args in
     let s = a .state .now in
-    let k = decoder-taken (a .t) s (a .received) (c .before .before .before .before .before .before .before .before .before .before .pre .0) in
-    let P = streamReplaced (a .t) s (a .received) in
-    let r = replaced-front (a .t) s (a .received) k in
-    c .advance .ensures ∙ ap (advanced (a .t .depth) (delayOf (a .t))) (c .before .before .before .before .decode-stream .ensures .1)
-    ∙ ap₂ (λ (f u : ℕ). set (set P 1 (cond (ltb f (delayOf (a .t))) (f + 1) f)) 0 (nextTurn (a .t .depth) u)) (r .2) (r .1)
+    let k = decoder-taken (withRows (a .t) (a .rows .now)) s (a .received) (c .before .before .before .before .before .before .before .before .before .before .before .pre .0) in
+    let P = streamReplaced (withRows (a .t) (a .rows .now)) s (a .received) in
+    let r = replaced-front (withRows (a .t) (a .rows .now)) s (a .received) k in
+    c .advance .ensures ∙ ap (advanced (a .t .depth) (delayOf (withRows (a .t) (a .rows .now)))) (c .before .before .before .before .decode-stream .ensures .1)
+    ∙ ap₂ (λ (f u : ℕ). set (set P 1 (cond (ltb f (delayOf (withRows (a .t) (a .rows .now)))) (f + 1) f)) 0 (nextTurn (a .t .depth) u)) (r .2) (r .1)
 
 same-length : tie.Need-same-length
 same-length c = search needs
@@ -86,9 +87,9 @@ same-length c = search needs
 returns : tie.Need-returns
 unfolding delivery
 returns c =
-    let a = c .before .before .before .before .before .before .before .before .before .before .before .before .before .args in
+    let a = c .before .before .before .before .before .before .before .before .before .before .before .before .before .before .args in
     let s = a .state .now in
-    (ap (λ (b : Bool). answer b (delivered (a .t) s (a .received))) (sym (lt-ltb (fillOf s) (delayOf (a .t)) (c .if1 .taken))), next-is (c .before .before .before))
+    (ap (λ (b : Bool). answer b (delivered (withRows (a .t) (a .rows .now)) s (a .received))) (sym (lt-ltb (fillOf s) (delayOf (withRows (a .t) (a .rows .now))) (c .if1 .taken))), next-is (c .before .before .before))
 
 same-length-2 : tie.Need-same-length-2
 same-length-2 c = search needs
@@ -96,10 +97,10 @@ same-length-2 c = search needs
 returns-2 : tie.Need-returns-2
 unfolding delivery
 returns-2 c =
-    let a = c .before .before .before .before .before .before .before .before .before .before .before .before .before .args in
+    let a = c .before .before .before .before .before .before .before .before .before .before .before .before .before .before .args in
     let s = a .state .now in (
       ap Delivery (c .before .before .before .before .before .before .before .decode-stream .ensures .0)
-          ∙ ap (λ (b : Bool). answer b (delivered (a .t) s (a .received))) (sym (le-ltb (fillOf s) (delayOf (a .t)) (c .if1 .left))),
+          ∙ ap (λ (b : Bool). answer b (delivered (withRows (a .t) (a .rows .now)) s (a .received))) (sym (le-ltb (fillOf s) (delayOf (withRows (a .t) (a .rows .now))) (c .if1 .left))),
       next-is (c .before .before .before),
     )
 

@@ -10,15 +10,17 @@ use borrow.Author.Tests.{lt-ltb, le-ltb, leb-true, leb-false}
 use lib.Dec.{leb, ltb}
 use lib.ListN.{length, getD, take}
 use lib.Pow.{pow-pos}
+use lib.Seq.{take-all}
+use native.Mathlib.Decide.{decLt}
 use Rattle.tables.specs.Table.{rowsFit}
 use Rattle.tables.proofs.table.rows_fit.Statement.{statement}
 use Rattle.tables.proofs.table.rows_fit.Tie as tie
 
 abbrev Inv-loop : tie.InvT-loop
-Inv-loop rows count span most fit₀ i₀ fit i = (i ≤ count) × (fit ≡ rowsFit span (take i rows))
+Inv-loop rows count span most end fit₀ i₀ fit i = (i ≤ end) × (fit ≡ rowsFit span (take i rows))
 
 abbrev μ-loop : tie.MeasureT-loop
-μ-loop rows count span most fit₀ i₀ fit i = count - i
+μ-loop rows count span most end fit₀ i₀ fit i = end - i
 
 -- one row more; past the end there is none, and 0 fits
 next : (N : ℕ) (rows : List ℕ) (i : ℕ) → rowsFit N (take i rows) && ltb (getD rows i 0) (2 ^ N) ≡ rowsFit N (take (suc i) rows)
@@ -37,8 +39,19 @@ below w m N e = go (leb w m) refl
     go true q = let h = leb-true w m q in sym (lt-ltb w (2 ^ N) (omega arith))
     go false q = let h = leb-false w m q in sym (le-ltb w (2 ^ N) (omega arith))
 
+-- past the end no row is left
+clamped : (rows : List ℕ) (count : ℕ) → take (min count (length rows)) rows ≡ take count rows
+clamped rows count = go (decLt count (length rows))
+  where
+    go : Dec (count < length rows) → take (min count (length rows)) rows ≡ take count rows
+    go (yes h) = ap (λ (k : ℕ). take k rows) (let e : min count (length rows) ≡ count = omega arith in e)
+    go (no h) = ap (λ (k : ℕ). take k rows) (let e : min count (length rows) ≡ length rows = omega arith in e) ∙ take-all (length rows) rows (omega arith) ∙ sym (take-all count rows (omega arith))
+
 mask-requires : tie.Need-mask-requires Inv-loop μ-loop
 mask-requires c κs = search needs
+
+at-most-requires : tie.Need-at-most-requires Inv-loop μ-loop
+at-most-requires c κs = search needs
 
 loop-holds : tie.Need-loop-holds Inv-loop μ-loop
 unfolding rowsFit
@@ -47,8 +60,8 @@ loop-holds c = (omega arith, refl)
 mul-fit : tie.Need-mul-fit Inv-loop μ-loop
 mul-fit c = search needs
 
-element-copy-out-fit : tie.Need-element-copy-out-fit Inv-loop μ-loop
-element-copy-out-fit c = search needs
+shared-slice-read-fit : tie.Need-shared-slice-read-fit Inv-loop μ-loop
+shared-slice-read-fit c = search needs
 
 add-i : tie.Need-add-i Inv-loop μ-loop
 add-i c = search needs
@@ -59,11 +72,11 @@ loop-less c = search needs
 loop-again : tie.Need-loop-again Inv-loop μ-loop
 loop-again c =
     let l = c .before .before in
-    let a = l .before .before .args in
+    let a = c .before .before .before .before .before .before .args in
     let p = pow-pos (a .span) in
     let whole : 2 ^ min (a .span) 64 ≡ 2 ^ (a .span) = ap (λ (k : ℕ). 2 ^ k) (omega arith) in (
       omega arith,
-      ap₂ _&&_ (l .loop .inv .1) (below (getD (a .rows .now) (l .loop .i) 0) (l .before .mask .result) (a .span) (omega arith))
+      ap₂ _&&_ (l .loop .inv .1) (below (getD (a .rows .now) (l .loop .i) 0) (c .before .before .before .before .mask .result) (a .span) (omega arith))
           ∙ next (a .span) (a .rows .now) (l .loop .i)
           ∙ ap (λ (i : ℕ). rowsFit (a .span) (take i (a .rows .now))) (sym (add-one (l .loop .i))),
     )
@@ -71,9 +84,9 @@ loop-again c =
 returns : tie.Need-returns Inv-loop μ-loop
 returns c =
     let l = c .before in
-    let a = l .before .before .args in
-    let done : l .loop .i ≡ a .count = omega arith in
-    l .loop .inv .1 ∙ ap (λ (i : ℕ). rowsFit (a .span) (take i (a .rows .now))) done
+    let a = c .before .before .before .before .before .args in
+    let done : l .loop .i ≡ min (a .count) (length (a .rows .now)) = omega arith in
+    l .loop .inv .1 ∙ ap (λ (i : ℕ). rowsFit (a .span) (take i (a .rows .now))) done ∙ ap (rowsFit (a .span)) (clamped (a .rows .now) (a .count))
 
 pub rows-fit-spec : {M : Type 1} → statement M
 rows-fit-spec =
@@ -82,9 +95,10 @@ rows-fit-spec =
     Inv-loop
     μ-loop
     mask-requires
+    at-most-requires
     loop-holds
     mul-fit
-    element-copy-out-fit
+    shared-slice-read-fit
     add-i
     loop-less
     loop-again
