@@ -30,7 +30,7 @@
  * first. The turn, 0 to m - 1, is the stream of the next block; the fill grows by one a step to m * (N - 1) and stays.
  * Once started, bit k of a pending word is what past blocks of the stream (in a decoder, as received) add to the parity
  * k blocks after its next one. A step writes the turn, a decoder's fill, and the words of the turn's stream, and no
- * others.
+ * others. What is said of several steps is of steps with one table.
  *
  * Refusals. A call that refuses returns the number of the first reason that applies, and 0 means that it did not refuse:
  *
@@ -147,7 +147,7 @@ struct burst_coded burst_code(const uint64_t table[18], uint64_t *words, size_t 
  * block delivered is right, and none is doubtful. From any other memory, and after any other damage, that holds once 2 *
  * m * (N - 1) right blocks in a row were taken. A doubtful block may be wrong, and so may any other, where bursts were
  * longer or closer than this. A block that was not received is a wrong one: any block below 2^n, such as 0, is handed in
- * for it. One that is left out, or refused, gives all later ones to other streams.
+ * for it. One that is left out, or refused, shifts all later ones by a place.
  *
  * Refused, 12 to 15, it writes no word. The table is only read, and its suitability is not tested.
  */

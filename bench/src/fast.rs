@@ -1,4 +1,5 @@
-//! The codec written for speed: the memory layout of the scope, any table, the same checks and answers, and no proof.
+//! The codec written for speed: the memory layout of the scope, any table, the same checks and answers (of reading, the table or none), and no
+//! proof.
 
 #[derive(Clone)]
 pub struct Table {

@@ -1,7 +1,7 @@
 -- A table as 18 numbers: n, N, m, then rows 1 to 15. Row n is 1 always and is not among them.
 --
 --   tableOf ns     the table of these numbers; numbers out of range are 12's matter
---   sizesOf ns     the same with no rows
+--   sizesOf ns     the same with rows of 0
 --   numbersOf t    the numbers of a table
 --   givenBack k t before   what a call leaves of the numbers lent for a table: a refusal, k not 0, leaves them as they were
 use mathlib.Core.Bool.{true, false}

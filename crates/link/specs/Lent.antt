@@ -1,10 +1,11 @@
--- A table whose rows are lent beside it, so that a step copies none: its own rows do not count then.
+-- A table whose rows are lent beside it, so that a caller need not copy them into one: its own rows do not count then.
 --
 --   withRows t rows   the table of t's sizes and these rows
 --   lent t rows       the same, if they are fifteen, as a table holds; otherwise the zero table, which 12 refuses
---   LENT              so a table with its own rows lent is that table, and fifteen rows are taken as they are
+--   LENT              fifteen rows are taken as they are, any other count is the zero table; a table with its own rows lent is that table
 use mathlib.Core.Path.{_≡_}
 use mathlib.Core.Bool.{true, false}
+use mathlib.Core.Logic.{_≢_}
 use mathlib.Core.List.{List}
 use Prim.Native.Nat.{ℕ}
 use lib.Dec.{eqb}
@@ -19,4 +20,7 @@ unfoldable pub lent : Table → List ℕ → Table
 lent t rows = elim (eqb (length rows) 15) [ true ↦ withRows t rows | false ↦ zeroTable ]
 
 abbrev pub LENT : Type 0
-LENT = (t : Table) (rows : List ℕ) → (length rows ≡ 15 → lent t rows ≡ withRows t rows) × (withRows t (t .rows) ≡ t)
+LENT =
+    (t : Table) (rows : List ℕ)
+    → (length rows ≡ 15 → lent t rows ≡ withRows t rows) × (length rows ≢ 15 → lent t rows ≡ zeroTable) × (withRows t (t .rows) ≡ t)
+    × (length (t .rows) ≡ 15 → lent t (t .rows) ≡ t)

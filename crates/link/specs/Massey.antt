@@ -199,7 +199,8 @@ DELIVERY =
       mark = markOf found register;
     })
 
--- 01, "if not, the answer is "nothing yet" and fill grows by one": from a started memory, whose fill is 0, the first m × (N − 1) taken places.
+-- 01, "if not, the answer is "nothing yet" and fill grows by one": from any memory, by its fill; from a started one, whose fill is 0, at the first
+-- m × (N − 1) taken places.
 abbrev pub WAITING : Type 0
 WAITING =
     (t : Table) (memory : List ℕ) (ds : List Call) →

@@ -92,10 +92,11 @@ fn code_with(t: Table, rows: &[u64], state: &mut [u64], info: u16) -> CodeAnswer
     CodeAnswer::Coded(taken(t, rows, state, block) as u16)
 }
 
-// A step on a table whose rows are lent beside it, which copies none. Other than fifteen are those of no table.
+// A step on a table whose rows are lent beside it, so that a caller need not copy them into one. Other than fifteen are those of no table.
 pub fn code_lent(t: Table, rows: &[u64], state: &mut [u64], info: u16) -> CodeAnswer
     ensures answer { λ r. ⌜ r ≡ codeAnswer (lent t (now (rows .entry))) (now (state .entry)) info ⌝ }
     ensures memory { λ r. ⌜ now (state .exit) ≡ codeMemory (lent t (now (rows .entry))) (now (state .entry)) info ⌝ }
+    ensures numbers { λ r. ⌜ Answered (coderFault (lent t (now (rows .entry))) (now (state .entry)) info) (codedBlock (lent t (now (rows .entry))) (now (state .entry)) info ∷ []) (coderNext (lent t (now (rows .entry))) (now (state .entry)) info) (now (state .entry)) (codeNumbers r) (now (state .exit)) ⌝ }
 {
     if rows.len() != 15 {
         return CodeAnswer::Refused(12);

@@ -288,10 +288,11 @@ fn decode_with(t: Table, rows: &[u64], state: &mut [u64], received: u16) -> Deco
     taken(t, rows, state, block)
 }
 
-// A step on a table whose rows are lent beside it, which copies none. Other than fifteen are those of no table.
+// A step on a table whose rows are lent beside it, so that a caller need not copy them into one. Other than fifteen are those of no table.
 pub fn decode_lent(t: Table, rows: &[u64], state: &mut [u64], received: u16) -> DecodeAnswer
     ensures answer { λ r. ⌜ r ≡ decodeAnswer (lent t (now (rows .entry))) (now (state .entry)) received ⌝ }
     ensures memory { λ r. ⌜ now (state .exit) ≡ decodeMemory (lent t (now (rows .entry))) (now (state .entry)) received ⌝ }
+    ensures numbers { λ r. ⌜ Answered (decoderFault (lent t (now (rows .entry))) (now (state .entry)) received) (decodeValues (lent t (now (rows .entry))) (now (state .entry)) received) (decoderNext (lent t (now (rows .entry))) (now (state .entry)) received) (now (state .entry)) (decodeNumbers r) (now (state .exit)) ⌝ }
 {
     if rows.len() != 15 {
         return DecodeAnswer::Refused(12);

@@ -112,7 +112,8 @@ LISTING =
     (sizes : List ℕ) (parts : List (List ℕ)) → (length sizes ≡ 2) ⊎ ((length sizes < 2) × (joined parts ≡ [])) → wholeBlocks parts
     → listing (sizes ++ joined parts) ≡ opened sizes .text ++ afterOpening (opened sizes) parts
 
--- 2,114 words and 86 bytes for the opening, and 65,536 bytes for the lines of a part of at most 2,048; no run has 2^63 deliveries
+-- the sizes that `main` has: 2,114 words and 86 bytes for the opening, and 65,536 bytes for the lines of a part of at most 2,048; no run has 2^63
+-- deliveries
 abbrev pub PROGRAM-ROOM : Type 0
 PROGRAM-ROOM =
     ((sizes : List ℕ) → openedWithin 2114 86 sizes ≡ opened sizes)

@@ -47,7 +47,8 @@ fn rows_fit(rows: &[u64], count: usize, span: usize) -> bool
     fit
 }
 
-// Whether the table of these sizes and rows is fit: the condition of refusal 12 does not hold. The rows are lent: every step asks this.
+// Whether the table of these sizes and rows is fit: the condition of refusal 12 does not hold. The rows are lent, since
+// every step asks this; of fewer than n − 1, those that are there are looked at.
 pub fn is_fit(symbols: usize, span: usize, depth: usize, rows: &[u64]) -> bool
     ensures { λ r. ⌜ r ≡ fit (table symbols span depth (now (rows .entry))) ⌝ }
 {

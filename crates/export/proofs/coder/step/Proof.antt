@@ -29,7 +29,7 @@ returns c =
     let e = rows-lent (a .t) (a .numbers .now) (c .before .before .before .before .before .before .before .pre) in
     let p = c .before .before .code-lent .ensures in (
       p .0 ∙ ap (λ (t : Table). codeAnswer t (a .words .now) (a .info)) e,
-      p .1 ∙ ap (λ (t : Table). codeMemory t (a .words .now) (a .info)) e,
+      p .1 .0 ∙ ap (λ (t : Table). codeMemory t (a .words .now) (a .info)) e,
     )
 
 pub step-spec : {M : Type 1} → statement M

@@ -29,7 +29,7 @@ returns c =
     let e = rows-lent (a .t) (a .numbers .now) (c .before .before .before .before .before .before .before .pre) in
     let p = c .before .before .decode-lent .ensures in (
       p .0 ∙ ap (λ (t : Table). decodeAnswer t (a .words .now) (a .received)) e,
-      p .1 ∙ ap (λ (t : Table). decodeMemory t (a .words .now) (a .received)) e,
+      p .1 .0 ∙ ap (λ (t : Table). decodeMemory t (a .words .now) (a .received)) e,
     )
 
 pub step-spec : {M : Type 1} → statement M

@@ -1,13 +1,17 @@
 -- `link::decoder::decode_lent`: fifteen rows, or none of a table. Assumes nothing.
 use borrow.Author.Needs.{needs}
-use Rattle.link.proofs.LentRows.{lent-fifteen, lent-none, decode-none}
+use Rattle.link.specs.declared.decoder.DecodeAnswer.the-variants.{Refused}
+use Rattle.link.specs.Lent.{lent}
+use Rattle.link.proofs.Answers.{decode-told}
+use Rattle.link.proofs.LentRows.{decode-none, decode-fifteen}
 use Rattle.link.proofs.decoder.decode_lent.Statement.{statement}
 use Rattle.link.proofs.decoder.decode_lent.Tie as tie
 
 returns : tie.Need-returns
 returns c =
     let a = c .before .before .before .args in
-    rw (lent-none (a .t) (a .rows .now) (c .if1 .taken)) (decode-none (a .state .now) (a .received))
+    let e = decode-none (a .t) (a .rows .now) (a .state .now) (a .received) (c .if1 .taken) in
+    decode-told (lent (a .t) (a .rows .now)) (a .state .now) (a .received) (Refused 12) (a .state .now) (e .0) (e .1)
 
 decode-with-requires : tie.Need-decode-with-requires
 decode-with-requires c κs = search needs
@@ -18,7 +22,9 @@ same-length c = search needs
 returns-2 : tie.Need-returns-2
 returns-2 c =
     let a = c .before .before .before .before .before .before .before .args in
-    rw (lent-fifteen (a .t) (a .rows .now) (c .before .before .before .before .if1 .left)) (c .before .before .decode-with .ensures)
+    let w = c .before .before .decode-with in
+    let e = decode-fifteen (a .t) (a .rows .now) (a .state .now) (a .received) (c .before .before .before .before .if1 .left) (w .ensures .0) (w .ensures .1) in
+    decode-told (lent (a .t) (a .rows .now)) (a .state .now) (a .received) (w .result) (w .last .1 .1 .0) (e .0) (e .1)
 
 pub decode-lent-spec : {M : Type 1} → statement M
 decode-lent-spec = tie.close (tie.spec returns decode-with-requires same-length returns-2)
