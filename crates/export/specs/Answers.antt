@@ -34,7 +34,8 @@ readingOf (k ∷ p ∷ []) = record { refused = k; place = p; l = 0; e0 = 0; e1 
 readingOf (k ∷ l ∷ e0 ∷ []) = record { refused = k; place = 0; l = l; e0 = e0; e1 = 0 }
 readingOf (k ∷ l ∷ e0 ∷ e1 ∷ ns) = record { refused = k; place = 0; l = l; e0 = e0; e1 = e1 }
 
--- "Only the triple of refusal 10 is left free": there is a reading that is right of the bytes (`Read`), and these are its numbers and, if it is no refusal, its table's
+-- "Only the triple of refusal 10 is left free": there is a reading that is right of the bytes (`Read`), and these are its numbers and, if it is no
+-- refusal, its table's
 pub record Reads (bytes : List ℕ) (r : BurstReading) (before after : List ℕ) : Type 0 where
   pub reading : Reading
   pub right : Read bytes reading

@@ -1,5 +1,5 @@
--- `link`: coder and decoder on lent memory, runs of their steps, rows that are lent, recovery after a fade, well-formed memories, the guard, the clean start, Massey's
--- code, runs that are computed, and the examples.
+-- `link`: coder and decoder on lent memory, rows that are lent, runs of their steps, recovery after a fade, well-formed memories, the guard, the clean
+-- start, Massey's code, runs that are computed, and the examples.
 pub mod Stream
 pub mod Marks
 pub mod Start

@@ -11,7 +11,7 @@
 --   madeListing a t bs  the bytes bs listed with the made table, or refusal 11
 --   listing bs          all that the program prints of the input bs
 --   continued t l bs    the bytes bs listed after l
---   PARTS              listing even parts one after the other is listing the whole
+--   PARTS               listing even parts one after the other is listing the whole
 --   partRoom k bytes room      whether the lines of a part of so many bytes have room, and the numbers from k on
 --   partListed t s k bs room   what a call that lists a part does, with `room` bytes for the lines
 --   Lists l out r memory end number stopped   what such a call leaves and answers
