@@ -1,7 +1,7 @@
 -- The theorems that a layer above may use of `tables`, stated in `specs/`, each proved in the file that the right side names. Assumes nothing.
 use Rattle.tables.specs.Reading.{ACCEPTED-SUITABLE, SUITABLE-ACCEPTED, REFUSED-RANGE, REFUSED-NUMBERS, REFUSED-UNSUITABLE, UNSUITABLE-NUMBERS}
 use Rattle.tables.specs.Written.{PARSES-EXACTLY}
-use Rattle.tables.specs.Laws.{IMAGE, ALIKE, FIRST, FIRST-NONE, FIRST-RANGE, NESTED, NESTED-ROWS, FILLING, FORCED, UNIQUE, MADE, MADE-WHOLE, MADE-DEPTH, IS-MADE, NOT-MADE}
+use Rattle.tables.specs.Laws.{IMAGE, ALIKE, FIRST, FIRST-NONE, FIRST-RANGE, NESTED, NESTED-ROWS, FILLING, FORCED, UNIQUE, MADE, MADE-WHOLE, MADE-DEPTH, IS-MADE, NOT-MADE, ZERO-UNFIT}
 use Rattle.tables.specs.Examples.{EXAMPLES}
 use Rattle.tables.proofs.Clash as Clash
 use Rattle.tables.proofs.Format as Format
@@ -69,6 +69,9 @@ is-made = Made.is-made
 
 pub not-made : NOT-MADE
 not-made = Made.not-made
+
+pub zero-unfit : ZERO-UNFIT
+zero-unfit = Made.zero-unfit
 
 pub nested : NESTED
 nested = Made.nested

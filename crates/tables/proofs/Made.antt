@@ -19,7 +19,7 @@ use Rattle.span.specs.Combination.{combination, Below}
 use Rattle.tables.specs.declared.table.Table.{Table}
 use Rattle.tables.specs.declared.make.MakeAnswer.the-variants.{Made, OutOfRange}
 use Rattle.tables.specs.Code.{image, Suitable}
-use Rattle.tables.specs.Laws.{FORCED, UNIQUE, NESTED, MADE, MADE-DEPTH, IS-MADE, NOT-MADE}
+use Rattle.tables.specs.Laws.{FORCED, UNIQUE, NESTED, MADE, MADE-DEPTH, IS-MADE, NOT-MADE, ZERO-UNFIT}
 use Rattle.tables.specs.Table.{table, zeroTable, rowsOf, sizesFit, rowsFit, fit}
 use Rattle.tables.specs.Made.{columns, upper, madeRow, madeRows, triangleRows, Triangle, madeTable, pickMaking, making}
 use Rattle.tables.proofs.Fit.{and-left, and-right, Sizes, sizes-of, sizes-fit-of, rows-fit-of, below-left}
@@ -271,6 +271,10 @@ unfolding madeTable
 made-depth n m m′ a a′ =
     made-table n m′ a′ .1
     ∙ sym (ap (λ (t : Table). table (t .symbols) (t .span) m′ (t .rows)) (made-table n m a .1))
+
+pub zero-unfit : ZERO-UNFIT
+unfolding fit sizesFit
+zero-unfit = refl
 
 pub is-made : IS-MADE
 unfolding making

@@ -11,6 +11,7 @@
 --   MADE-DEPTH    making with another depth changes only the depth
 --   IS-MADE       sizes in range are never refused
 --   NOT-MADE      refusal 11
+--   ZERO-UNFIT    12 applies to the zero table
 --   NESTED-ROWS   each row of the larger table is twice that of the smaller one and its bit of the new column
 --   FILLING       a suitable table has exactly one column that makes the next one suitable
 --   FORCED        with our columns before it, a column makes its size suitable exactly if it is ours
@@ -79,6 +80,10 @@ IS-MADE = (n m : ℕ) → sizesFit n 2 m ≡ true → making n m .answer ≡ Mad
 -- "11. n or m is out of range."
 abbrev pub NOT-MADE : Type 0
 NOT-MADE = (n m : ℕ) → sizesFit n 2 m ≡ false → (madeNumbers (making n m .answer) ≡ 11 ∷ []) × (making n m .table ≡ zeroTable)
+
+-- the table beside every refusal
+abbrev pub ZERO-UNFIT : Type 0
+ZERO-UNFIT = fit zeroTable ≡ false
 
 abbrev pub IMAGE : Type 0
 IMAGE = (rows : List ℕ)
