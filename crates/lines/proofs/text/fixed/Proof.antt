@@ -1,5 +1,5 @@
 -- `lines::text::fixed`: with room and without. Assumes nothing.
-use mathlib.Core.Path.{_≡_}
+use mathlib.Core.Path.{_≡_, sym, _∙_}
 use mathlib.Core.Bool.{true, false}
 use native.Mathlib.Omega.{arith}
 use Rattle.lines.specs.Writing.{room}
@@ -14,7 +14,7 @@ has-room-requires c κs = search needs
 put-bytes-requires : tie.Need-put-bytes-requires
 put-bytes-requires c κs =
     let a = c .before .before .before .before .before .before .args in
-    let h : room (a .out .now) (a .at) ≡ true = cc in
+    let h : room (a .out .now) (a .at) ≡ true = sym (c .before .before .has-room .ensures) ∙ c .before .if1 .taken in
     omega (arith, room-free (a .out .now) (a .at) h, c .before .before .before .before .before .before .pre)
 
 same-length : tie.Need-same-length
@@ -23,7 +23,7 @@ same-length c = search needs
 returns : tie.Need-returns
 returns c =
     let a = c .before .before .before .before .before .before .before .before .before .args in
-    let h : room (a .out .now) (a .at) ≡ true = cc in
+    let h : room (a .out .now) (a .at) ≡ true = sym (c .before .before .before .before .before .has-room .ensures) ∙ c .before .before .before .before .if1 .taken in
     put-there (a .bytes .now) h (c .before .before .put-bytes .ensures)
 
 same-length-2 : tie.Need-same-length-2
@@ -32,7 +32,7 @@ same-length-2 c = search needs
 returns-2 : tie.Need-returns-2
 returns-2 c =
     let a = c .before .before .before .before .before .args in
-    let h : room (a .out .now) (a .at) ≡ false = cc in
+    let h : room (a .out .now) (a .at) ≡ false = sym (c .before .has-room .ensures) ∙ c .if1 .left in
     put-nothing (a .out .now) (a .at) (a .bytes .now) h
 
 pub fixed-spec : {M : Type 1} → statement M

@@ -1,5 +1,5 @@
 -- `lines::text::refusal`: the word, the number, the newline; with room and without. Assumes nothing.
-use mathlib.Core.Path.{_≡_}
+use mathlib.Core.Path.{_≡_, sym, _∙_}
 use mathlib.Core.Bool.{true, false}
 use mathlib.Core.List.{[], _∷_, _++_}
 use native.Mathlib.Omega.{arith}
@@ -20,13 +20,13 @@ slice-aggregate-put-bytes c = search needs
 put-bytes-requires : tie.Need-put-bytes-requires
 put-bytes-requires c κs =
     let a = c .before .before .before .before .before .before .args in
-    let h : room (a .out .now) (a .at) ≡ true = cc in
+    let h : room (a .out .now) (a .at) ≡ true = sym (c .before .before .before .has-room .ensures) ∙ c .before .before .if1 .taken in
     omega (arith, room-free (a .out .now) (a .at) h)
 
 field-requires : tie.Need-field-requires
 field-requires c κs =
     let a = c .before .before .before .before .before .before .before .before .before .before .args in
-    let h : room (a .out .now) (a .at) ≡ true = cc in
+    let h : room (a .out .now) (a .at) ≡ true = sym (c .before .before .before .before .before .before .before .has-room .ensures) ∙ c .before .before .before .before .before .before .if1 .taken in
     let p = c .before .before .before .put-bytes in
     omega (arith, room-free (a .out .now) (a .at) h, p .ensures .position, p .kept .0, digits-64 (a .number) (omega arith))
 
@@ -37,7 +37,7 @@ returns : tie.Need-returns
 unfolding refusedLine
 returns c =
     let a = c .before .before .before .before .before .before .before .before .before .before .before .before .before .args in
-    let h : room (a .out .now) (a .at) ≡ true = cc in
+    let h : room (a .out .now) (a .at) ≡ true = sym (c .before .before .before .before .before .before .before .before .before .before .has-room .ensures) ∙ c .before .before .before .before .before .before .before .before .before .if1 .taken in
     let free = room-free (a .out .now) (a .at) h in
     put-there (refusedLine (a .number)) h
     (wrote-then (114 ∷ 101 ∷ 102 ∷ 117 ∷ 115 ∷ 101 ∷ 100 ∷ 32 ∷ []) (decimalOf (a .number) ++ (10 ∷ [])) (c .before .before .before .before .before .before .put-bytes .ensures) (c .before .before .field .ensures) (omega arith))
@@ -48,7 +48,7 @@ same-length-2 c = search needs
 returns-2 : tie.Need-returns-2
 returns-2 c =
     let a = c .before .before .before .before .args in
-    let h : room (a .out .now) (a .at) ≡ false = cc in
+    let h : room (a .out .now) (a .at) ≡ false = sym (c .before .has-room .ensures) ∙ c .if1 .left in
     put-nothing (a .out .now) (a .at) (refusedLine (a .number)) h
 
 pub refusal-spec : {M : Type 1} → statement M
