@@ -1,22 +1,20 @@
 -- A table whose rows are lent beside it: fifteen rows, or the zero table, which 12 refuses. Assumes nothing.
 use mathlib.Core.Path.{_≡_, refl, _∙_}
+use mathlib.Core.Bool.{Bool, true, false, _&&_}
 use mathlib.Core.Logic.{_≢_}
 use mathlib.Core.List.{List}
 use Prim.Native.Nat.{ℕ}
 use native.Mathlib.Omega.{arith}
-use borrow.Author.Tests.{eq-eqb, ne-eqb}
+use borrow.Author.Tests.{eq-eqb, ne-eqb, eqb-true}
+use lib.Dec.{eqb}
 use lib.ListN.{length}
 use Rattle.tables.specs.declared.table.Table.{Table}
-use Rattle.tables.specs.Table.{zeroTable}
+use Rattle.tables.specs.Table.{zeroTable, fit}
 use Rattle.tables.proofs.Laws.{zero-unfit}
-use Rattle.link.specs.declared.coder.CodeAnswer.{CodeAnswer}
-use Rattle.link.specs.declared.coder.CodeAnswer.the-variants.{Refused as CodeRefused}
-use Rattle.link.specs.declared.decoder.DecodeAnswer.{DecodeAnswer}
-use Rattle.link.specs.declared.decoder.DecodeAnswer.the-variants.{Refused as DecodeRefused}
 use Rattle.link.specs.Lent.{withRows, lent, LENT}
-use Rattle.link.specs.Coder.{codeAnswer, codeMemory}
-use Rattle.link.specs.Decoder.{decodeAnswer, decodeMemory}
-use Rattle.link.proofs.Faults.{coder-fault, decoder-fault, code-refuses, decode-refuses}
+use Rattle.link.specs.Coder.{coderFault}
+use Rattle.link.specs.Decoder.{decoderFault}
+use Rattle.link.proofs.Faults.{coder-fault, decoder-fault}
 
 lent-fifteen : (t : Table) (rows : List ℕ) → length rows ≡ 15 → lent t rows ≡ withRows t rows
 unfolding lent
@@ -29,19 +27,37 @@ lent-none t rows e = rw (ne-eqb (length rows) 15 e, lent)
 pub lent-rows : LENT
 lent-rows t rows = (lent-fifteen t rows, lent-none t rows, refl, lent-fifteen t (t .rows))
 
--- what a step on such a table answers and leaves
+-- 12 refuses any other count, so a table that is fit has fifteen
+pub lent-fit : (t : Table) (rows : List ℕ) → fit (lent t rows) ≡ (eqb (length rows) 15 && fit (withRows t rows))
+unfolding lent
+lent-fit t rows = go (eqb (length rows) 15)
+  where
+    go : (b : Bool) → fit (elim b [ true ↦ withRows t rows | false ↦ zeroTable ]) ≡ (b && fit (withRows t rows))
+    go true = refl
+    go false = zero-unfit
 
-module _ (t : Table) (rows s : List ℕ) (b : ℕ) where
-  pub code-none : length rows ≢ 15 → (CodeRefused 12 ≡ codeAnswer (lent t rows) s b) × (s ≡ codeMemory (lent t rows) s b)
-  code-none other = rw (lent-none t rows other) (code-refuses zeroTable s b 12 (coder-fault zeroTable s b ∙ simp zero-unfit) (omega arith))
+pub fit-lent : (t : Table) (rows : List ℕ) → fit (lent t rows) ≡ true → (lent t rows ≡ withRows t rows) × (fit (withRows t rows) ≡ true)
+unfolding lent
+fit-lent t rows f = go (eqb (length rows) 15) f
+  where
+    go : (b : Bool) → fit (elim b [ true ↦ withRows t rows | false ↦ zeroTable ]) ≡ true
+        → (elim b [ true ↦ withRows t rows | false ↦ zeroTable ] ≡ withRows t rows) × (fit (withRows t rows) ≡ true)
+    go true e = (refl, e)
+    go false e = let no = zero-unfit in let z : _≡_ {A = ℕ} 0 1 = cc in absurd (omega arith)
 
-  pub code-fifteen : {x : CodeAnswer} {after : List ℕ} → length rows ≡ 15 → x ≡ codeAnswer (withRows t rows) s b → after ≡ codeMemory (withRows t rows) s b
-      → (x ≡ codeAnswer (lent t rows) s b) × (after ≡ codeMemory (lent t rows) s b)
-  code-fifteen e p q = rw (lent-fifteen t rows e) (p, q)
+-- and so has one that no refusal applies to
+lent-taken : (t : Table) (rows : List ℕ) (fault : Table → ℕ) → fault zeroTable ≡ 12 → fault (lent t rows) ≡ 0
+    → (lent t rows ≡ withRows t rows) × (length rows ≡ 15)
+unfolding lent
+lent-taken t rows fault none taken = go (eqb (length rows) 15) refl taken
+  where
+    go : (b : Bool) → eqb (length rows) 15 ≡ b → fault (elim b [ true ↦ withRows t rows | false ↦ zeroTable ]) ≡ 0
+        → (elim b [ true ↦ withRows t rows | false ↦ zeroTable ] ≡ withRows t rows) × (length rows ≡ 15)
+    go true e z = (refl, eqb-true (length rows) 15 e)
+    go false e z = absurd (omega arith)
 
-  pub decode-none : length rows ≢ 15 → (DecodeRefused 12 ≡ decodeAnswer (lent t rows) s b) × (s ≡ decodeMemory (lent t rows) s b)
-  decode-none other = rw (lent-none t rows other) (decode-refuses zeroTable s b 12 (decoder-fault zeroTable s b ∙ simp zero-unfit) (omega arith))
+pub code-lent-taken : (t : Table) (rows s : List ℕ) (b : ℕ) → coderFault (lent t rows) s b ≡ 0 → (lent t rows ≡ withRows t rows) × (length rows ≡ 15)
+code-lent-taken t rows s b = lent-taken t rows (λ (u : Table). coderFault u s b) (coder-fault zeroTable s b ∙ simp zero-unfit)
 
-  pub decode-fifteen : {x : DecodeAnswer} {after : List ℕ} → length rows ≡ 15 → x ≡ decodeAnswer (withRows t rows) s b
-      → after ≡ decodeMemory (withRows t rows) s b → (x ≡ decodeAnswer (lent t rows) s b) × (after ≡ decodeMemory (lent t rows) s b)
-  decode-fifteen e p q = rw (lent-fifteen t rows e) (p, q)
+pub decode-lent-taken : (t : Table) (rows s : List ℕ) (r : ℕ) → decoderFault (lent t rows) s r ≡ 0 → (lent t rows ≡ withRows t rows) × (length rows ≡ 15)
+decode-lent-taken t rows s r = lent-taken t rows (λ (u : Table). decoderFault u s r) (decoder-fault zeroTable s r ∙ simp zero-unfit)

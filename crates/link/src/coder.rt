@@ -1,9 +1,9 @@
 // The coder: one step on lent memory.
 use crate::stream::joining;
+use crate::stream::lent_fits;
 use crate::stream::next_turn;
 use span::bits::mask;
 use tables::table::Table;
-use tables::table::is_fit;
 ghost use mathlib.Core.Path.{_≡_};
 ghost use mathlib.Core.List.{[], _∷_};
 ghost use Prim.Native.Nat.{_+_, _-_, _/_, _≤_};
@@ -35,9 +35,9 @@ fn malformed(t: Table, state: &[u64]) -> bool
 
 // The first of refusals 12 to 15 that applies, or 0.
 fn fault(t: Table, rows: &[u64], state: &[u64], block: u64) -> u64
-    ensures { λ r. ⌜ r ≡ coderFault (withRows t (now (rows .entry))) (now (state .entry)) block ⌝ }
+    ensures { λ r. ⌜ r ≡ coderFault (lent t (now (rows .entry))) (now (state .entry)) block ⌝ }
 {
-    if !is_fit(t.symbols, t.span, t.depth, rows) {
+    if !lent_fits(t, rows) {
         return 12;
     }
     if state.len() != 1 + t.depth {
@@ -79,10 +79,11 @@ fn taken(t: Table, rows: &[u64], state: &mut [u64], info: u64) -> u64
     info + (parity << (width as u64))
 }
 
-// Any step.
-fn code_with(t: Table, rows: &[u64], state: &mut [u64], info: u16) -> CodeAnswer
-    ensures answer { λ r. ⌜ r ≡ codeAnswer (withRows t (now (rows .entry))) (now (state .entry)) info ⌝ }
-    ensures memory { λ r. ⌜ now (state .exit) ≡ codeMemory (withRows t (now (rows .entry))) (now (state .entry)) info ⌝ }
+// A step on a table whose rows are lent beside it, so that a caller need not copy them into one. Other than fifteen are those of no table.
+pub fn code_lent(t: Table, rows: &[u64], state: &mut [u64], info: u16) -> CodeAnswer
+    ensures answer { λ r. ⌜ r ≡ codeAnswer (lent t (now (rows .entry))) (now (state .entry)) info ⌝ }
+    ensures memory { λ r. ⌜ now (state .exit) ≡ codeMemory (lent t (now (rows .entry))) (now (state .entry)) info ⌝ }
+    ensures numbers { λ r. ⌜ Answered (coderFault (lent t (now (rows .entry))) (now (state .entry)) info) (codedBlock (lent t (now (rows .entry))) (now (state .entry)) info ∷ []) (coderNext (lent t (now (rows .entry))) (now (state .entry)) info) (now (state .entry)) (codeNumbers r) (now (state .exit)) ⌝ }
 {
     let block = info as u64;
     let number = fault(t, rows, state, block);
@@ -92,22 +93,10 @@ fn code_with(t: Table, rows: &[u64], state: &mut [u64], info: u16) -> CodeAnswer
     CodeAnswer::Coded(taken(t, rows, state, block) as u16)
 }
 
-// A step on a table whose rows are lent beside it, so that a caller need not copy them into one. Other than fifteen are those of no table.
-pub fn code_lent(t: Table, rows: &[u64], state: &mut [u64], info: u16) -> CodeAnswer
-    ensures answer { λ r. ⌜ r ≡ codeAnswer (lent t (now (rows .entry))) (now (state .entry)) info ⌝ }
-    ensures memory { λ r. ⌜ now (state .exit) ≡ codeMemory (lent t (now (rows .entry))) (now (state .entry)) info ⌝ }
-    ensures numbers { λ r. ⌜ Answered (coderFault (lent t (now (rows .entry))) (now (state .entry)) info) (codedBlock (lent t (now (rows .entry))) (now (state .entry)) info ∷ []) (coderNext (lent t (now (rows .entry))) (now (state .entry)) info) (now (state .entry)) (codeNumbers r) (now (state .exit)) ⌝ }
-{
-    if rows.len() != 15 {
-        return CodeAnswer::Refused(12);
-    }
-    code_with(t, rows, state, info)
-}
-
 pub fn code(t: Table, state: &mut [u64], info: u16) -> CodeAnswer
     ensures answer { λ r. ⌜ r ≡ codeAnswer t (now (state .entry)) info ⌝ }
     ensures memory { λ r. ⌜ now (state .exit) ≡ codeMemory t (now (state .entry)) info ⌝ }
     ensures numbers { λ r. ⌜ Answered (coderFault t (now (state .entry)) info) (codedBlock t (now (state .entry)) info ∷ []) (coderNext t (now (state .entry)) info) (now (state .entry)) (codeNumbers r) (now (state .exit)) ⌝ }
 {
-    code_with(t, &t.rows, state, info)
+    code_lent(t, &t.rows, state, info)
 }

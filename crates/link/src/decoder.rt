@@ -1,11 +1,11 @@
 // The decoder: one step on lent memory, in 01's four lines.
 use crate::stream::joining;
+use crate::stream::lent_fits;
 use crate::stream::next_turn;
 use span::bits::mask;
 use span::eliminate::Least;
 use span::eliminate::least_relation;
 use tables::table::Table;
-use tables::table::is_fit;
 ghost use mathlib.Core.Path.{_≡_};
 ghost use mathlib.Core.Bool.{true, cond, _||_};
 ghost use mathlib.Core.List.{List, [], _∷_, _++_};
@@ -89,9 +89,9 @@ fn malformed(t: Table, state: &[u64]) -> bool
 
 // The first of refusals 12 to 15 that applies, or 0.
 fn fault(t: Table, rows: &[u64], state: &[u64], block: u64) -> u64
-    ensures { λ r. ⌜ r ≡ decoderFault (withRows t (now (rows .entry))) (now (state .entry)) block ⌝ }
+    ensures { λ r. ⌜ r ≡ decoderFault (lent t (now (rows .entry))) (now (state .entry)) block ⌝ }
 {
-    if !is_fit(t.symbols, t.span, t.depth, rows) {
+    if !lent_fits(t, rows) {
         return 12;
     }
     if state.len() != 2 + t.depth * (t.span + 1) {
@@ -274,11 +274,11 @@ fn taken(t: Table, rows: &[u64], state: &mut [u64], received: u64) -> DecodeAnsw
     }
 }
 
-// Any step.
-fn decode_with(t: Table, rows: &[u64], state: &mut [u64], received: u16) -> DecodeAnswer
-    requires { ⌜ length (now rows) ≡ 15 ⌝ }
-    ensures answer { λ r. ⌜ r ≡ decodeAnswer (withRows t (now (rows .entry))) (now (state .entry)) received ⌝ }
-    ensures memory { λ r. ⌜ now (state .exit) ≡ decodeMemory (withRows t (now (rows .entry))) (now (state .entry)) received ⌝ }
+// A step on a table whose rows are lent beside it, so that a caller need not copy them into one. Other than fifteen are those of no table.
+pub fn decode_lent(t: Table, rows: &[u64], state: &mut [u64], received: u16) -> DecodeAnswer
+    ensures answer { λ r. ⌜ r ≡ decodeAnswer (lent t (now (rows .entry))) (now (state .entry)) received ⌝ }
+    ensures memory { λ r. ⌜ now (state .exit) ≡ decodeMemory (lent t (now (rows .entry))) (now (state .entry)) received ⌝ }
+    ensures numbers { λ r. ⌜ Answered (decoderFault (lent t (now (rows .entry))) (now (state .entry)) received) (decodeValues (lent t (now (rows .entry))) (now (state .entry)) received) (decoderNext (lent t (now (rows .entry))) (now (state .entry)) received) (now (state .entry)) (decodeNumbers r) (now (state .exit)) ⌝ }
 {
     let block = received as u64;
     let number = fault(t, rows, state, block);
@@ -288,22 +288,10 @@ fn decode_with(t: Table, rows: &[u64], state: &mut [u64], received: u16) -> Deco
     taken(t, rows, state, block)
 }
 
-// A step on a table whose rows are lent beside it, so that a caller need not copy them into one. Other than fifteen are those of no table.
-pub fn decode_lent(t: Table, rows: &[u64], state: &mut [u64], received: u16) -> DecodeAnswer
-    ensures answer { λ r. ⌜ r ≡ decodeAnswer (lent t (now (rows .entry))) (now (state .entry)) received ⌝ }
-    ensures memory { λ r. ⌜ now (state .exit) ≡ decodeMemory (lent t (now (rows .entry))) (now (state .entry)) received ⌝ }
-    ensures numbers { λ r. ⌜ Answered (decoderFault (lent t (now (rows .entry))) (now (state .entry)) received) (decodeValues (lent t (now (rows .entry))) (now (state .entry)) received) (decoderNext (lent t (now (rows .entry))) (now (state .entry)) received) (now (state .entry)) (decodeNumbers r) (now (state .exit)) ⌝ }
-{
-    if rows.len() != 15 {
-        return DecodeAnswer::Refused(12);
-    }
-    decode_with(t, rows, state, received)
-}
-
 pub fn decode(t: Table, state: &mut [u64], received: u16) -> DecodeAnswer
     ensures answer { λ r. ⌜ r ≡ decodeAnswer t (now (state .entry)) received ⌝ }
     ensures memory { λ r. ⌜ now (state .exit) ≡ decodeMemory t (now (state .entry)) received ⌝ }
     ensures numbers { λ r. ⌜ Answered (decoderFault t (now (state .entry)) received) (decodeValues t (now (state .entry)) received) (decoderNext t (now (state .entry)) received) (now (state .entry)) (decodeNumbers r) (now (state .exit)) ⌝ }
 {
-    decode_with(t, &t.rows, state, received)
+    decode_lent(t, &t.rows, state, received)
 }

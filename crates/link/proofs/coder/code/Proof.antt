@@ -1,11 +1,13 @@
--- `link::coder::code`: the numbers of the answer follow from the answer. Assumes nothing.
+-- `link::coder::code`: the table is that with its own rows lent. Assumes nothing.
+use mathlib.Core.Path.{_≡_}
 use borrow.Author.Needs.{needs}
-use Rattle.link.proofs.Answers.{code-told}
+use lib.ListN.{length}
+use Rattle.link.proofs.LentRows.{lent-rows}
 use Rattle.link.proofs.coder.code.Statement.{statement}
 use Rattle.link.proofs.coder.code.Tie as tie
 
-code-with-requires : tie.Need-code-with-requires
-code-with-requires c κs = search needs
+code-lent-requires : tie.Need-code-lent-requires
+code-lent-requires c κs = search needs
 
 same-length : tie.Need-same-length
 same-length c = search needs
@@ -13,8 +15,8 @@ same-length c = search needs
 returns : tie.Need-returns
 returns c =
     let a = c .before .before .before .before .before .before .before .before .args in
-    let w = c .before .before .code-with in
-    code-told (a .t1) (a .state .now) (a .info) (w .result) (w .last .1 .1 .0) (w .ensures .0) (w .ensures .1)
+    let size : length (a .t1 .rows) ≡ 15 = search needs in
+    rw (lent-rows (a .t1) (a .t1 .rows) .3 size) at (c .before .before .code-lent .ensures)
 
 pub code-spec : {M : Type 1} → statement M
-code-spec = tie.close (tie.spec code-with-requires same-length returns)
+code-spec = tie.close (tie.spec code-lent-requires same-length returns)

@@ -1,11 +1,13 @@
--- `link::decoder::decode`: the numbers of the answer follow from the answer. Assumes nothing.
+-- `link::decoder::decode`: the table is that with its own rows lent. Assumes nothing.
+use mathlib.Core.Path.{_≡_}
 use borrow.Author.Needs.{needs}
-use Rattle.link.proofs.Answers.{decode-told}
+use lib.ListN.{length}
+use Rattle.link.proofs.LentRows.{lent-rows}
 use Rattle.link.proofs.decoder.decode.Statement.{statement}
 use Rattle.link.proofs.decoder.decode.Tie as tie
 
-decode-with-requires : tie.Need-decode-with-requires
-decode-with-requires c κs = search needs
+decode-lent-requires : tie.Need-decode-lent-requires
+decode-lent-requires c κs = search needs
 
 same-length : tie.Need-same-length
 same-length c = search needs
@@ -13,8 +15,8 @@ same-length c = search needs
 returns : tie.Need-returns
 returns c =
     let a = c .before .before .before .before .before .before .before .before .args in
-    let w = c .before .before .decode-with in
-    decode-told (a .t1) (a .state .now) (a .received) (w .result) (w .last .1 .1 .0) (w .ensures .0) (w .ensures .1)
+    let size : length (a .t1 .rows) ≡ 15 = search needs in
+    rw (lent-rows (a .t1) (a .t1 .rows) .3 size) at (c .before .before .decode-lent .ensures)
 
 pub decode-spec : {M : Type 1} → statement M
-decode-spec = tie.close (tie.spec decode-with-requires same-length returns)
+decode-spec = tie.close (tie.spec decode-lent-requires same-length returns)
