@@ -3,6 +3,7 @@
 # make staticlib   the archive for C and C++, target/staticlib/libexport.a; include/burst.h declares what it has
 # make bench       what calls take, against an implementation written for speed; not a part of the gate
 .PHONY: run test staticlib bench
+ARCHIVE := target/staticlib/libexport.a
 
 run:
 	@rt check listing
@@ -11,7 +12,10 @@ run:
 test:
 	@tests/tally tests/layout 'rt ci' tests/statements $(wildcard tests/*_test)
 
-staticlib:
+staticlib: $(ARCHIVE)
+
+# `rt staticlib` proves anew each time: not while nothing below crates/ has changed.
+$(ARCHIVE): crates.txt $(shell find crates)
 	@rt staticlib export
 
 bench: staticlib
