@@ -3,7 +3,7 @@ use mathlib.Core.Path.{_≡_, refl, ap, _∙_}
 use mathlib.Core.Bool.{Bool, true, false, cond}
 use mathlib.Core.Logic.{_≢_}
 use mathlib.Core.List.{List, [], _∷_}
-use Prim.Native.Nat.{ℕ, _-_, _*_, _≤_, _<_}
+use Prim.Native.Nat.{ℕ, _-_, _*_, _<_}
 use native.Mathlib.Omega.{arith}
 use lib.ListN.{getD, take}
 use Rattle.tables.specs.declared.table.Table.{Table}
@@ -17,19 +17,12 @@ use Rattle.tables.specs.Reading.{numbers, Says}
 use Rattle.tables.specs.Written.{Whole}
 use Rattle.tables.specs.Made.{columns, triangleRows, making, madeNumbers}
 use Rattle.tables.proofs.Laws.{refused-range, parses-exactly, made, made-whole, is-made, not-made}
-use Rattle.link.specs.declared.decoder.Mark.{Mark}
-use Rattle.link.specs.declared.decoder.Mark.the-variants.{Clean, Held, Corrected, Doubtful}
-use Rattle.link.specs.declared.decoder.DecodeAnswer.the-variants.{Delivery, NothingYet, Refused as DecodeRefused}
-use Rattle.link.specs.Answers.{markNumber, Answered}
+use Rattle.link.specs.Answers.{Answered}
 use Rattle.link.proofs.Answers.{start-numbers, code-numbers, decode-numbers}
-use Rattle.export.specs.Table.{tableOf, numbersOf, givenBack}
-use Rattle.export.specs.Answers.{numberOf, readingOf, codedOf, decodedOf}
-use Rattle.export.specs.Laws.{TABLE-BACK, READ-TOLD, MADE-TOLD, Told, START-TOLD, CODE-TOLD, DECODE-TOLD, MARK-RANGE}
-use Rattle.export.proofs.Given.{back, kept}
-
-pub table-back : TABLE-BACK
-unfolding tableOf numbersOf
-table-back t = refl
+use Rattle.numbers.specs.Table.{numbersOf, givenBack}
+use Rattle.numbers.proofs.Laws.{given-back}
+use Rattle.records.specs.Answers.{numberOf, readingOf, codedOf, decodedOf}
+use Rattle.export.specs.Laws.{READ-TOLD, MADE-TOLD, Told, START-TOLD, CODE-TOLD, DECODE-TOLD}
 
 said : (bytes : List ℕ) → ((i : ℕ) → getD bytes i 0 < 256) → (a : ReadAnswer) (u : Table) (before : List ℕ) → Says bytes (numbers a) u
     → let r = readingOf (numbers a) in
@@ -41,7 +34,7 @@ said : (bytes : List ℕ) → ((i : ℕ) → getD bytes i 0 < 256) → (a : Read
     × (r .refused ≡ 10
     → (t : Table) × (parse bytes ≡ parsed t) × Clashes (t .span) (rowsOf t) (r .l) (r .e0) (r .e1) × (r ≡ readingOf (10 ∷ r .l ∷ r .e0 ∷ r .e1 ∷ [])))
 said bytes low Accepted u before s = (
-  λ z. (u, s .0, s .1, parses-exactly bytes u low .0 (s .0) .whole, back 0 u before refl, refl),
+  λ z. (u, s .0, s .1, parses-exactly bytes u low .0 (s .0) .whole, given-back 0 u before .0 refl, refl),
   λ n. absurd (n refl),
   λ n. absurd (n refl),
   λ e. absurd (omega arith),
@@ -49,13 +42,13 @@ said bytes low Accepted u before s = (
 said bytes low (Refused k p) u before s =
     let range = refused-range bytes k p (s .0) in (
       λ z. absurd (omega arith),
-      λ n. kept k u before n,
+      λ n. given-back k u before .1 n,
       λ n o. (s .0, refl),
       λ e. absurd (omega arith),
     )
 said bytes low (Unsuitable l e0 e1) u before s = (
   λ z. absurd (omega arith),
-  λ n. kept 10 u before n,
+  λ n. given-back 10 u before .1 n,
   λ n o. absurd (o refl),
   λ e. (s .0, s .1, s .2, refl),
 )
@@ -80,14 +73,14 @@ made-told n m before = go (sizesFit n 2 m) refl
         let yes = is-made n m q in
         let l = made n m yes in (
           ap (λ (a : MakeAnswer). numberOf (madeNumbers a)) yes,
-          λ z. (l .0, l .1, l .2, l .4, l .5, made-whole n m yes, back _ (making n m .table) before z),
-          λ some. kept _ (making n m .table) before some,
+          λ z. (l .0, l .1, l .2, l .4, l .5, made-whole n m yes, given-back _ (making n m .table) before .0 z),
+          λ some. given-back _ (making n m .table) before .1 some,
         )
     go false q =
         let l = not-made n m q in (
           ap numberOf (l .0),
           λ z. absurd (let e = ap numberOf (l .0) in omega arith),
-          λ some. kept _ (making n m .table) before some,
+          λ some. given-back _ (making n m .table) before .1 some,
         )
 
 -- a struct that has of a number alone what it has of the number and zeros
@@ -106,14 +99,3 @@ code-told t s b = told codedOf (λ k. refl) _ _ _ _ _ _ (code-numbers t s b)
 
 pub decode-told : DECODE-TOLD
 decode-told t s r = told decodedOf (λ k. refl) _ _ _ _ _ _ (decode-numbers t s r)
-
-pub mark-range : MARK-RANGE
-mark-range NothingYet = omega arith
-mark-range (DecodeRefused k) = omega arith
-mark-range (Delivery d) = go (d .mark)
-  where
-    go : (k : Mark) → markNumber k ≤ 4
-    go Clean = omega arith
-    go Held = omega arith
-    go (Corrected e) = omega arith
-    go Doubtful = omega arith

@@ -1,17 +1,15 @@
 -- What the numbers tell a caller. `proofs/Laws` has a proof of each.
 --
---   TABLE-BACK    a table that is given back, handed in again, is that table
 --   READ-TOLD     reading: number 0 says that the bytes say a suitable table, which is given back; any other, that no number was written, and the
 --                 place, or the triple, is the refusal's
 --   MADE-TOLD     making: number 0 says that n and m are in range, and our suitable table is given back; any other is 11, and no number was written
 --   Told f fault values next before ns after   f of the numbers ns of an answer, and the memory, after a call that has this fault
 --   START-TOLD, CODE-TOLD, DECODE-TOLD   a start or a step: refused, the struct has its number and zeros, and no word is written
---   MARK-RANGE    a mark's number is at most 4
 use mathlib.Core.Path.{_≡_}
 use mathlib.Core.Bool.{cond}
 use mathlib.Core.Logic.{_≢_}
 use mathlib.Core.List.{List, [], _∷_}
-use Prim.Native.Nat.{ℕ, _-_, _*_, _≤_, _<_}
+use Prim.Native.Nat.{ℕ, _-_, _*_, _<_}
 use lib.ListN.{getD, take}
 use Rattle.tables.specs.declared.table.Table.{Table}
 use Rattle.tables.specs.Code.{Clashes, Suitable}
@@ -19,17 +17,14 @@ use Rattle.tables.specs.Table.{rowsOf, sizesFit}
 use Rattle.tables.specs.Format.{parse, refused, parsed}
 use Rattle.tables.specs.Written.{Whole}
 use Rattle.tables.specs.Made.{columns, triangleRows, making, madeNumbers}
-use Rattle.link.specs.declared.decoder.DecodeAnswer.{DecodeAnswer}
 use Rattle.link.specs.Start.{startFault, started, startAnswer, startMemory}
 use Rattle.link.specs.Coder.{coderFault, codedBlock, coderNext, codeAnswer, codeMemory}
 use Rattle.link.specs.Decoder.{decoderFault, decoderNext, decodeAnswer, decodeMemory}
 use Rattle.link.specs.Answers.{startNumbers, codeNumbers, decodeNumbers, decodeValues}
-use Rattle.export.specs.declared.read.BurstReading.{BurstReading}
-use Rattle.export.specs.Table.{tableOf, numbersOf, givenBack}
-use Rattle.export.specs.Answers.{numberOf, readingOf, codedOf, decodedOf, Reads}
-
-abbrev pub TABLE-BACK : Type 0
-TABLE-BACK = (t : Table) → tableOf (numbersOf t) ≡ t
+use Rattle.numbers.specs.Table.{numbersOf, givenBack}
+use Rattle.records.specs.declared.reading.BurstReading.{BurstReading}
+use Rattle.records.specs.Answers.{numberOf, readingOf, codedOf, decodedOf}
+use Rattle.export.specs.Reading.{Reads}
 
 -- `Whole`: the table is fit, and its rows past n − 1 are 0
 abbrev pub READ-TOLD : Type 0
@@ -72,7 +67,3 @@ abbrev pub DECODE-TOLD : Type 0
 DECODE-TOLD =
     (t : Table) (s : List ℕ) (r : ℕ)
     → Told decodedOf (decoderFault t s r) (decodeValues t s r) (decoderNext t s r) s (decodeNumbers (decodeAnswer t s r)) (decodeMemory t s r)
-
--- 0 to 4, as CR 1 of 02 numbers them; `FAULT-RANGE` of `link` has the numbers of refusals
-abbrev pub MARK-RANGE : Type 0
-MARK-RANGE = (a : DecodeAnswer) → decodedOf (decodeNumbers a) .mark ≤ 4

@@ -1,4 +1,3 @@
--- `export`: what crosses to C: a table as 18 numbers, and the struct of numbers of each answer.
-pub mod Table
-pub mod Answers
+-- `export`: what a call of C tells and leaves.
+pub mod Reading
 pub mod Laws

@@ -1,36 +1,17 @@
 // A coder's step.
-use crate::table::sizes_of;
 use link::coder::CodeAnswer;
 use link::coder::code_lent;
+use numbers::table::sizes_of;
+use records::coded::BurstCoded;
+use records::coded::coded;
 use tables::table::Table;
 ghost use mathlib.Core.Path.{_≡_};
 ghost use lib.ListN.{length, drop};
 ghost use Rattle.link.specs.Lent.{withRows};
 ghost use Rattle.link.specs.Coder.{codeAnswer, codeMemory};
 ghost use Rattle.link.specs.Answers.{codeNumbers};
-ghost use Rattle.export.specs.Table.{tableOf};
-ghost use Rattle.export.specs.Answers.{codedOf};
-
-#[repr(C)]
-pub struct BurstCoded {
-    pub refused: u64,
-    pub block: u64,
-}
-
-fn coded(answer: CodeAnswer) -> BurstCoded
-    ensures { λ r. ⌜ r ≡ codedOf (codeNumbers answer) ⌝ }
-{
-    match answer {
-        CodeAnswer::Coded(c) => BurstCoded {
-            refused: 0,
-            block: c as u64,
-        },
-        CodeAnswer::Refused(k) => BurstCoded {
-            refused: k,
-            block: 0,
-        },
-    }
-}
+ghost use Rattle.numbers.specs.Table.{tableOf};
+ghost use Rattle.records.specs.Answers.{codedOf};
 
 // The rows are lent where they stand.
 fn step(t: Table, numbers: &[u64], words: &mut [u64], info: u16) -> CodeAnswer

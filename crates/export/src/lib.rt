@@ -1,7 +1,6 @@
-// What C may call (include/burst.h): numbers in, numbers out, over `tables` and `link`. Nothing is decided here.
+// What C may call (include/burst.h): numbers in, numbers out, over `tables` and `link`, by `numbers` and `records`. Nothing is decided here.
 pub mod coder;
 pub mod decoder;
 pub mod make;
 pub mod read;
 pub mod start;
-pub mod table;

@@ -1,20 +1,11 @@
 // Making a table.
-use crate::table::give_back;
-use tables::make::MakeAnswer;
+use numbers::table::give_back;
+use records::making::number;
 use tables::make::make;
 ghost use mathlib.Core.Path.{_≡_};
 ghost use Rattle.tables.specs.Made.{making, madeNumbers};
-ghost use Rattle.export.specs.Table.{givenBack};
-ghost use Rattle.export.specs.Answers.{numberOf};
-
-fn number(answer: MakeAnswer) -> u64
-    ensures { λ r. ⌜ r ≡ numberOf (madeNumbers answer) ⌝ }
-{
-    match answer {
-        MakeAnswer::Made => 0,
-        MakeAnswer::OutOfRange => 11,
-    }
-}
+ghost use Rattle.numbers.specs.Table.{givenBack};
+ghost use Rattle.records.specs.Answers.{numberOf};
 
 #[no_mangle]
 pub extern "C" fn burst_make(n: u64, m: u64, table: &mut [u64; 18]) -> u64

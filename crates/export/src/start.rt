@@ -1,24 +1,15 @@
 // Starting a memory.
-use crate::table::table_of;
-use link::start::StartAnswer;
 use link::start::start_coder;
 use link::start::start_decoder;
+use numbers::table::table_of;
+use records::starting::number;
 ghost use mathlib.Core.Path.{_≡_};
 ghost use Rattle.link.specs.Start.{startAnswer, startMemory};
 ghost use Rattle.link.specs.Coder.{coderWords};
 ghost use Rattle.link.specs.Decoder.{decoderWords};
 ghost use Rattle.link.specs.Answers.{startNumbers};
-ghost use Rattle.export.specs.Table.{tableOf};
-ghost use Rattle.export.specs.Answers.{numberOf};
-
-fn number(answer: StartAnswer) -> u64
-    ensures { λ r. ⌜ r ≡ numberOf (startNumbers answer) ⌝ }
-{
-    match answer {
-        StartAnswer::Started => 0,
-        StartAnswer::Refused(k) => k,
-    }
-}
+ghost use Rattle.numbers.specs.Table.{tableOf};
+ghost use Rattle.records.specs.Answers.{numberOf};
 
 #[no_mangle]
 pub extern "C" fn burst_start_coder(table: &[u64; 18], words: &mut [u64]) -> u64

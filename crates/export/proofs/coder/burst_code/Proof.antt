@@ -6,9 +6,9 @@ use Rattle.tables.specs.declared.table.Table.{Table}
 use Rattle.link.specs.declared.coder.CodeAnswer.{CodeAnswer}
 use Rattle.link.specs.Coder.{codeAnswer, codeMemory}
 use Rattle.link.specs.Answers.{codeNumbers}
-use Rattle.export.specs.Answers.{codedOf}
+use Rattle.records.specs.Answers.{codedOf}
 use Rattle.link.specs.Lent.{withRows}
-use Rattle.export.proofs.Lent.{whole-table}
+use Rattle.numbers.proofs.Laws.{table-parts}
 use Rattle.export.proofs.coder.burst_code.Statement.{statement}
 use Rattle.export.proofs.coder.burst_code.Tie as tie
 
@@ -28,7 +28,7 @@ returns : tie.Need-returns
 returns c =
     let a = c .before .before .before .before .before .before .before .before .args in
     let m = c .before .before .before .step .ensures in
-    let whole = ap (λ (t : Table). withRows t (drop 3 (a .table .now))) (c .before .before .before .before .before .before .sizes-of .ensures) ∙ whole-table (a .table .now) in (
+    let whole = ap (λ (t : Table). withRows t (drop 3 (a .table .now))) (c .before .before .before .before .before .before .sizes-of .ensures) ∙ table-parts (a .table .now) in (
       c .coded .ensures ∙ ap (λ (x : CodeAnswer). codedOf (codeNumbers x)) (m .0) ∙ ap (λ (t : Table). codedOf (codeNumbers (codeAnswer t (a .words .now) (a .info)))) whole,
       m .1 ∙ ap (λ (t : Table). codeMemory t (a .words .now) (a .info)) whole,
     )

@@ -6,9 +6,9 @@ use Rattle.tables.specs.declared.table.Table.{Table}
 use Rattle.link.specs.declared.decoder.DecodeAnswer.{DecodeAnswer}
 use Rattle.link.specs.Decoder.{decodeAnswer, decodeMemory}
 use Rattle.link.specs.Answers.{decodeNumbers}
-use Rattle.export.specs.Answers.{decodedOf}
+use Rattle.records.specs.Answers.{decodedOf}
 use Rattle.link.specs.Lent.{withRows}
-use Rattle.export.proofs.Lent.{whole-table}
+use Rattle.numbers.proofs.Laws.{table-parts}
 use Rattle.export.proofs.decoder.burst_decode.Statement.{statement}
 use Rattle.export.proofs.decoder.burst_decode.Tie as tie
 
@@ -28,7 +28,7 @@ returns : tie.Need-returns
 returns c =
     let a = c .before .before .before .before .before .before .before .before .args in
     let m = c .before .before .before .step .ensures in
-    let whole = ap (λ (t : Table). withRows t (drop 3 (a .table .now))) (c .before .before .before .before .before .before .sizes-of .ensures) ∙ whole-table (a .table .now) in (
+    let whole = ap (λ (t : Table). withRows t (drop 3 (a .table .now))) (c .before .before .before .before .before .before .sizes-of .ensures) ∙ table-parts (a .table .now) in (
       c .decoded .ensures ∙ ap (λ (x : DecodeAnswer). decodedOf (decodeNumbers x)) (m .0) ∙ ap (λ (t : Table). decodedOf (decodeNumbers (decodeAnswer t (a .words .now) (a .received)))) whole,
       m .1 ∙ ap (λ (t : Table). decodeMemory t (a .words .now) (a .received)) whole,
     )

@@ -6,7 +6,7 @@ use Rattle.link.specs.declared.start.StartAnswer.{StartAnswer}
 use Rattle.link.specs.Start.{startAnswer, startMemory}
 use Rattle.link.specs.Decoder.{decoderWords}
 use Rattle.link.specs.Answers.{startNumbers}
-use Rattle.export.specs.Answers.{numberOf}
+use Rattle.records.specs.Answers.{numberOf}
 use Rattle.export.proofs.start.burst_start_decoder.Statement.{statement}
 use Rattle.export.proofs.start.burst_start_decoder.Tie as tie
 

@@ -1,0 +1,3 @@
+-- `numbers`: a table as 18 numbers.
+pub mod Table
+pub mod Laws

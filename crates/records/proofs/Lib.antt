@@ -1,0 +1,2 @@
+-- The range of a mark's number.
+mod Answers

@@ -1,0 +1,2 @@
+-- `records`: the struct of numbers of each answer.
+pub mod Answers
