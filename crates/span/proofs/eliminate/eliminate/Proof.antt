@@ -65,6 +65,9 @@ module _ (words : List ℕ) (end f i : ℕ) (pre : (end ≤ length words) × (en
   none-next ne =
       turn-none (take end words) room below i inside b so-far f none (λ l e. ne l (ap (λ (s : Reduced). s .rest) reduced-word ∙ e))
 
+found-some : (c : ℕ) → Found c ≡ Missing → ⊥
+found-some c e = let z : _≡_ {A = ℕ} 0 1 = cc in omega arith
+
 loop-holds : tie.Need-loop-holds Inv-loop μ-loop
 unfolding basisOf extended
 loop-holds c = (omega arith, omega arith, refl, λ d l u e. let p = pow-pos (c .before .args .f) in omega arith)
@@ -91,7 +94,7 @@ returns c =
       found (a .words .now) (a .end) (a .f) (l .loop .i) (l .before .before .pre) (λ j. omega (arith, known .given j)) (omega arith) (l .loop .b)
           (l .loop .inv .2) (l .loop .inv .3) (r .reduce-by .result) (r .reduce-by .ensures) (omega arith) (c .before .before .before .if1 .taken)
           (c .before .one-at .result) (c .before .one-at .ensures),
-      λ e. let z : _≡_ {A = ℕ} 0 1 = cc in absurd (omega arith),
+      λ e. absurd (found-some _ e),
     )
 
 mul-b : tie.Need-mul-b Inv-loop μ-loop
