@@ -7,8 +7,8 @@ use lib.ListN.{length, drop, length-drop}
 use lib.Seq.{take-all}
 use borrow.Rule.Slice.PartMut.{midOf}
 use Rattle.tables.specs.declared.table.Table.{Table}
-use Rattle.link.specs.Lent.{withRows, lent}
-use Rattle.link.proofs.LentRows.{lent-rows}
+use Rattle.tables.specs.Lent.{withRows, lent}
+use Rattle.tables.proofs.Lent.{lent-rows}
 
 pub rows-lent : (t : Table) (numbers : List ℕ) → length numbers ≡ 18 → lent t (midOf 3 (18 - 3) numbers) ≡ withRows t (drop 3 numbers)
 rows-lent t numbers e =

@@ -7,7 +7,7 @@ use records::decoded::decoded;
 use tables::table::Table;
 ghost use mathlib.Core.Path.{_≡_};
 ghost use lib.ListN.{length, drop};
-ghost use Rattle.link.specs.Lent.{withRows};
+ghost use Rattle.tables.specs.Lent.{withRows};
 ghost use Rattle.link.specs.Decoder.{decodeAnswer, decodeMemory};
 ghost use Rattle.link.specs.Answers.{decodeNumbers};
 ghost use Rattle.numbers.specs.Table.{tableOf};

@@ -1,10 +1,10 @@
--- Why the definitions of the link have the properties that 01 asks for; the lowest file first. A layer above sees `Answers` and `LentRows`.
+-- Why the definitions of the link have the properties that 01 asks for; the lowest file first. A layer above sees `Answers`.
 mod Words
 mod Parts
 mod Error
 mod Marks
 mod Faults
-pub mod LentRows
+mod LentRows
 mod Started
 mod Suitable
 mod Origin

@@ -3,7 +3,6 @@
 pub mod Stream
 pub mod Marks
 pub mod Start
-pub mod Lent
 pub mod Coder
 pub mod Decoder
 pub mod Answers

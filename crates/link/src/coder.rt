@@ -1,16 +1,16 @@
 // The coder: one step on lent memory.
 use crate::stream::joining;
-use crate::stream::lent_fits;
 use crate::stream::next_turn;
 use span::bits::mask;
 use tables::table::Table;
+use tables::table::lent_fits;
 ghost use mathlib.Core.Path.{_≡_};
 ghost use mathlib.Core.List.{[], _∷_};
 ghost use Prim.Native.Nat.{_+_, _-_, _/_, _≤_};
 ghost use lib.ListN.{length, getD, set, take};
 ghost use Rattle.span.specs.Word.{odd, digit};
+ghost use Rattle.tables.specs.Lent.{withRows, lent};
 ghost use Rattle.link.specs.Stream.{joining};
-ghost use Rattle.link.specs.Lent.{withRows, lent};
 ghost use Rattle.link.specs.Coder.{coderMalformed, coderFault, codedBlock, coderNext, codeAnswer, codeMemory};
 ghost use Rattle.link.specs.Answers.{codeNumbers, Answered};
 

@@ -1,20 +1,20 @@
 // The decoder: one step on lent memory, in 01's four lines.
 use crate::stream::joining;
-use crate::stream::lent_fits;
 use crate::stream::next_turn;
 use span::bits::mask;
 use span::eliminate::Least;
 use span::eliminate::least_relation;
 use tables::table::Table;
+use tables::table::lent_fits;
 ghost use mathlib.Core.Path.{_≡_};
 ghost use mathlib.Core.Bool.{true, cond, _||_};
 ghost use mathlib.Core.List.{List, [], _∷_, _++_};
 ghost use Prim.Native.Nat.{ℕ, _+_, _-_, _*_, _^_, _≤_, _<_};
 ghost use lib.Dec.{leb, ltb};
 ghost use lib.ListN.{length, getD, set, take, drop};
+ghost use Rattle.tables.specs.Lent.{withRows, lent};
 ghost use Rattle.tables.specs.Table.{codeRows, fit};
 ghost use Rattle.link.specs.Stream.{nextTurn, information, rawTerm, register, found, errorOf, keptOf, markOf, streamNext, streamInfo, streamMark};
-ghost use Rattle.link.specs.Lent.{withRows, lent};
 ghost use Rattle.link.specs.Decoder.{decoderWords, someAbove, decoderMalformed, decoderFault, streamReplaced, decoderNext, delivered, delivery, decodeAnswer, decodeMemory};
 ghost use Rattle.link.specs.Answers.{decodeNumbers, decodeValues, Answered};
 

@@ -1,20 +1,9 @@
-// What coder and decoder do alike in a step: the test of 12, the word that joins, and the turn.
+// What coder and decoder do alike in a step: the word that joins, and the turn.
 use span::combine::combination;
-use tables::table::Table;
-use tables::table::is_fit;
 ghost use mathlib.Core.Path.{_≡_};
 ghost use Prim.Native.Nat.{_≤_, _<_};
 ghost use lib.ListN.{take};
-ghost use Rattle.tables.specs.Table.{fit};
-ghost use Rattle.link.specs.Lent.{lent};
 ghost use Rattle.link.specs.Stream.{joining, nextTurn};
-
-// Whether a table whose rows are lent beside it is fit. Other than fifteen are the rows of no table.
-pub fn lent_fits(t: Table, rows: &[u64]) -> bool
-    ensures { λ r. ⌜ r ≡ fit (lent t (now (rows .entry))) ⌝ }
-{
-    (rows.len() == 15) & is_fit(t.symbols, t.span, t.depth, rows)
-}
 
 // The word w of a step: the pending word and the rows of the ones in the information, each row fetched once.
 pub fn joining(rows: &[u64], count: usize, pending: u64, info: u64) -> u64

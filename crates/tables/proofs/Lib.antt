@@ -1,4 +1,4 @@
--- `Bounds` and `Laws` are what a layer above sees; the other files are the crate's own, the lowest first.
+-- `Bounds`, `Laws` and `Lent` are what a layer above sees; the other files are the crate's own, the lowest first.
 mod Fit
 mod Clash
 mod Format
@@ -14,3 +14,4 @@ mod Made
 mod Examples
 pub mod Bounds
 pub mod Laws
+pub mod Lent

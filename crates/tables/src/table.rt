@@ -5,6 +5,7 @@ ghost use mathlib.Core.Path.{_≡_};
 ghost use Prim.Native.Nat.{_≤_};
 ghost use lib.ListN.{take};
 ghost use Rattle.tables.specs.Table.{table, zeroTable, sizesFit, rowsFit, fit};
+ghost use Rattle.tables.specs.Lent.{lent};
 
 pub struct Table {
     pub symbols: usize,
@@ -56,4 +57,11 @@ pub fn is_fit(symbols: usize, span: usize, depth: usize, rows: &[u64]) -> bool
         return rows_fit(rows, symbols - 1, span);
     }
     false
+}
+
+// Whether a table whose rows are lent beside it is fit. Other than fifteen are the rows of no table.
+pub fn lent_fits(t: Table, rows: &[u64]) -> bool
+    ensures { λ r. ⌜ r ≡ fit (lent t (now (rows .entry))) ⌝ }
+{
+    (rows.len() == 15) & is_fit(t.symbols, t.span, t.depth, rows)
 }

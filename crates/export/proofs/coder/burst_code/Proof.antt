@@ -7,7 +7,7 @@ use Rattle.link.specs.declared.coder.CodeAnswer.{CodeAnswer}
 use Rattle.link.specs.Coder.{codeAnswer, codeMemory}
 use Rattle.link.specs.Answers.{codeNumbers}
 use Rattle.records.specs.Answers.{codedOf}
-use Rattle.link.specs.Lent.{withRows}
+use Rattle.tables.specs.Lent.{withRows}
 use Rattle.numbers.proofs.Laws.{table-parts}
 use Rattle.export.proofs.coder.burst_code.Statement.{statement}
 use Rattle.export.proofs.coder.burst_code.Tie as tie

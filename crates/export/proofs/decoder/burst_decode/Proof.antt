@@ -7,7 +7,7 @@ use Rattle.link.specs.declared.decoder.DecodeAnswer.{DecodeAnswer}
 use Rattle.link.specs.Decoder.{decodeAnswer, decodeMemory}
 use Rattle.link.specs.Answers.{decodeNumbers}
 use Rattle.records.specs.Answers.{decodedOf}
-use Rattle.link.specs.Lent.{withRows}
+use Rattle.tables.specs.Lent.{withRows}
 use Rattle.numbers.proofs.Laws.{table-parts}
 use Rattle.export.proofs.decoder.burst_decode.Statement.{statement}
 use Rattle.export.proofs.decoder.burst_decode.Tie as tie

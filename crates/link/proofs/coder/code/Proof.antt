@@ -2,7 +2,7 @@
 use mathlib.Core.Path.{_≡_}
 use borrow.Author.Needs.{needs}
 use lib.ListN.{length}
-use Rattle.link.proofs.LentRows.{lent-rows}
+use Rattle.tables.proofs.Lent.{lent-rows}
 use Rattle.link.proofs.coder.code.Statement.{statement}
 use Rattle.link.proofs.coder.code.Tie as tie
 

@@ -4,7 +4,7 @@ use native.Mathlib.Omega.{arith}
 use borrow.Author.Needs.{needs}
 use lib.ListN.{length}
 use Rattle.tables.specs.declared.table.Table.{Table}
-use Rattle.link.specs.Lent.{withRows, lent}
+use Rattle.tables.specs.Lent.{withRows, lent}
 use Rattle.link.specs.Coder.{coderFault, codeAnswer, codeMemory}
 use Rattle.link.specs.declared.coder.CodeAnswer.the-variants.{Coded, Refused}
 use Rattle.link.proofs.Faults.{code-refuses, codes}

@@ -13,8 +13,8 @@ use Rattle.tables.proofs.Bounds.{fit-facts}
 use Rattle.link.specs.Coder.{coderWords, coderMalformed, coderFault}
 use Rattle.link.proofs.Faults.{coder-fault}
 use Rattle.link.proofs.Words.{above-mask}
-use Rattle.link.specs.Lent.{withRows, lent}
-use Rattle.link.proofs.LentRows.{fit-lent}
+use Rattle.tables.specs.Lent.{withRows, lent}
+use Rattle.tables.proofs.Lent.{fit-lent}
 use Rattle.link.proofs.coder.fault.Statement.{statement}
 use Rattle.link.proofs.coder.fault.Tie as tie
 

@@ -13,7 +13,7 @@ use Rattle.link.specs.Coder.{infoRows, turnOf, coderJoining, codedBlock,
 use Rattle.link.proofs.Words.{bit-shifted}
 use Rattle.link.proofs.Parts.{mid-word, put-word}
 use Rattle.link.proofs.Memory.{CoderTaken, coder-taken, coded-fits}
-use Rattle.link.specs.Lent.{withRows}
+use Rattle.tables.specs.Lent.{withRows}
 use Rattle.link.proofs.coder.taken.Statement.{statement}
 use Rattle.link.proofs.coder.taken.Tie as tie
 

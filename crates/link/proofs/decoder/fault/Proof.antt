@@ -14,8 +14,8 @@ use Rattle.link.specs.Decoder.{decoderWords, decoderMalformed, decoderFa
 use Rattle.link.proofs.Words.{above-mask}
 use Rattle.link.proofs.Faults.{decoder-fault}
 use Rattle.link.proofs.Room.{fit-room}
-use Rattle.link.specs.Lent.{withRows, lent}
-use Rattle.link.proofs.LentRows.{fit-lent}
+use Rattle.tables.specs.Lent.{withRows, lent}
+use Rattle.tables.proofs.Lent.{fit-lent}
 use Rattle.link.proofs.decoder.fault.Statement.{statement}
 use Rattle.link.proofs.decoder.fault.Tie as tie
 

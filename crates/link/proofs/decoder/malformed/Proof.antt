@@ -11,7 +11,7 @@ use Rattle.tables.proofs.Bounds.{fit-facts}
 use Rattle.link.specs.Coder.{turnOf}
 use Rattle.link.specs.Decoder.{fillOf, delayOf, pendingOf, syndromeOf, delayedOut}
 use Rattle.link.proofs.Room.{fit-room, turn-room}
-use Rattle.link.specs.Lent.{withRows}
+use Rattle.tables.specs.Lent.{withRows}
 use Rattle.link.proofs.decoder.malformed.Statement.{statement}
 use Rattle.link.proofs.decoder.malformed.Tie as tie
 

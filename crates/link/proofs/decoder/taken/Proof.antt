@@ -16,7 +16,7 @@ use Rattle.link.specs.Coder.{turnOf}
 use Rattle.link.specs.Decoder.{fillOf, delayOf, streamReplaced, decoderNext, delivered, delivery}
 use Rattle.link.proofs.Memory.{decoder-taken, replaced-front}
 use Rattle.link.proofs.Room.{fit-room, turn-room}
-use Rattle.link.specs.Lent.{withRows}
+use Rattle.tables.specs.Lent.{withRows}
 use Rattle.link.proofs.decoder.taken.Statement.{statement}
 use Rattle.link.proofs.decoder.taken.Tie as tie
 

@@ -1,12 +1,12 @@
--- `link::stream::lent_fits`: fifteen rows, and those fit. Assumes nothing.
+-- `tables::table::lent_fits`: fifteen rows, and those fit. Assumes nothing.
 use mathlib.Core.Path.{sym, ap, _∙_}
 use mathlib.Core.Bool.{Bool, _&&_}
 use lib.Dec.{eqb}
 use lib.ListN.{length}
 use borrow.Author.Needs.{needs}
-use Rattle.link.proofs.LentRows.{lent-fit}
-use Rattle.link.proofs.stream.lent_fits.Statement.{statement}
-use Rattle.link.proofs.stream.lent_fits.Tie as tie
+use Rattle.tables.proofs.Lent.{lent-fit}
+use Rattle.tables.proofs.table.lent_fits.Statement.{statement}
+use Rattle.tables.proofs.table.lent_fits.Tie as tie
 
 is-fit-requires : tie.Need-is-fit-requires
 is-fit-requires c κs = search needs
