@@ -14,8 +14,8 @@ test:
 
 staticlib: $(ARCHIVE)
 
-# `rt staticlib` proves anew each time: not while nothing below crates/ has changed.
-$(ARCHIVE): crates.txt $(shell find crates)
+# `rt staticlib` proves anew each time, so it is called only if crates.txt, something below crates/ or `rt` is newer than the archive.
+$(ARCHIVE): crates.txt $(shell find crates; command -v rt)
 	@rt staticlib export
 
 bench: staticlib

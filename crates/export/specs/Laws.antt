@@ -3,8 +3,9 @@
 --   READ-TOLD     reading: number 0 says that the bytes say a suitable table, which is given back; any other, that no number was written, and the
 --                 place, or the triple, is the refusal's
 --   MADE-TOLD     making: number 0 says that n and m are in range, and our suitable table is given back; any other is 11, and no number was written
---   Told f fault values next before ns after   f of the numbers ns of an answer, and the memory, after a call that has this fault
---   START-TOLD, CODE-TOLD, DECODE-TOLD   a start or a step: refused, the struct has its number and zeros, and no word is written
+--   Told f fault values next before ns after   what f makes of an answer's numbers ns, and the memory after the call: of a fault, its number and
+--                 zeros, and the memory `before`; of none, 0 and the values, and the memory `next`
+--   START-TOLD, CODE-TOLD, DECODE-TOLD   that of a start, a coder's step and a decoder's step
 use mathlib.Core.Path.{_≡_}
 use mathlib.Core.Bool.{cond}
 use mathlib.Core.Logic.{_≢_}
@@ -26,7 +27,7 @@ use Rattle.records.specs.declared.reading.BurstReading.{BurstReading}
 use Rattle.records.specs.Answers.{numberOf, readingOf, codedOf, decodedOf}
 use Rattle.export.specs.Reading.{Reads}
 
--- `Whole`: the table is fit, and its rows past n − 1 are 0
+-- of any bytes, which are numbers below 256; `Whole`: the table is fit, and its rows past n − 1 are 0
 abbrev pub READ-TOLD : Type 0
 READ-TOLD =
     (bytes : List ℕ) (r : BurstReading) (before after : List ℕ) → ((i : ℕ) → getD bytes i 0 < 256) → Reads bytes r before after

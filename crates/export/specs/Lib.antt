@@ -1,3 +1,3 @@
--- `export`: what a call of C tells and leaves.
+-- `export`: what a call from C tells and leaves.
 pub mod Reading
 pub mod Laws

@@ -1,6 +1,6 @@
 // Making a table.
 use numbers::table::give_back;
-use records::making::number;
+use records::making::made;
 use tables::make::make;
 ghost use mathlib.Core.Path.{_≡_};
 ghost use Rattle.tables.specs.Made.{making, madeNumbers};
@@ -12,10 +12,10 @@ pub extern "C" fn burst_make(n: u64, m: u64, table: &mut [u64; 18]) -> u64
     ensures answer { λ r. ⌜ r ≡ numberOf (madeNumbers (making n m .answer)) ⌝ }
     ensures table { λ r. ⌜ now (table .exit) ≡ givenBack (numberOf (madeNumbers (making n m .answer))) (making n m .table) (now (table .entry)) ⌝ }
 {
-    let made = make(n as usize, m as usize);
-    let t = made.table;
-    let answer = made.answer;
-    let refused = number(answer);
+    let r = make(n as usize, m as usize);
+    let t = r.table;
+    let answer = r.answer;
+    let refused = made(answer);
     give_back(refused, t, table);
     refused
 }

@@ -2,7 +2,7 @@
 use link::start::start_coder;
 use link::start::start_decoder;
 use numbers::table::table_of;
-use records::starting::number;
+use records::starting::started;
 ghost use mathlib.Core.Path.{_≡_};
 ghost use Rattle.link.specs.Start.{startAnswer, startMemory};
 ghost use Rattle.link.specs.Coder.{coderWords};
@@ -16,7 +16,7 @@ pub extern "C" fn burst_start_coder(table: &[u64; 18], words: &mut [u64]) -> u64
     ensures answer { λ r. ⌜ r ≡ numberOf (startNumbers (startAnswer (tableOf (now (table .entry))) (coderWords (tableOf (now (table .entry)))) (now (words .entry)))) ⌝ }
     ensures memory { λ r. ⌜ now (words .exit) ≡ startMemory (tableOf (now (table .entry))) (coderWords (tableOf (now (table .entry)))) (now (words .entry)) ⌝ }
 {
-    number(start_coder(table_of(table), words))
+    started(start_coder(table_of(table), words))
 }
 
 #[no_mangle]
@@ -24,5 +24,5 @@ pub extern "C" fn burst_start_decoder(table: &[u64; 18], words: &mut [u64]) -> u
     ensures answer { λ r. ⌜ r ≡ numberOf (startNumbers (startAnswer (tableOf (now (table .entry))) (decoderWords (tableOf (now (table .entry)))) (now (words .entry)))) ⌝ }
     ensures memory { λ r. ⌜ now (words .exit) ≡ startMemory (tableOf (now (table .entry))) (decoderWords (tableOf (now (table .entry)))) (now (words .entry)) ⌝ }
 {
-    number(start_decoder(table_of(table), words))
+    started(start_decoder(table_of(table), words))
 }

@@ -17,7 +17,7 @@ mod Runs
 mod Calls
 mod Memory
 mod Room
-mod Lent
+mod LentPart
 pub mod Answers
 mod Streams
 mod Turn

@@ -1,4 +1,4 @@
--- `link`: coder and decoder on lent memory, rows that are lent, runs of their steps, recovery after a fade, well-formed memories, the guard, the clean
+-- `link`: coder and decoder on lent memory, runs of their steps, recovery after a fade, well-formed memories, the guard, the clean
 -- start, Massey's code, runs that are computed, and the examples.
 pub mod Stream
 pub mod Marks

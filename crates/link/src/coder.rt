@@ -6,7 +6,7 @@ use tables::table::Table;
 use tables::table::lent_fits;
 ghost use mathlib.Core.Path.{_≡_};
 ghost use mathlib.Core.List.{[], _∷_};
-ghost use Prim.Native.Nat.{_+_, _-_, _/_, _≤_};
+ghost use Prim.Native.Nat.{_+_, _/_, _≤_};
 ghost use lib.ListN.{length, getD, set, take};
 ghost use Rattle.span.specs.Word.{odd, digit};
 ghost use Rattle.tables.specs.Lent.{withRows, lent};
@@ -79,7 +79,7 @@ fn taken(t: Table, rows: &[u64], state: &mut [u64], info: u64) -> u64
     info + (parity << (width as u64))
 }
 
-// A step on a table whose rows are lent beside it, so that a caller need not copy them into one. Other than fifteen are those of no table.
+// A step on a table whose rows are lent beside it, so that a caller need not copy them into one. With another count than fifteen, 12 applies.
 pub fn code_lent(t: Table, rows: &[u64], state: &mut [u64], info: u16) -> CodeAnswer
     ensures answer { λ r. ⌜ r ≡ codeAnswer (lent t (now (rows .entry))) (now (state .entry)) info ⌝ }
     ensures memory { λ r. ⌜ now (state .exit) ≡ codeMemory (lent t (now (rows .entry))) (now (state .entry)) info ⌝ }

@@ -9,7 +9,7 @@ use tables::table::lent_fits;
 ghost use mathlib.Core.Path.{_≡_};
 ghost use mathlib.Core.Bool.{true, cond, _||_};
 ghost use mathlib.Core.List.{List, [], _∷_, _++_};
-ghost use Prim.Native.Nat.{ℕ, _+_, _-_, _*_, _^_, _≤_, _<_};
+ghost use Prim.Native.Nat.{ℕ, _+_, _-_, _^_, _≤_, _<_};
 ghost use lib.Dec.{leb, ltb};
 ghost use lib.ListN.{length, getD, set, take, drop};
 ghost use Rattle.tables.specs.Lent.{withRows, lent};
@@ -274,7 +274,7 @@ fn taken(t: Table, rows: &[u64], state: &mut [u64], received: u64) -> DecodeAnsw
     }
 }
 
-// A step on a table whose rows are lent beside it, so that a caller need not copy them into one. Other than fifteen are those of no table.
+// A step on a table whose rows are lent beside it, so that a caller need not copy them into one. With another count than fifteen, 12 applies.
 pub fn decode_lent(t: Table, rows: &[u64], state: &mut [u64], received: u16) -> DecodeAnswer
     ensures answer { λ r. ⌜ r ≡ decodeAnswer (lent t (now (rows .entry))) (now (state .entry)) received ⌝ }
     ensures memory { λ r. ⌜ now (state .exit) ≡ decodeMemory (lent t (now (rows .entry))) (now (state .entry)) received ⌝ }

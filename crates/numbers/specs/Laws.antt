@@ -9,17 +9,14 @@ use mathlib.Core.List.{List}
 use Prim.Native.Nat.{ℕ}
 use lib.ListN.{drop}
 use Rattle.tables.specs.declared.table.Table.{Table}
-use Rattle.tables.specs.Table.{table}
+use Rattle.tables.specs.Lent.{withRows}
 use Rattle.numbers.specs.Table.{tableOf, sizesOf, numbersOf, givenBack}
 
 abbrev pub TABLE-BACK : Type 0
 TABLE-BACK = (t : Table) → tableOf (numbersOf t) ≡ t
 
 abbrev pub TABLE-PARTS : Type 0
-TABLE-PARTS =
-    (ns : List ℕ)
-    → let t = sizesOf ns in
-    table (t .symbols) (t .span) (t .depth) (drop 3 ns) ≡ tableOf ns
+TABLE-PARTS = (ns : List ℕ) → withRows (sizesOf ns) (drop 3 ns) ≡ tableOf ns
 
 abbrev pub GIVEN-BACK : Type 0
 GIVEN-BACK =

@@ -4,7 +4,7 @@ ghost use mathlib.Core.Path.{_≡_};
 ghost use Rattle.tables.specs.Made.{madeNumbers};
 ghost use Rattle.records.specs.Answers.{numberOf};
 
-pub fn number(answer: MakeAnswer) -> u64
+pub fn made(answer: MakeAnswer) -> u64
     ensures { λ r. ⌜ r ≡ numberOf (madeNumbers answer) ⌝ }
 {
     match answer {

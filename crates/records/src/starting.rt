@@ -4,7 +4,7 @@ ghost use mathlib.Core.Path.{_≡_};
 ghost use Rattle.link.specs.Answers.{startNumbers};
 ghost use Rattle.records.specs.Answers.{numberOf};
 
-pub fn number(answer: StartAnswer) -> u64
+pub fn started(answer: StartAnswer) -> u64
     ensures { λ r. ⌜ r ≡ numberOf (startNumbers answer) ⌝ }
 {
     match answer {

@@ -1,4 +1,4 @@
--- `tables`: what a table of the code is, when it is suitable, the bytes that say one, and the tables that we make.
+-- `tables`: what a table of the code is, also with its rows lent beside it, when it is suitable, the bytes that say one, and the tables that we make.
 pub mod Code
 pub mod Table
 pub mod Lent

@@ -49,7 +49,7 @@ fn rows_fit(rows: &[u64], count: usize, span: usize) -> bool
 }
 
 // Whether the table of these sizes and rows is fit: the condition of refusal 12 does not hold. The rows are lent, since
-// every step asks this; of fewer than n − 1, those that are there are looked at.
+// each step asks it; of fewer than n − 1, those that are there are looked at.
 pub fn is_fit(symbols: usize, span: usize, depth: usize, rows: &[u64]) -> bool
     ensures { λ r. ⌜ r ≡ fit (table symbols span depth (now (rows .entry))) ⌝ }
 {
@@ -59,7 +59,7 @@ pub fn is_fit(symbols: usize, span: usize, depth: usize, rows: &[u64]) -> bool
     false
 }
 
-// Whether a table whose rows are lent beside it is fit. Other than fifteen are the rows of no table.
+// Whether a table whose rows are lent beside it is fit. With another count than fifteen it is not.
 pub fn lent_fits(t: Table, rows: &[u64]) -> bool
     ensures { λ r. ⌜ r ≡ fit (lent t (now (rows .entry))) ⌝ }
 {

@@ -12,8 +12,8 @@ use Rattle.export.proofs.make.burst_make.Tie as tie
 make-requires : tie.Need-make-requires
 make-requires c κs = search needs
 
-number-requires : tie.Need-number-requires
-number-requires c κs = search needs
+made-requires : tie.Need-made-requires
+made-requires c κs = search needs
 
 give-back-requires : tie.Need-give-back-requires
 give-back-requires c κs = search needs
@@ -22,11 +22,11 @@ returns : tie.Need-returns
 returns c =
     let a = c .before .before .before .before .before .args in
     let m = c .before .before .before .before .make in
-    let k = c .before .before .number in
+    let k = c .before .before .made in
     let told = k .ensures ∙ ap (λ (x : Making). numberOf (madeNumbers (x .answer))) (m .ensures) in (
       told,
       c .give-back .ensures ∙ ap₂ (λ (x : ℕ) (y : Making). givenBack x (y .table) (a .table .now)) told (m .ensures),
     )
 
 pub burst-make-spec : {M : Type 1} → statement M
-burst-make-spec = tie.close (tie.spec make-requires number-requires give-back-requires returns)
+burst-make-spec = tie.close (tie.spec make-requires made-requires give-back-requires returns)

@@ -16,8 +16,8 @@ table-of-requires c κs = search needs
 start-coder-requires : tie.Need-start-coder-requires
 start-coder-requires c κs = search needs
 
-number-requires : tie.Need-number-requires
-number-requires c κs = search needs
+started-requires : tie.Need-started-requires
+started-requires c κs = search needs
 
 same-length : tie.Need-same-length
 same-length c = search needs
@@ -27,10 +27,10 @@ returns c =
     let m = c .before .before .before in
     let of = m .before .before in
     let s = of .before .before .args .words .now in (
-      c .number .ensures ∙ ap (λ (x : StartAnswer). numberOf (startNumbers x)) (m .start-coder .ensures .0)
+      c .started .ensures ∙ ap (λ (x : StartAnswer). numberOf (startNumbers x)) (m .start-coder .ensures .0)
           ∙ ap (λ (t : Table). numberOf (startNumbers (startAnswer t (coderWords t) s))) (of .table-of .ensures),
       m .start-coder .ensures .1 .0 ∙ ap (λ (t : Table). startMemory t (coderWords t) s) (of .table-of .ensures),
     )
 
 pub burst-start-coder-spec : {M : Type 1} → statement M
-burst-start-coder-spec = tie.close (tie.spec table-of-requires start-coder-requires number-requires same-length returns)
+burst-start-coder-spec = tie.close (tie.spec table-of-requires start-coder-requires started-requires same-length returns)

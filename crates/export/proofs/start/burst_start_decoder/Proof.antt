@@ -16,8 +16,8 @@ table-of-requires c κs = search needs
 start-decoder-requires : tie.Need-start-decoder-requires
 start-decoder-requires c κs = search needs
 
-number-requires : tie.Need-number-requires
-number-requires c κs = search needs
+started-requires : tie.Need-started-requires
+started-requires c κs = search needs
 
 same-length : tie.Need-same-length
 same-length c = search needs
@@ -27,10 +27,10 @@ returns c =
     let m = c .before .before .before in
     let of = m .before .before in
     let s = of .before .before .args .words .now in (
-      c .number .ensures ∙ ap (λ (x : StartAnswer). numberOf (startNumbers x)) (m .start-decoder .ensures .0)
+      c .started .ensures ∙ ap (λ (x : StartAnswer). numberOf (startNumbers x)) (m .start-decoder .ensures .0)
           ∙ ap (λ (t : Table). numberOf (startNumbers (startAnswer t (decoderWords t) s))) (of .table-of .ensures),
       m .start-decoder .ensures .1 .0 ∙ ap (λ (t : Table). startMemory t (decoderWords t) s) (of .table-of .ensures),
     )
 
 pub burst-start-decoder-spec : {M : Type 1} → statement M
-burst-start-decoder-spec = tie.close (tie.spec table-of-requires start-decoder-requires number-requires same-length returns)
+burst-start-decoder-spec = tie.close (tie.spec table-of-requires start-decoder-requires started-requires same-length returns)

@@ -12,7 +12,7 @@ use Rattle.link.specs.Coder.{turnOf}
 use Rattle.link.specs.Decoder.{streamAt, delivered}
 use Rattle.link.proofs.Memory.{decoder-taken}
 use Rattle.link.proofs.Room.{fit-room, turn-room, oldest-lt}
-use Rattle.link.proofs.Lent.{syndrome-is, oldest-is, lent-info, lent-mark, lent-memory}
+use Rattle.link.proofs.LentPart.{syndrome-is, oldest-is, lent-info, lent-mark, lent-memory}
 use Rattle.tables.specs.Lent.{withRows}
 use Rattle.link.proofs.decoder.decode_stream.Statement.{statement}
 use Rattle.link.proofs.decoder.decode_stream.Tie as tie
