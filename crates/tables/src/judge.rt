@@ -68,9 +68,9 @@ fn search(rows: &[u64], n: usize, span: usize) -> Judgement
 pub fn judge(t: Table) -> Judgement
     ensures { λ r. ⌜ Judged t r ⌝ }
 {
-    if is_fit(t.symbols, t.span, t.depth, &t.rows) {
-        search(&t.rows, t.symbols, t.span)
-    } else {
-        Judgement::Unfit
+    let rows: &[u64] = &t.rows;
+    if is_fit(t.symbols, t.span, t.depth, rows) {
+        return search(rows, t.symbols, t.span);
     }
+    Judgement::Unfit
 }

@@ -22,13 +22,13 @@ searched t Sound f h = (f, h)
 
 search-requires : tie.Need-search-requires
 search-requires c κs =
-    let t = c .before .before .before .before .before .before .before .before .args .t1 in
-    let z = fit-sizes t (sym (c .before .before .before .before .is-fit .ensures) ∙ c .before .before .before .if1 .taken) in
+    let t = c .before .before .before .before .before .args .t1 in
+    let z = fit-sizes t (sym (c .before .is-fit .ensures) ∙ c .if1 .taken) in
     (omega arith, omega arith, omega arith, omega arith)
 
 returns : tie.Need-returns
 returns c =
-    searched (c .before .before .before .before .before .before .before .before .before .args .t1) (c .search .result) (sym (c .before .before .before .before .before .is-fit .ensures) ∙ c .before .before .before .before .if1 .taken) (c .search .ensures)
+    searched (c .before .before .before .before .before .before .args .t1) (c .search .result) (sym (c .before .before .is-fit .ensures) ∙ c .before .if1 .taken) (c .search .ensures)
 
 returns-2 : tie.Need-returns-2
 returns-2 c = (sym (c .before .is-fit .ensures) ∙ c .if1 .left, refl)
