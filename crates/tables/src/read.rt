@@ -12,7 +12,7 @@ ghost use Prim.Native.Nat.{_+_, _-_, _^_, _≤_, _<_};
 ghost use lib.Dec.{leb, ltb, eqb};
 ghost use lib.ListN.{length, getD, drop};
 ghost use Rattle.tables.specs.Table.{sizesFit};
-ghost use Rattle.tables.specs.Format.{kind, size, rowWord, allGiven, taken, fault, place, sized, rowed, after, refused, parse};
+ghost use Rattle.tables.specs.Format.{kind, size, rowWord, allGiven, taken, fault, place, after, refused, parse};
 ghost use Rattle.tables.specs.Reading.{outcome, Read};
 
 pub enum ReadAnswer {
@@ -169,39 +169,24 @@ fn fault(bytes: &[u8], at: usize, g: Progress) -> u64
     }
 }
 
-fn sized(bytes: &[u8], at: usize, g: Progress) -> Progress
-    requires { ⌜ at ≤ length (now bytes) ⌝ }
-    ensures { λ r. ⌜ r ≡ sized g (drop at (now (bytes .entry))) ⌝ }
-{
-    let mut t = g.table;
-    t.symbols = byte(bytes, at, 1);
-    t.span = byte(bytes, at, 2);
-    t.depth = byte(bytes, at, 3);
-    let given = g.given;
-    Progress { table: t, given }
-}
-
-fn rowed(bytes: &[u8], at: usize, g: Progress) -> Progress
-    requires { ⌜ (at ≤ length (now bytes)) × (1 ≤ getD (drop at (now bytes)) 1 0) × (getD (drop at (now bytes)) 1 0 ≤ 15) ⌝ }
-    ensures { λ r. ⌜ r ≡ rowed g (drop at (now (bytes .entry))) ⌝ }
-{
-    let i = byte(bytes, at, 1) - 1;
-    let mut t = g.table;
-    t.rows[i] = row_word(bytes, at);
-    let mut given = g.given;
-    given[i] = true;
-    Progress { table: t, given }
-}
-
 // The progress after a sound record that is not the end.
 fn after(bytes: &[u8], at: usize, g: Progress) -> Progress
     requires { ⌜ (at ≤ length (now bytes)) × (g .table .symbols ≤ 16) × (fault g (drop at (now bytes)) ≡ 0) × (kind (drop at (now bytes)) ≢ 0) ⌝ }
     ensures { λ r. ⌜ r ≡ after g (drop at (now (bytes .entry))) ⌝ }
 {
+    let j = byte(bytes, at, 1);
+    let mut t = g.table;
+    let mut given = g.given;
     if byte(bytes, at, 0) == 1 {
-        return sized(bytes, at, g);
+        t.symbols = j;
+        t.span = byte(bytes, at, 2);
+        t.depth = byte(bytes, at, 3);
+    } else {
+        let i = j - 1;
+        t.rows[i] = row_word(bytes, at);
+        given[i] = true;
     }
-    rowed(bytes, at, g)
+    Progress { table: t, given }
 }
 
 // A refusal of the record at `at`.
