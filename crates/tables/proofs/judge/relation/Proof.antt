@@ -1,4 +1,4 @@
--- `tables::judge::clash_words`: after i turns the first i rows stand shifted from the front, and as they are from n on. Assumes nothing.
+-- `tables::judge::relation`: after i turns the first i rows stand shifted from the front, and as they are from n on. Assumes nothing.
 use mathlib.Core.Path.{_≡_, sym, ap, _∙_, subst}
 use mathlib.Core.Logic.{_≢_}
 use mathlib.Core.List.{List, _++_, map}
@@ -11,9 +11,10 @@ use lib.Seq.{ext-getD, getD-take, getD-append-add, getD-set-same, getD-set-other
 use Rattle.span.specs.Word.{shifted}
 use Rattle.span.proofs.Laws.{shifted-zero}
 use Rattle.tables.specs.Table.{codeRows}
+use Rattle.tables.proofs.Clash.{clash-counted}
 use Rattle.tables.proofs.Fit.{code-length}
-use Rattle.tables.proofs.judge.clash_words.Statement.{statement}
-use Rattle.tables.proofs.judge.clash_words.Tie as tie
+use Rattle.tables.proofs.judge.relation.Statement.{statement}
+use Rattle.tables.proofs.judge.relation.Tie as tie
 
 abbrev Filled : ℕ → ℕ → ℕ → List ℕ → ℕ → List ℕ → Type 0
 Filled n N l rows i words =
@@ -118,17 +119,29 @@ loop-again c =
           (omega arith) (omega arith) (c .shift .ensures ∙ ap (λ (N : ℕ). shifted N (a .l) (r .code-row .result)) span) (r .code-row .ensures) (l .loop .inv .2),
     )
 
+slice-aggregate-least-relation : tie.Need-slice-aggregate-least-relation Inv-loop μ-loop
+slice-aggregate-least-relation c = search needs
+
+add-least-relation : tie.Need-add-least-relation Inv-loop μ-loop
+add-least-relation c = search needs
+
+least-relation-requires : tie.Need-least-relation-requires Inv-loop μ-loop
+least-relation-requires c κs = search needs
+
 returns : tie.Need-returns Inv-loop μ-loop
 returns c =
-    let l = c .before in
+    let l = c .before .before .before in
     let a = l .before .before .args in
     let R = codeRows (a .n) (a .rows .now) in
     let size : length R ≡ a .n = code-length (a .n) (a .rows .now) (omega arith) (omega arith) in
+    let laid =
     halves (a .n) (l .loop .words) (map (shifted (a .span) (a .l)) R) R (length-map R (shifted (a .span) (a .l)) ∙ size) size (omega arith)
     (λ k h. let f = l .loop .inv .2 k (omega arith) in (f .0 ∙ sym (map-at (a .span) (a .l) R k), f .1))
+    in
+    c .least-relation .ensures ∙ clash-counted (a .span) R (a .l) (a .n) (l .loop .words) laid size (omega arith)
 
-pub clash-words-spec : {M : Type 1} → statement M
-clash-words-spec =
+pub relation-spec : {M : Type 1} → statement M
+relation-spec =
     tie.close
     (tie.spec
     Inv-loop
@@ -144,4 +157,7 @@ clash-words-spec =
     add-i
     loop-less
     loop-again
+    slice-aggregate-least-relation
+    add-least-relation
+    least-relation-requires
     returns)
