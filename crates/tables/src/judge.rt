@@ -68,9 +68,12 @@ fn search(rows: &[u64], n: usize, span: usize) -> Judgement
 pub fn judge(t: Table) -> Judgement
     ensures { λ r. ⌜ Judged t r ⌝ }
 {
+    let n = t.symbols;
+    let span = t.span;
+    let depth = t.depth;
     let rows: &[u64] = &t.rows;
-    if is_fit(t.symbols, t.span, t.depth, rows) {
-        return search(rows, t.symbols, t.span);
+    if is_fit(n, span, depth, rows) {
+        return search(rows, n, span);
     }
     Judgement::Unfit
 }
