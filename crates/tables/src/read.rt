@@ -8,11 +8,12 @@ use span::bits::mask;
 ghost use mathlib.Core.Path.{_≡_};
 ghost use mathlib.Core.Logic.{_≢_};
 ghost use mathlib.Core.Bool.{cond, not};
-ghost use Prim.Native.Nat.{_+_, _-_, _^_, _≤_, _<_};
+ghost use mathlib.Core.List.{List};
+ghost use Prim.Native.Nat.{ℕ, _+_, _-_, _^_, _≤_, _<_};
 ghost use lib.Dec.{leb, ltb, eqb};
 ghost use lib.ListN.{length, getD, drop};
 ghost use Rattle.tables.specs.Table.{sizesFit};
-ghost use Rattle.tables.specs.Format.{kind, size, rowWord, allGiven, taken, fault, place, after, refused, parse};
+ghost use Rattle.tables.specs.Format.{kind, size, rowWord, allGiven, taken, fault, place, after, refused, parsed, parse};
 ghost use Rattle.tables.specs.Reading.{outcome, Read};
 
 pub enum ReadAnswer {
@@ -202,9 +203,26 @@ fn refusal(number: u64, at: usize) -> Reading
     }
 }
 
-// The records left to right: what the bytes say, before the table is judged.
-fn parse(bytes: &[u8]) -> Reading
-    ensures { λ r. ⌜ r ≡ outcome (parse (now (bytes .entry))) ⌝ }
+// The reading of a table that was parsed.
+fn judged(t: Table) -> Reading
+    ensures { λ r. ⌜ ((bytes : List ℕ) → parse bytes ≡ parsed t → Read bytes r) ⌝ }
+{
+    let judgement = judge(t);
+    if let Judgement::Clash(l, e0, e1) = judgement {
+        return Reading {
+            answer: ReadAnswer::Unsuitable(l, e0, e1),
+            table: zero_table(),
+        };
+    }
+    Reading {
+        answer: ReadAnswer::Accepted,
+        table: t,
+    }
+}
+
+// The records left to right, and then the judgement.
+pub fn read(bytes: &[u8]) -> Reading
+    ensures { λ r. ⌜ Read (now (bytes .entry)) r ⌝ }
 {
     let mut g = Progress {
         table: zero_table(),
@@ -220,28 +238,5 @@ fn parse(bytes: &[u8]) -> Reading
     if number != 0 {
         return refusal(number, at);
     }
-    let table = g.table;
-    Reading {
-        answer: ReadAnswer::Accepted,
-        table,
-    }
-}
-
-// The parse, and then the judgement.
-pub fn read(bytes: &[u8]) -> Reading
-    ensures { λ r. ⌜ Read (now (bytes .entry)) r ⌝ }
-{
-    let r = parse(bytes);
-    let answer = r.answer;
-    if let ReadAnswer::Accepted = answer {
-        let t = r.table;
-        let judgement = judge(t);
-        if let Judgement::Clash(l, e0, e1) = judgement {
-            return Reading {
-                answer: ReadAnswer::Unsuitable(l, e0, e1),
-                table: zero_table(),
-            };
-        }
-    }
-    r
+    judged(g.table)
 }
