@@ -68,12 +68,11 @@ fn search(rows: &[u64], n: usize, span: usize) -> Judgement
 pub fn judge(t: Table) -> Judgement
     ensures { λ r. ⌜ Judged t r ⌝ }
 {
-    let n = t.symbols;
-    let span = t.span;
-    let depth = t.depth;
-    let rows: &[u64] = &t.rows;
-    if is_fit(n, span, depth, rows) {
-        return search(rows, n, span);
+    // The rows alone are lent: less is copied than of a lent table.
+    let copied = t.rows;
+    let rows: &[u64] = &copied;
+    if is_fit(t.symbols, t.span, t.depth, rows) {
+        return search(rows, t.symbols, t.span);
     }
     Judgement::Unfit
 }
