@@ -85,17 +85,6 @@ fn all_given(given: [bool; 15], count: usize) -> bool
     all
 }
 
-// Whether row j is none of 1 to n − 1, or was given.
-fn taken(g: Progress, j: usize) -> bool
-    requires { ⌜ g .table .symbols ≤ 16 ⌝ }
-    ensures { λ r. ⌜ r ≡ taken g j ⌝ }
-{
-    if (1 <= j) & (j < g.table.symbols) {
-        return g.given[j - 1];
-    }
-    true
-}
-
 // The number of the first test that holds, or 0.
 fn first(j: u64, a: bool, k: u64, b: bool) -> u64
     ensures { λ r. ⌜ r ≡ cond a j (cond b k 0) ⌝ }
@@ -134,13 +123,17 @@ fn sizes_fault(bytes: &[u8], at: usize) -> u64
     }
 }
 
-// The other faults of a row record.
+// The other faults of a row record: its number is none of 1 to n − 1, or was given; its row is too long.
 fn row_fault(bytes: &[u8], at: usize, g: Progress) -> u64
     requires { ⌜ (at ≤ length (now bytes)) × (g .table .symbols ≤ 16) × (g .table .span ≤ 64) ⌝ }
     ensures { λ r. ⌜ r ≡ cond (taken g (getD (drop at (now (bytes .entry))) 1 0)) 6 (cond (leb (2 ^ (g .table .span)) (rowWord (drop at (now (bytes .entry))))) 7 0) ⌝ }
 {
-    let misnumbered = taken(g, byte(bytes, at, 1));
-    first(6, misnumbered, 7, mask(g.table.span) < row_word(bytes, at))
+    let j = byte(bytes, at, 1);
+    if (1 <= j) & (j < g.table.symbols) {
+        let given = g.given;
+        return first(6, given[j - 1], 7, mask(g.table.span) < row_word(bytes, at));
+    }
+    6
 }
 
 // The other faults of an end record.
