@@ -71,20 +71,6 @@ fn row_word(bytes: &[u8], at: usize) -> u64
     word
 }
 
-// Whether rows 1 to `count` were given.
-fn all_given(given: [bool; 15], count: usize) -> bool
-    requires { ⌜ count ≤ 15 ⌝ }
-    ensures { λ r. ⌜ r ≡ allGiven given count ⌝ }
-{
-    let mut all = true;
-    let mut i = 0;
-    while i < count {
-        all = all & given[i];
-        i += 1;
-    }
-    all
-}
-
 // The number of the first test that holds, or 0.
 fn first(j: u64, a: bool, k: u64, b: bool) -> u64
     ensures { λ r. ⌜ r ≡ cond a j (cond b k 0) ⌝ }
@@ -136,13 +122,20 @@ fn row_fault(bytes: &[u8], at: usize, g: Progress) -> u64
     6
 }
 
-// The other faults of an end record.
+// The other faults of an end record: not every row was given; bytes follow.
 fn end_fault(left: usize, g: Progress) -> u64
     requires { ⌜ (1 ≤ g .table .symbols) × (g .table .symbols ≤ 16) ⌝ }
     ensures { λ r. ⌜ r ≡ cond (not (allGiven (g .given) (g .table .symbols - 1))) 8 (cond (ltb 1 left) 9 0) ⌝ }
 {
     let given = g.given;
-    first(8, !all_given(given, g.table.symbols - 1), 9, 1 < left)
+    let count = g.table.symbols - 1;
+    let mut all = true;
+    let mut i = 0;
+    while i < count {
+        all = all & given[i];
+        i += 1;
+    }
+    first(8, !all, 9, 1 < left)
 }
 
 // The first refusal of 1 to 9 that applies to the record at `at`, or 0.
