@@ -5,7 +5,7 @@ use native.Mathlib.Omega.{arith}
 use borrow.Author.Tests.{eq-eqb, ne-eqb}
 use mathlib.Core.List.{List}
 use mathlib.Core.Logic.{_≢_}
-use Prim.Native.Nat.{ℕ, _≤_}
+use Prim.Native.Nat.{ℕ, _-_, _≤_, _<_}
 use lib.ListN.{drop, getD}
 use Rattle.tables.specs.Format.{kind, sized, rowed, after}
 use Rattle.tables.specs.declared.read.Progress.{Progress}
@@ -14,9 +14,9 @@ use Rattle.tables.proofs.read.after.Statement.{statement}
 use Rattle.tables.proofs.read.after.Tie as tie
 
 -- a sound record of neither of the other kinds is a row in range
-numbered : (g : Progress) (s : List ℕ) → g .table .symbols ≤ 16 → Sound g s → kind s ≢ 0 → kind s ≢ 1 → (1 ≤ getD s 1 0) × (getD s 1 0 ≤ 15)
+numbered : (g : Progress) (s : List ℕ) → g .table .symbols ≤ 16 → Sound g s → kind s ≢ 0 → kind s ≢ 1 → (1 ≤ getD s 1 0) × (getD s 1 0 - 1 < 15)
 numbered g s b (sizes k h n f) a o = absurd (o k)
-numbered g s b (row k h f w) a o = let p = taken-not g (getD s 1 0) f in omega arith
+numbered g s b (row k h f w) a o = let p = taken-not g (getD s 1 0) f in (omega arith, omega arith)
 numbered g s b (end k h n f) a o = absurd (a k)
 
 after-sizes : (g : Progress) (s : List ℕ) → kind s ≡ 1 → sized g s ≡ after g s
@@ -40,7 +40,7 @@ byte-requires-4 : tie.Need-byte-requires-4
 byte-requires-4 c κs = search needs
 
 -- the number of a row that is stored
-number : (c : tie.Else1) → (1 ≤ c .before .before .before .before .byte .result) × (c .before .before .before .before .byte .result ≤ 15)
+number : (c : tie.Else1) → (1 ≤ c .before .before .before .before .byte .result) × (c .before .before .before .before .byte .result - 1 < 15)
 number c =
     let b = c .before .before .before .before in
     let a = b .before .before .args in
@@ -49,7 +49,7 @@ number c =
     rw (b .byte .ensures) (numbered (a .g) s (p .1) (fault-sound (a .g) s (p .2)) (p .3) (λ e. c .if1 .left (c .before .byte2 .ensures ∙ e)))
 
 sub-i : tie.Need-sub-i
-sub-i c = let n = number c in omega arith
+sub-i c = number c .0
 
 row-word-requires : tie.Need-row-word-requires
 row-word-requires c κs = search needs
@@ -58,10 +58,10 @@ mul-t : tie.Need-mul-t
 mul-t c = let n = number (c .before) in omega arith
 
 element-write-t : tie.Need-element-write-t
-element-write-t c = let n = number (c .before) in omega arith
+element-write-t c = number (c .before) .1
 
 array-write-given : tie.Need-array-write-given
-array-write-given c = let n = number (c .before) in omega arith
+array-write-given c = number (c .before) .1
 
 returns : tie.Need-returns
 unfolding sized
