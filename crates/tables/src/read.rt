@@ -12,7 +12,6 @@ ghost use mathlib.Core.List.{List};
 ghost use Prim.Native.Nat.{ℕ, _+_, _-_, _^_, _≤_, _<_};
 ghost use lib.Dec.{leb, ltb, eqb};
 ghost use lib.ListN.{length, getD, drop};
-ghost use Rattle.tables.specs.Table.{sizesFit};
 ghost use Rattle.tables.specs.Format.{kind, size, rowWord, allGiven, taken, fault, place, after, refused, parsed, parse};
 ghost use Rattle.tables.specs.Reading.{outcome, Read};
 
@@ -97,18 +96,6 @@ fn header_fault(kind: usize, left: usize, symbols: usize) -> u64
     first(3, left < size(kind), 4, (kind == 1) == (0 < symbols))
 }
 
-// The other faults of a sizes record.
-fn sizes_fault(bytes: &[u8], at: usize) -> u64
-    requires { ⌜ at ≤ length (now bytes) ⌝ }
-    ensures { λ r. ⌜ r ≡ cond (sizesFit (getD (drop at (now (bytes .entry))) 1 0) (getD (drop at (now (bytes .entry))) 2 0) (getD (drop at (now (bytes .entry))) 3 0)) 0 5 ⌝ }
-{
-    if sizes_fit(byte(bytes, at, 1), byte(bytes, at, 2), byte(bytes, at, 3)) {
-        0
-    } else {
-        5
-    }
-}
-
 // The other faults of a row record: its number is none of 1 to n − 1, or was given; its row is too long.
 fn row_fault(bytes: &[u8], at: usize, g: Progress) -> u64
     requires { ⌜ (at ≤ length (now bytes)) × (g .table .symbols ≤ 16) × (g .table .span ≤ 64) ⌝ }
@@ -151,7 +138,12 @@ fn fault(bytes: &[u8], at: usize, g: Progress) -> u64
     }
     match kind {
         0 => end_fault(left, g),
-        1 => sizes_fault(bytes, at),
+        1 => first(
+            5,
+            !sizes_fit(byte(bytes, at, 1), byte(bytes, at, 2), byte(bytes, at, 3)),
+            0,
+            false,
+        ),
         _ => row_fault(bytes, at, g),
     }
 }
