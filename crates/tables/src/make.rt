@@ -78,15 +78,13 @@ pub fn make(symbols: usize, depth: usize) -> Making
             depth,
             rows,
         };
-        Making {
+        return Making {
             answer: MakeAnswer::Made,
             table,
-        }
-    } else {
-        let table = zero_table();
-        Making {
-            answer: MakeAnswer::OutOfRange,
-            table,
-        }
+        };
+    }
+    Making {
+        answer: MakeAnswer::OutOfRange,
+        table: zero_table(),
     }
 }
