@@ -191,14 +191,10 @@ header-passed g s e =
       placed = n .3;
     }
 
-pub passed-sizes : (g : Progress) (s : List ℕ) → Passed g s → kind s ≡ 1 → fault g s ≡ cond (sizesFit (getD s 1 0) (getD s 2 0) (getD s 3 0)) 0 5
+pub passed-sizes : (g : Progress) (s : List ℕ) → Passed g s → kind s ≡ 1 → fault g s ≡ cond (not (sizesFit (getD s 1 0) (getD s 2 0) (getD s 3 0))) 5 0
 passed-sizes g s p k =
     let n = rw k at (p .placed) in
-    fault-sizes g s k (rw (size-sizes (kind s) k) at (p .whole)) ∙ rw n (swap (sizesFit (getD s 1 0) (getD s 2 0) (getD s 3 0)))
-  where
-    swap : (b : Bool) → _≡_ {A = ℕ} (cond (not b) 5 0) (cond b 0 5)
-    swap true = refl
-    swap false = refl
+    fault-sizes g s k (rw (size-sizes (kind s) k) at (p .whole)) ∙ rw n
 
 pub passed-row : (g : Progress) (s : List ℕ) → Passed g s → kind s ≡ 2
     → fault g s ≡ cond (taken g (getD s 1 0)) 6 (cond (leb (2 ^ (g .table .span)) (rowWord s)) 7 0)

@@ -1,5 +1,5 @@
 -- What the two parts of a reading, the parse and the judgement, say together. Assumes nothing.
-use mathlib.Core.Path.{_≡_, refl, sym, ap, _∙_}
+use mathlib.Core.Path.{_≡_, refl, sym, _∙_}
 use mathlib.Core.Bool.{Bool, true, false, false≢true, cond}
 use mathlib.Core.Logic.{_≢_}
 use mathlib.Core.List.{List, [], _∷_}
@@ -23,26 +23,17 @@ use Rattle.tables.specs.Reading.{numbers, reading, outcome, Says, Read, 
 use Rattle.tables.proofs.Progress.{parse-fit, never-refused}
 use Rattle.tables.proofs.Format.{first-range}
 
-pub outcome-accepted : (o : Parse) (r : Reading) → r ≡ outcome o → r .answer ≡ Accepted → o ≡ parsed (r .table)
-unfolding outcome
-outcome-accepted (refused k p) r e a =
-    let q : Refused k p ≡ Accepted = sym (ap (λ (x : Reading). x .answer) e) ∙ a in
-    let z : _≡_ {A = ℕ} 0 1 = cc in
-    absurd (omega arith)
-outcome-accepted (parsed t) r e a = ap parsed (sym (ap (λ (x : Reading). x .table) e))
-
 -- a parse that is no table is the reading
-pub outcome-refused : (bytes : List ℕ) (o : Parse) (r : Reading) → parse bytes ≡ o → r ≡ outcome o → (r .answer ≡ Accepted → ⊥) → Read bytes r
+pub refused-read : (bytes : List ℕ) (k p : ℕ) (r : Reading) → parse bytes ≡ refused k p → r ≡ outcome (refused k p) → Read bytes r
 unfolding outcome
-outcome-refused bytes (refused k p) r q e a = rw e (q, refl)
-outcome-refused bytes (parsed t) r q e a = absurd (a (ap (λ (x : Reading). x .answer) e))
+refused-read bytes k p r q e = rw e (q, refl)
 
 -- a table that parses and has no clash is accepted
-pub sound-accepted : (bytes : List ℕ) (r : Reading) (j : Judgement) → parse bytes ≡ parsed (r .table) → r .answer ≡ Accepted → Judged (r .table) j
-    → ((l e0 e1 : ℕ) → j ≡ Clash l e0 e1 → ⊥) → Read bytes r
-sound-accepted bytes r Unfit q a w n = absurd (false≢true (sym (w .0) ∙ parse-fit bytes (r .table) q))
-sound-accepted bytes r (Clash l e0 e1) q a w n = absurd (n l e0 e1 refl)
-sound-accepted bytes r Sound q a w n = rw a (q, w .1)
+pub sound-accepted : (bytes : List ℕ) (t : Table) (j : Judgement) → parse bytes ≡ parsed t → Judged t j → ((l e0 e1 : ℕ) → j ≡ Clash l e0 e1 → ⊥)
+    → Read bytes (reading Accepted t)
+sound-accepted bytes t Unfit q w n = absurd (false≢true (sym (w .0) ∙ parse-fit bytes t q))
+sound-accepted bytes t (Clash l e0 e1) q w n = absurd (n l e0 e1 refl)
+sound-accepted bytes t Sound q w n = (q, w .1)
 
 says-accepted : (bytes : List ℕ) (a : ReadAnswer) (t : Table) → Says bytes (numbers a) t → a ≡ Accepted → (parse bytes ≡ parsed t) × Suitable (t .span) (rowsOf t)
 says-accepted bytes Accepted t s e = s

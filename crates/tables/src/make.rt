@@ -6,7 +6,7 @@ use span::bits::select;
 use span::bits::shift;
 ghost use mathlib.Core.Path.{_≡_};
 ghost use mathlib.Core.List.{_++_};
-ghost use Prim.Native.Nat.{_-_, _≤_, _<_, _^_};
+ghost use Prim.Native.Nat.{_-_, _≤_, _<_};
 ghost use lib.ListN.{replicate};
 ghost use Rattle.tables.specs.Made.{columns, madeRow, madeRows, making};
 
@@ -40,22 +40,15 @@ pub struct Making {
     pub table: Table,
 }
 
-fn power(exponent: usize) -> u64
-    requires { ⌜ exponent < 64 ⌝ }
-    ensures { λ r. ⌜ r ≡ 2 ^ exponent ⌝ }
-{
-    shift(1, exponent, 64)
-}
-
 // Row j of the table for n: bit n − j, and bit n + k − 1 for each column k that has a one at place j.
 fn made_row(n: usize, j: usize) -> u64
     requires { ⌜ (1 ≤ j) × (j < n) × (n ≤ 16) ⌝ }
     ensures { λ r. ⌜ r ≡ madeRow columns n j ⌝ }
 {
-    let mut row = power(n - j);
-    let mut i = 0;
-    while i < n - 1 {
-        row += select(power(n + i + 1), COLUMNS[i] >> ((j - 1) as u64));
+    let mut row = shift(1, n - j, 64);
+    let mut i = 1;
+    while i < n {
+        row += select(shift(1, n + i, 64), COLUMNS[i - 1] >> (j - 1));
         i += 1;
     }
     row
@@ -85,15 +78,13 @@ pub fn make(symbols: usize, depth: usize) -> Making
             depth,
             rows,
         };
-        Making {
+        return Making {
             answer: MakeAnswer::Made,
             table,
-        }
-    } else {
-        let table = zero_table();
-        Making {
-            answer: MakeAnswer::OutOfRange,
-            table,
-        }
+        };
+    }
+    Making {
+        answer: MakeAnswer::OutOfRange,
+        table: zero_table(),
     }
 }

@@ -8,11 +8,11 @@ use span::bits::mask;
 ghost use mathlib.Core.Path.{_≡_};
 ghost use mathlib.Core.Logic.{_≢_};
 ghost use mathlib.Core.Bool.{cond, not};
-ghost use Prim.Native.Nat.{_+_, _-_, _^_, _≤_, _<_};
+ghost use mathlib.Core.List.{List};
+ghost use Prim.Native.Nat.{ℕ, _+_, _-_, _^_, _≤_, _<_};
 ghost use lib.Dec.{leb, ltb, eqb};
 ghost use lib.ListN.{length, getD, drop};
-ghost use Rattle.tables.specs.Table.{sizesFit};
-ghost use Rattle.tables.specs.Format.{kind, size, rowWord, allGiven, taken, fault, place, sized, rowed, after, refused, parse};
+ghost use Rattle.tables.specs.Format.{kind, size, rowWord, allGiven, taken, fault, place, after, refused, parsed, parse};
 ghost use Rattle.tables.specs.Reading.{outcome, Read};
 
 pub enum ReadAnswer {
@@ -70,31 +70,6 @@ fn row_word(bytes: &[u8], at: usize) -> u64
     word
 }
 
-// Whether rows 1 to `count` were given.
-fn all_given(given: [bool; 15], count: usize) -> bool
-    requires { ⌜ count ≤ 15 ⌝ }
-    ensures { λ r. ⌜ r ≡ allGiven given count ⌝ }
-{
-    let mut all = true;
-    let mut i = 0;
-    while i < count {
-        all = all & given[i];
-        i += 1;
-    }
-    all
-}
-
-// Whether row j is none of 1 to n − 1, or was given.
-fn taken(g: Progress, j: usize) -> bool
-    requires { ⌜ g .table .symbols ≤ 16 ⌝ }
-    ensures { λ r. ⌜ r ≡ taken g j ⌝ }
-{
-    if (1 <= j) & (j < g.table.symbols) {
-        return g.given[j - 1];
-    }
-    true
-}
-
 // The number of the first test that holds, or 0.
 fn first(j: u64, a: bool, k: u64, b: bool) -> u64
     ensures { λ r. ⌜ r ≡ cond a j (cond b k 0) ⌝ }
@@ -121,34 +96,33 @@ fn header_fault(kind: usize, left: usize, symbols: usize) -> u64
     first(3, left < size(kind), 4, (kind == 1) == (0 < symbols))
 }
 
-// The other faults of a sizes record.
-fn sizes_fault(bytes: &[u8], at: usize) -> u64
-    requires { ⌜ at ≤ length (now bytes) ⌝ }
-    ensures { λ r. ⌜ r ≡ cond (sizesFit (getD (drop at (now (bytes .entry))) 1 0) (getD (drop at (now (bytes .entry))) 2 0) (getD (drop at (now (bytes .entry))) 3 0)) 0 5 ⌝ }
-{
-    if sizes_fit(byte(bytes, at, 1), byte(bytes, at, 2), byte(bytes, at, 3)) {
-        0
-    } else {
-        5
-    }
-}
-
-// The other faults of a row record.
+// The other faults of a row record: its number is none of 1 to n − 1, or was given; its row is too long.
 fn row_fault(bytes: &[u8], at: usize, g: Progress) -> u64
     requires { ⌜ (at ≤ length (now bytes)) × (g .table .symbols ≤ 16) × (g .table .span ≤ 64) ⌝ }
     ensures { λ r. ⌜ r ≡ cond (taken g (getD (drop at (now (bytes .entry))) 1 0)) 6 (cond (leb (2 ^ (g .table .span)) (rowWord (drop at (now (bytes .entry))))) 7 0) ⌝ }
 {
-    let misnumbered = taken(g, byte(bytes, at, 1));
-    first(6, misnumbered, 7, mask(g.table.span) < row_word(bytes, at))
+    let j = byte(bytes, at, 1);
+    if (1 <= j) & (j < g.table.symbols) {
+        let given = g.given;
+        return first(6, given[j - 1], 7, mask(g.table.span) < row_word(bytes, at));
+    }
+    6
 }
 
-// The other faults of an end record.
+// The other faults of an end record: not every row was given; bytes follow.
 fn end_fault(left: usize, g: Progress) -> u64
     requires { ⌜ (1 ≤ g .table .symbols) × (g .table .symbols ≤ 16) ⌝ }
     ensures { λ r. ⌜ r ≡ cond (not (allGiven (g .given) (g .table .symbols - 1))) 8 (cond (ltb 1 left) 9 0) ⌝ }
 {
     let given = g.given;
-    first(8, !all_given(given, g.table.symbols - 1), 9, 1 < left)
+    let count = g.table.symbols - 1;
+    let mut all = true;
+    let mut i = 0;
+    while i < count {
+        all = all & given[i];
+        i += 1;
+    }
+    first(8, !all, 9, 1 < left)
 }
 
 // The first refusal of 1 to 9 that applies to the record at `at`, or 0.
@@ -164,33 +138,14 @@ fn fault(bytes: &[u8], at: usize, g: Progress) -> u64
     }
     match kind {
         0 => end_fault(left, g),
-        1 => sizes_fault(bytes, at),
+        1 => first(
+            5,
+            !sizes_fit(byte(bytes, at, 1), byte(bytes, at, 2), byte(bytes, at, 3)),
+            0,
+            false,
+        ),
         _ => row_fault(bytes, at, g),
     }
-}
-
-fn sized(bytes: &[u8], at: usize, g: Progress) -> Progress
-    requires { ⌜ at ≤ length (now bytes) ⌝ }
-    ensures { λ r. ⌜ r ≡ sized g (drop at (now (bytes .entry))) ⌝ }
-{
-    let mut t = g.table;
-    t.symbols = byte(bytes, at, 1);
-    t.span = byte(bytes, at, 2);
-    t.depth = byte(bytes, at, 3);
-    let given = g.given;
-    Progress { table: t, given }
-}
-
-fn rowed(bytes: &[u8], at: usize, g: Progress) -> Progress
-    requires { ⌜ (at ≤ length (now bytes)) × (1 ≤ getD (drop at (now bytes)) 1 0) × (getD (drop at (now bytes)) 1 0 ≤ 15) ⌝ }
-    ensures { λ r. ⌜ r ≡ rowed g (drop at (now (bytes .entry))) ⌝ }
-{
-    let i = byte(bytes, at, 1) - 1;
-    let mut t = g.table;
-    t.rows[i] = row_word(bytes, at);
-    let mut given = g.given;
-    given[i] = true;
-    Progress { table: t, given }
 }
 
 // The progress after a sound record that is not the end.
@@ -198,10 +153,19 @@ fn after(bytes: &[u8], at: usize, g: Progress) -> Progress
     requires { ⌜ (at ≤ length (now bytes)) × (g .table .symbols ≤ 16) × (fault g (drop at (now bytes)) ≡ 0) × (kind (drop at (now bytes)) ≢ 0) ⌝ }
     ensures { λ r. ⌜ r ≡ after g (drop at (now (bytes .entry))) ⌝ }
 {
+    let j = byte(bytes, at, 1);
+    let mut t = g.table;
+    let mut given = g.given;
     if byte(bytes, at, 0) == 1 {
-        return sized(bytes, at, g);
+        t.symbols = j;
+        t.span = byte(bytes, at, 2);
+        t.depth = byte(bytes, at, 3);
+    } else {
+        let i = j - 1;
+        t.rows[i] = row_word(bytes, at);
+        given[i] = true;
     }
-    rowed(bytes, at, g)
+    Progress { table: t, given }
 }
 
 // A refusal of the record at `at`.
@@ -217,9 +181,26 @@ fn refusal(number: u64, at: usize) -> Reading
     }
 }
 
-// The records left to right: what the bytes say, before the table is judged.
-fn parse(bytes: &[u8]) -> Reading
-    ensures { λ r. ⌜ r ≡ outcome (parse (now (bytes .entry))) ⌝ }
+// The reading of a table that was parsed.
+fn judged(t: Table) -> Reading
+    ensures { λ r. ⌜ ((bytes : List ℕ) → parse bytes ≡ parsed t → Read bytes r) ⌝ }
+{
+    let judgement = judge(t);
+    if let Judgement::Clash(l, e0, e1) = judgement {
+        return Reading {
+            answer: ReadAnswer::Unsuitable(l, e0, e1),
+            table: zero_table(),
+        };
+    }
+    Reading {
+        answer: ReadAnswer::Accepted,
+        table: t,
+    }
+}
+
+// The records left to right, and then the judgement.
+pub fn read(bytes: &[u8]) -> Reading
+    ensures { λ r. ⌜ Read (now (bytes .entry)) r ⌝ }
 {
     let mut g = Progress {
         table: zero_table(),
@@ -235,28 +216,5 @@ fn parse(bytes: &[u8]) -> Reading
     if number != 0 {
         return refusal(number, at);
     }
-    let table = g.table;
-    Reading {
-        answer: ReadAnswer::Accepted,
-        table,
-    }
-}
-
-// The parse, and then the judgement.
-pub fn read(bytes: &[u8]) -> Reading
-    ensures { λ r. ⌜ Read (now (bytes .entry)) r ⌝ }
-{
-    let r = parse(bytes);
-    let answer = r.answer;
-    if let ReadAnswer::Accepted = answer {
-        let t = r.table;
-        let judgement = judge(t);
-        if let Judgement::Clash(l, e0, e1) = judgement {
-            return Reading {
-                answer: ReadAnswer::Unsuitable(l, e0, e1),
-                table: zero_table(),
-            };
-        }
-    }
-    r
+    judged(g.table)
 }

@@ -2,9 +2,7 @@
 use span::bits::mask;
 use span::bound::at_most;
 ghost use mathlib.Core.Path.{_≡_};
-ghost use Prim.Native.Nat.{_≤_};
-ghost use lib.ListN.{take};
-ghost use Rattle.tables.specs.Table.{table, zeroTable, sizesFit, rowsFit, fit};
+ghost use Rattle.tables.specs.Table.{table, zeroTable, sizesFit, fit};
 ghost use Rattle.tables.specs.Lent.{lent};
 
 pub struct Table {
@@ -33,12 +31,16 @@ pub fn sizes_fit(symbols: usize, span: usize, depth: usize) -> bool
     (2 <= symbols) & (symbols <= 16) & (2 <= span) & (span <= 64) & (1 <= depth) & (depth <= 64)
 }
 
-fn rows_fit(rows: &[u64], count: usize, span: usize) -> bool
-    requires { ⌜ span ≤ 64 ⌝ }
-    ensures { λ r. ⌜ r ≡ rowsFit span (take count (now (rows .entry))) ⌝ }
+// Whether the table of these sizes and rows is fit: the condition of refusal 12 does not hold. The rows are lent, since
+// each step asks it; of fewer than n − 1, those that are there are looked at.
+pub fn is_fit(symbols: usize, span: usize, depth: usize, rows: &[u64]) -> bool
+    ensures { λ r. ⌜ r ≡ fit (table symbols span depth (now (rows .entry))) ⌝ }
 {
+    if !sizes_fit(symbols, span, depth) {
+        return false;
+    }
     let most = mask(span);
-    let end = at_most(count, rows.len());
+    let end = at_most(symbols - 1, rows.len());
     let mut fit = true;
     let mut i = 0;
     while i < end {
@@ -46,17 +48,6 @@ fn rows_fit(rows: &[u64], count: usize, span: usize) -> bool
         i += 1;
     }
     fit
-}
-
-// Whether the table of these sizes and rows is fit: the condition of refusal 12 does not hold. The rows are lent, since
-// each step asks it; of fewer than n − 1, those that are there are looked at.
-pub fn is_fit(symbols: usize, span: usize, depth: usize, rows: &[u64]) -> bool
-    ensures { λ r. ⌜ r ≡ fit (table symbols span depth (now (rows .entry))) ⌝ }
-{
-    if sizes_fit(symbols, span, depth) {
-        return rows_fit(rows, symbols - 1, span);
-    }
-    false
 }
 
 // Whether a table whose rows are lent beside it is fit. With another count than fifteen it is not.

@@ -2,6 +2,7 @@
 use mathlib.Core.Path.{_≡_, refl, sym, _∙_}
 use mathlib.Core.Bool.{true}
 use native.Mathlib.Omega.{arith}
+use lib.ListN.{length}
 use borrow.Author.Needs.{needs}
 use Rattle.tables.specs.declared.table.Table.{Table}
 use Rattle.tables.specs.declared.judge.Judgement.{Judgement}
@@ -11,6 +12,9 @@ use Rattle.tables.specs.Judging.{Searched, Judged}
 use Rattle.tables.proofs.Fit.{fit-sizes}
 use Rattle.tables.proofs.judge.judge.Statement.{statement}
 use Rattle.tables.proofs.judge.judge.Tie as tie
+
+slice-aggregate-rows : tie.Need-slice-aggregate-rows
+slice-aggregate-rows c = search needs
 
 is-fit-requires : tie.Need-is-fit-requires
 is-fit-requires c κs = search needs
@@ -22,16 +26,17 @@ searched t Sound f h = (f, h)
 
 search-requires : tie.Need-search-requires
 search-requires c κs =
-    let t = c .before .before .before .before .before .before .before .before .args .t1 in
-    let z = fit-sizes t (sym (c .before .before .before .before .is-fit .ensures) ∙ c .before .before .before .if1 .taken) in
+    let t = c .before .before .before .before .args .t in
+    let z = fit-sizes t (sym (c .before .is-fit .ensures) ∙ c .if1 .taken) in
+    let room : length (t .rows) ≡ 15 = search needs in
     (omega arith, omega arith, omega arith, omega arith)
 
 returns : tie.Need-returns
 returns c =
-    searched (c .before .before .before .before .before .before .before .before .before .args .t1) (c .search .result) (sym (c .before .before .before .before .before .is-fit .ensures) ∙ c .before .before .before .before .if1 .taken) (c .search .ensures)
+    searched (c .before .before .before .before .before .args .t) (c .search .result) (sym (c .before .before .is-fit .ensures) ∙ c .before .if1 .taken) (c .search .ensures)
 
 returns-2 : tie.Need-returns-2
 returns-2 c = (sym (c .before .is-fit .ensures) ∙ c .if1 .left, refl)
 
 pub judge-spec : {M : Type 1} → statement M
-judge-spec = tie.close (tie.spec is-fit-requires search-requires returns returns-2)
+judge-spec = tie.close (tie.spec slice-aggregate-rows is-fit-requires search-requires returns returns-2)

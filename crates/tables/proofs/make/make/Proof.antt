@@ -23,8 +23,8 @@ made-rows-requires c κs =
     let z = sizes-of (c .before .before .args .symbols) 2 (c .before .before .args .depth) (sym (c .before .sizes-fit .ensures) ∙ c .if1 .taken) in
     omega arith
 
-mul-t8 : tie.Need-mul-t8
-mul-t8 c =
+mul-t6 : tie.Need-mul-t6
+mul-t6 c =
     let z = sizes-of (c .before .before .before .args .symbols) 2 (c .before .before .before .args .depth) (sym (c .before .before .sizes-fit .ensures) ∙ c .before .if1 .taken) in
     omega arith
 
@@ -52,4 +52,4 @@ returns-2 c =
     refused-is (a .symbols) (a .depth) (c .zero-table .result) (sym (e .sizes-fit .ensures) ∙ c .before .if1 .left) (c .zero-table .ensures)
 
 pub make-spec : {M : Type 1} → statement M
-make-spec = tie.close (tie.spec sizes-fit-requires made-rows-requires mul-t8 zero-table-requires returns returns-2)
+make-spec = tie.close (tie.spec sizes-fit-requires made-rows-requires mul-t6 returns zero-table-requires returns-2)

@@ -41,8 +41,20 @@ end-fault-requires c κs =
     let some = end-placed (z .before .before .before .args .g) (rest z) (passed (c .before)) (omega arith) in
     omega arith
 
-sizes-fault-requires : tie.Need-sizes-fault-requires
-sizes-fault-requires c κs = search needs
+byte-requires-2 : tie.Need-byte-requires-2
+byte-requires-2 c κs = search needs
+
+byte-requires-3 : tie.Need-byte-requires-3
+byte-requires-3 c κs = search needs
+
+byte-requires-4 : tie.Need-byte-requires-4
+byte-requires-4 c κs = search needs
+
+sizes-fit-requires : tie.Need-sizes-fit-requires
+sizes-fit-requires c κs = search needs
+
+first-requires : tie.Need-first-requires
+first-requires c κs = search needs
 
 row-fault-requires : tie.Need-row-fault-requires
 row-fault-requires c κs = search needs
@@ -55,8 +67,18 @@ returns-2 c =
 
 returns-3 : tie.Need-returns-3
 returns-3 c =
-    let z = c .before .before .before in
-    rw (passed-sizes (z .before .before .before .args .g) (rest z) (passed (c .before .before)) (omega arith)) (c .sizes-fault .ensures)
+    let t = c .before in
+    let b4 = t .before in
+    let b3 = b4 .before in
+    let b2 = b3 .before in
+    let e = b2 .before .before in
+    rw (
+      passed-sizes (e .before .before .before .before .args .g) (rest (e .before)) (passed e) (omega arith),
+      ← b2 .byte2 .ensures,
+      ← b3 .byte3 .ensures,
+      ← b4 .byte4 .ensures,
+      ← t .sizes-fit .ensures,
+    ) (c .first .ensures)
 
 returns-4 : tie.Need-returns-4
 returns-4 c =
@@ -74,7 +96,11 @@ fault-spec =
     header-fault-requires
     returns
     end-fault-requires
-    sizes-fault-requires
+    byte-requires-2
+    byte-requires-3
+    byte-requires-4
+    sizes-fit-requires
+    first-requires
     row-fault-requires
     returns-2
     returns-3

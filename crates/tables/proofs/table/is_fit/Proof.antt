@@ -1,43 +1,133 @@
--- `tables::table::is_fit`: the rows are looked at once the sizes fit. Assumes nothing.
-use mathlib.Core.Path.{sym, ap, _∙_}
-use mathlib.Core.Bool.{Bool, _&&_}
-use Prim.Native.Nat.{_-_}
+-- `tables::table::is_fit`: the rows are looked at once the sizes fit; after i turns the first i rows are judged. Assumes nothing.
+use mathlib.Core.Path.{_≡_, refl, sym, ap, ap₂, _∙_}
+use mathlib.Core.Bool.{Bool, true, false, _&&_, and-true, and-assoc}
+use mathlib.Core.List.{List, [], _∷_}
+use Prim.Native.Nat.{ℕ, zero, suc, _-_, _^_, _≤_, _<_, min}
+use native.Mathlib.Numerals.{add-one}
 use native.Mathlib.Omega.{arith}
 use borrow.Author.Needs.{needs}
-use lib.ListN.{take}
-use Rattle.tables.specs.Table.{rowsFit, fit}
+use borrow.Author.Tests.{lt-ltb, le-ltb, leb-true, leb-false, not-true, not-false}
+use lib.Dec.{leb, ltb}
+use lib.ListN.{length, getD, take}
+use lib.Pow.{pow-pos}
+use lib.Seq.{take-all}
+use native.Mathlib.Decide.{decLt}
+use Rattle.tables.specs.Table.{sizesFit, rowsFit, fit}
 use Rattle.tables.proofs.Fit.{sizes-of}
 use Rattle.tables.proofs.table.is_fit.Statement.{statement}
 use Rattle.tables.proofs.table.is_fit.Tie as tie
 
-sizes-fit-requires : tie.Need-sizes-fit-requires
+abbrev Inv-loop : tie.InvT-loop
+Inv-loop symbols span depth rows most end fit₀ i₀ fit i = (i ≤ end) × (fit ≡ rowsFit span (take i rows))
+
+abbrev μ-loop : tie.MeasureT-loop
+μ-loop symbols span depth rows most end fit₀ i₀ fit i = end - i
+
+-- one row more; past the end there is none, and 0 fits
+next : (N : ℕ) (rows : List ℕ) (i : ℕ) → rowsFit N (take i rows) && ltb (getD rows i 0) (2 ^ N) ≡ rowsFit N (take (suc i) rows)
+unfolding rowsFit
+next N [] zero = lt-ltb 0 (2 ^ N) (pow-pos N)
+next N [] (suc i) = lt-ltb 0 (2 ^ N) (pow-pos N)
+next N (w ∷ ws) zero = sym (and-true (ltb w (2 ^ N)))
+next N (w ∷ ws) (suc i) =
+    and-assoc (ltb w (2 ^ N)) (rowsFit N (take i ws)) (ltb (getD ws i 0) (2 ^ N)) ∙ ap (_&&_ (ltb w (2 ^ N))) (next N ws i)
+
+-- to be at most the mask is to be below the power
+below : (w m N : ℕ) → suc m ≡ 2 ^ N → leb w m ≡ ltb w (2 ^ N)
+below w m N e = go (leb w m) refl
+  where
+    go : (b : Bool) → leb w m ≡ b → b ≡ ltb w (2 ^ N)
+    go true q = let h = leb-true w m q in sym (lt-ltb w (2 ^ N) (omega arith))
+    go false q = let h = leb-false w m q in sym (le-ltb w (2 ^ N) (omega arith))
+
+-- past the end no row is left
+clamped : (rows : List ℕ) (count : ℕ) → take (min count (length rows)) rows ≡ take count rows
+clamped rows count = go (decLt count (length rows))
+  where
+    go : Dec (count < length rows) → take (min count (length rows)) rows ≡ take count rows
+    go (yes h) = ap (λ (k : ℕ). take k rows) (let e : min count (length rows) ≡ count = omega arith in e)
+    go (no h) = ap (λ (k : ℕ). take k rows) (let e : min count (length rows) ≡ length rows = omega arith in e) ∙ take-all (length rows) rows (omega arith) ∙ sym (take-all count rows (omega arith))
+
+sizes-fit-requires : tie.Need-sizes-fit-requires Inv-loop μ-loop
 sizes-fit-requires c κs = search needs
 
-sub-rows-fit : tie.Need-sub-rows-fit
-sub-rows-fit c =
-    let a = c .before .before .before .args in
-    let z = sizes-of (a .symbols) (a .span) (a .depth) (sym (c .before .sizes-fit .ensures) ∙ c .if1 .taken) in
-    omega arith
-
-rows-fit-requires : tie.Need-rows-fit-requires
-rows-fit-requires c κs =
-    let a = c .before .before .before .args in
-    let z = sizes-of (a .symbols) (a .span) (a .depth) (sym (c .before .sizes-fit .ensures) ∙ c .if1 .taken) in
-    omega arith
-
-returns : tie.Need-returns
+-- sizes that do not fit decide
+returns : tie.Need-returns Inv-loop μ-loop
 unfolding fit
 returns c =
-    let a = c .before .before .before .before .args in
-    c .rows-fit .ensures
-    ∙ ap (λ (s : Bool). s && rowsFit (a .span) (take (a .symbols - 1) (a .rows .now)))
-    (sym (c .before .if1 .taken) ∙ c .before .before .sizes-fit .ensures)
+    let a = c .before .before .before .args in
+    ap (λ (s : Bool). s && rowsFit (a .span) (take (a .symbols - 1) (a .rows .now))) (sym (not-true _ (c .if1 .taken)) ∙ c .before .sizes-fit .ensures)
 
-returns-2 : tie.Need-returns-2
+sizes : (c : tie.Else1 Inv-loop μ-loop) → let a = c .before .before .before .args in sizesFit (a .symbols) (a .span) (a .depth) ≡ true
+sizes c = sym (c .before .sizes-fit .ensures) ∙ not-false _ (c .if1 .left)
+
+mask-requires : tie.Need-mask-requires Inv-loop μ-loop
+mask-requires c κs = search needs
+
+sub-at-most : tie.Need-sub-at-most Inv-loop μ-loop
+sub-at-most c =
+    let a = c .before .before .before .before .args in
+    let z = sizes-of (a .symbols) (a .span) (a .depth) (sizes (c .before)) in
+    omega arith
+
+at-most-requires : tie.Need-at-most-requires Inv-loop μ-loop
+at-most-requires c κs = search needs
+
+loop-holds : tie.Need-loop-holds Inv-loop μ-loop
+unfolding rowsFit
+loop-holds c = (omega arith, refl)
+
+mul-fit : tie.Need-mul-fit Inv-loop μ-loop
+mul-fit c = search needs
+
+shared-slice-read-fit : tie.Need-shared-slice-read-fit Inv-loop μ-loop
+shared-slice-read-fit c = search needs
+
+add-i : tie.Need-add-i Inv-loop μ-loop
+add-i c = search needs
+
+loop-less : tie.Need-loop-less Inv-loop μ-loop
+loop-less c = search needs
+
+loop-again : tie.Need-loop-again Inv-loop μ-loop
+loop-again c =
+    let l = c .before .before in
+    let m = l .before .before in
+    let a = m .before .before .before .before .args in
+    let z = sizes-of (a .symbols) (a .span) (a .depth) (sizes (m .before)) in
+    let p = pow-pos (a .span) in
+    let whole : 2 ^ min (a .span) 64 ≡ 2 ^ (a .span) = ap (λ (k : ℕ). 2 ^ k) (omega arith) in (
+      omega arith,
+      ap₂ _&&_ (l .loop .inv .1) (below (getD (a .rows .now) (l .loop .i) 0) (m .mask .result) (a .span) (omega arith))
+          ∙ next (a .span) (a .rows .now) (l .loop .i)
+          ∙ ap (λ (i : ℕ). rowsFit (a .span) (take i (a .rows .now))) (sym (add-one (l .loop .i))),
+    )
+
+returns-2 : tie.Need-returns-2 Inv-loop μ-loop
 unfolding fit
 returns-2 c =
-    let a = c .before .before .before .args in
-    ap (λ (s : Bool). s && rowsFit (a .span) (take (a .symbols - 1) (a .rows .now))) (sym (c .if1 .left) ∙ c .before .sizes-fit .ensures)
+    let l = c .before in
+    let m = l .before .before in
+    let a = m .before .before .before .before .args in
+    let done : l .loop .i ≡ min (a .symbols - 1) (length (a .rows .now)) = omega arith in
+    l .loop .inv .1 ∙ ap (λ (i : ℕ). rowsFit (a .span) (take i (a .rows .now))) done ∙ ap (rowsFit (a .span)) (clamped (a .rows .now) (a .symbols - 1))
+    ∙ ap (λ (s : Bool). s && rowsFit (a .span) (take (a .symbols - 1) (a .rows .now))) (sym (sizes (m .before)))
 
 pub is-fit-spec : {M : Type 1} → statement M
-is-fit-spec = tie.close (tie.spec sizes-fit-requires sub-rows-fit rows-fit-requires returns returns-2)
+is-fit-spec =
+    tie.close
+    (tie.spec
+    Inv-loop
+    μ-loop
+    sizes-fit-requires
+    returns
+    mask-requires
+    sub-at-most
+    at-most-requires
+    loop-holds
+    mul-fit
+    shared-slice-read-fit
+    add-i
+    loop-less
+    loop-again
+    returns-2)
