@@ -91,7 +91,7 @@ module _ (N : ℕ) (rows : List ℕ) (l : ℕ) where
 
   -- the words that the code lays out are these
   pub clash-counted : (n : ℕ) (words : List ℕ) → take (n + n) words ≡ clashWords → length rows ≡ n → n ≤ 16
-      → leastRelation (counted (n + n) words) n ≡ leastRelation clashWords n
+      → leastRelation (counted (n + n) words) n ≡ leastRelation clashWords (length rows)
   clash-counted n words e size room =
       let short : length clashWords ≤ 32 = rw clash-length (omega arith) in
-      ap (λ (ws : List ℕ). leastRelation ws n) (ap (take 32) e ∙ take-all 32 clashWords short)
+      ap₂ leastRelation (ap (take 32) e ∙ take-all 32 clashWords short) (sym size)

@@ -7,10 +7,9 @@ use span::eliminate::Least;
 use span::eliminate::least_relation;
 ghost use mathlib.Core.Path.{_≡_};
 ghost use mathlib.Core.List.{_++_, map};
-ghost use Prim.Native.Nat.{_-_, _≤_, _<_};
-ghost use lib.ListN.{length, getD};
+ghost use Prim.Native.Nat.{_+_, _-_, _≤_, _<_};
+ghost use lib.ListN.{length, getD, take};
 ghost use Rattle.span.specs.Word.{shifted};
-ghost use Rattle.span.specs.Relation.{leastRelation};
 ghost use Rattle.tables.specs.Table.{codeRows};
 ghost use Rattle.tables.specs.Judging.{Judged, Searched};
 
@@ -33,10 +32,10 @@ fn code_row(rows: &[u64], n: usize, i: usize) -> u64
     1
 }
 
-// The least relation from n on among the n shifted rows and then the n rows; each row is fetched once.
-fn relation(rows: &[u64], n: usize, span: usize, l: usize) -> Least
+// The n shifted rows, then the n rows: each row is fetched once.
+fn clash_words(rows: &[u64], n: usize, span: usize, l: usize) -> [u64; 32]
     requires { ⌜ (2 ≤ n) × (n ≤ 16) × (span ≤ 64) × (n - 1 ≤ length (now rows)) ⌝ }
-    ensures { λ r. ⌜ r ≡ leastRelation (map (shifted span l) (codeRows n (now (rows .entry))) ++ codeRows n (now (rows .entry))) n ⌝ }
+    ensures { λ r. ⌜ take (n + n) r ≡ map (shifted span l) (codeRows n (now (rows .entry))) ++ codeRows n (now (rows .entry)) ⌝ }
 {
     let mut words = [0u64; 32];
     let mut i = 0;
@@ -46,7 +45,7 @@ fn relation(rows: &[u64], n: usize, span: usize, l: usize) -> Least
         words[n + i] = row;
         i += 1;
     }
-    least_relation(&words, n + n, n)
+    words
 }
 
 // The first shift at which an image is a shifted one.
@@ -56,7 +55,8 @@ fn search(rows: &[u64], n: usize, span: usize) -> Judgement
 {
     let mut l = 1;
     while l < span {
-        let found = relation(rows, n, span, l);
+        let words = clash_words(rows, n, span, l);
+        let found = least_relation(&words, n + n, n);
         if let Least::Found(c) = found {
             return Judgement::Clash(l as u64, c >> (n as u64), c & mask(n));
         }

@@ -7,12 +7,10 @@ use native.Mathlib.Omega.{arith}
 use borrow.Author.Needs.{needs}
 use lib.Bits.{bitAnd, and-mask}
 use lib.ListN.{length}
-use Rattle.span.specs.declared.eliminate.Least.the-variants.{Found, Missing}
-use Rattle.span.specs.Relation.{leastRelation}
 use Rattle.tables.specs.Code.{Clashes}
 use Rattle.tables.specs.Table.{codeRows}
 use Rattle.tables.proofs.Fit.{code-length}
-use Rattle.tables.proofs.Clash.{clashWords, clash-found, clash-missing}
+use Rattle.tables.proofs.Clash.{clash-found, clash-missing, clash-counted}
 use Rattle.tables.proofs.judge.search.Statement.{statement}
 use Rattle.tables.proofs.judge.search.Tie as tie
 
@@ -32,30 +30,26 @@ none-more N rows l below here k e0 e1 h clash = go (ℕ-discrete k l)
     go (yes e) = here e0 e1 (subst (λ (j : ℕ). Clashes N rows j e0 e1) e clash)
     go (no e) = below k e0 e1 (omega arith) clash
 
--- what the least relation says of one shift
-clash-here : (N n : ℕ) (rows : List ℕ) (l e m : ℕ) → length rows ≡ n → n ≤ 16 → 1 ≤ l → l < N → leastRelation (clashWords N rows l) n ≡ Found e
-    → m ≡ 2 ^ min n 64 - 1 → Clashes N rows l (e / 2 ^ n) (bitAnd e m)
-clash-here N n rows l e m size room from to found mask =
-    let small : min n 64 ≡ n = omega arith in
-    let low : bitAnd e m ≡ e % 2 ^ n = ap (bitAnd e) (mask ∙ ap (λ (k : ℕ). 2 ^ k - 1) small) ∙ and-mask e n in
-    subst (Clashes N rows l (e / 2 ^ n)) (sym low)
-    (subst (λ (k : ℕ). leastRelation (clashWords N rows l) k ≡ Found e → Clashes N rows l (e / 2 ^ k) (e % 2 ^ k)) size (clash-found N rows l from to e) found)
-
-no-clash-here : (N n : ℕ) (rows : List ℕ) (l : ℕ) → length rows ≡ n → leastRelation (clashWords N rows l) n ≡ Missing
-    → (e0 e1 : ℕ) → Clashes N rows l e0 e1 → ⊥
-no-clash-here N n rows l size missing = clash-missing N rows l (ap (leastRelation (clashWords N rows l)) size ∙ missing)
-
 loop-holds : tie.Need-loop-holds Inv-loop μ-loop
 loop-holds c = (omega arith, λ k e0 e1 h cl. let z = cl .shift-from in omega arith)
 
-relation-requires : tie.Need-relation-requires Inv-loop μ-loop
-relation-requires c κs = search needs
+clash-words-requires : tie.Need-clash-words-requires Inv-loop μ-loop
+clash-words-requires c κs = search needs
+
+slice-aggregate-least-relation : tie.Need-slice-aggregate-least-relation Inv-loop μ-loop
+slice-aggregate-least-relation c = search needs
+
+add-least-relation : tie.Need-add-least-relation Inv-loop μ-loop
+add-least-relation c = search needs
+
+least-relation-requires : tie.Need-least-relation-requires Inv-loop μ-loop
+least-relation-requires c κs = search needs
 
 enum-known-found : tie.Need-enum-known-found Inv-loop μ-loop
 enum-known-found c = search needs
 
-shr-t10 : tie.Need-shr-t10 Inv-loop μ-loop
-shr-t10 c = search needs
+shr-t15 : tie.Need-shr-t15 Inv-loop μ-loop
+shr-t15 c = search needs
 
 mask-requires : tie.Need-mask-requires Inv-loop μ-loop
 mask-requires c κs = search needs
@@ -63,12 +57,23 @@ mask-requires c κs = search needs
 returns : tie.Need-returns Inv-loop μ-loop
 returns c =
     let found = c .before .before .found in
-    let r = c .before .before .before .before in
-    let l = r .before .before in
+    let r = c .before .before .before .before .least-relation in
+    let w = c .before .before .before .before .before .before .clash-words in
+    let l = c .before .before .before .before .before .before .before .before in
     let a = l .before .before .args in
-    clash-here (a .span) (a .n) (codeRows (a .n) (a .rows .now)) (l .loop .l) (found .given .0 .0) (c .mask .result)
-    (code-length (a .n) (a .rows .now) (omega arith) (omega arith)) (omega arith) (l .loop .inv .0) (omega arith)
-    (sym (r .relation .ensures) ∙ found .given .1) (c .mask .ensures)
+    let N = a .span in
+    let n = a .n in
+    let R = codeRows n (a .rows .now) in
+    let e = found .given .0 .0 in
+    let size : length R ≡ n = code-length n (a .rows .now) (omega arith) (omega arith) in
+    let small : min n 64 ≡ n = omega arith in
+    let same = r .ensures ∙ clash-counted N R (l .loop .l) n (w .result) (w .ensures) size (omega arith) in
+    let low : bitAnd e (c .mask .result) ≡ e % 2 ^ n =
+    ap (bitAnd e) (c .mask .ensures ∙ ap (λ (k : ℕ). 2 ^ k - 1) small) ∙ and-mask e n
+    in
+    subst (λ (x : ℕ). Clashes N R (l .loop .l) (e / 2 ^ n) x) (sym low)
+    (subst (λ (k : ℕ). Clashes N R (l .loop .l) (e / 2 ^ k) (e % 2 ^ k)) size
+    (clash-found N R (l .loop .l) (l .loop .inv .0) (omega arith) e (sym same ∙ found .given .1)))
 
 enum-told : tie.Need-enum-told Inv-loop μ-loop
 enum-told c = search needs
@@ -81,13 +86,16 @@ loop-less c = search needs
 
 loop-again : tie.Need-loop-again Inv-loop μ-loop
 loop-again c =
-    let r = c .before .before in
-    let l = r .before .before in
+    let r = c .before .before .least-relation in
+    let w = c .before .before .before .before .clash-words in
+    let l = c .before .before .before .before .before .before in
     let a = l .before .before .args in
     let R = codeRows (a .n) (a .rows .now) in
-    let size : length R ≡ a .n = code-length (a .n) (a .rows .now) (omega arith) (omega arith) in (
+    let size : length R ≡ a .n = code-length (a .n) (a .rows .now) (omega arith) (omega arith) in
+    let same = r .ensures ∙ clash-counted (a .span) R (l .loop .l) (a .n) (w .result) (w .ensures) size (omega arith) in (
       omega arith,
-      none-more (a .span) R (l .loop .l) (l .loop .inv .1) (no-clash-here (a .span) (a .n) R (l .loop .l) size (sym (r .relation .ensures) ∙ c .enum-told .given .1)),
+      none-more (a .span) R (l .loop .l) (l .loop .inv .1)
+          (clash-missing (a .span) R (l .loop .l) (sym same ∙ c .enum-told .given .1)),
     )
 
 returns-2 : tie.Need-returns-2 Inv-loop μ-loop
@@ -102,9 +110,12 @@ search-spec =
     Inv-loop
     μ-loop
     loop-holds
-    relation-requires
+    clash-words-requires
+    slice-aggregate-least-relation
+    add-least-relation
+    least-relation-requires
     enum-known-found
-    shr-t10
+    shr-t15
     mask-requires
     returns
     enum-told

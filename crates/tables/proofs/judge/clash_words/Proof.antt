@@ -1,4 +1,4 @@
--- `tables::judge::relation`: after i turns the first i rows stand shifted from the front, and as they are from n on. Assumes nothing.
+-- `tables::judge::clash_words`: after i turns the first i rows stand shifted from the front, and as they are from n on. Assumes nothing.
 use mathlib.Core.Path.{_≡_, sym, ap, _∙_, subst}
 use mathlib.Core.Logic.{_≢_}
 use mathlib.Core.List.{List, _++_, map}
@@ -7,16 +7,13 @@ use native.Mathlib.Decide.{decLt, ℕ-discrete}
 use native.Mathlib.Omega.{arith}
 use borrow.Author.Needs.{needs}
 use lib.ListN.{length, getD, set, take, length-append, length-map, length-set, List·getD-append, List·getD-map}
-use lib.Seq.{ext-getD, getD-take, getD-append-add, getD-set-same, getD-set-other, length-take-le, lt-length-set}
+use lib.Seq.{ext-getD, getD-take, getD-append-add, getD-set-same, getD-set-other, length-take-le}
 use Rattle.span.specs.Word.{shifted}
-use Rattle.span.specs.Combination.{counted}
-use Rattle.span.specs.Relation.{leastRelation}
 use Rattle.span.proofs.Laws.{shifted-zero}
 use Rattle.tables.specs.Table.{codeRows}
-use Rattle.tables.proofs.Clash.{clashWords, clash-counted}
 use Rattle.tables.proofs.Fit.{code-length}
-use Rattle.tables.proofs.judge.relation.Statement.{statement}
-use Rattle.tables.proofs.judge.relation.Tie as tie
+use Rattle.tables.proofs.judge.clash_words.Statement.{statement}
+use Rattle.tables.proofs.judge.clash_words.Tie as tie
 
 abbrev Filled : ℕ → ℕ → ℕ → List ℕ → ℕ → List ℕ → Type 0
 Filled n N l rows i words =
@@ -38,7 +35,7 @@ filled-more n N l rows i words s r h room es er f k below = go (ℕ-discrete k i
         let other : k ≢ n + i = omega arith in
         let same : n + k ≡ n + i = omega arith in
         let here : k < length words = omega arith in
-        let there = lt-length-set words i s room in (
+        let there : n + i < length (set words i s) = simp length-set room in (
           getD-set-other (set words i s) (n + i) k r 0 other ∙ ap (λ (j : ℕ). getD (set words i s) j 0) e
               ∙ getD-set-same words i s 0 (omega arith) ∙ es ∙ ap (shifted N l) (er ∙ ap (λ (j : ℕ). getD rows j 0) (sym e)),
           ap (λ (j : ℕ). getD (set (set words i s) (n + i) r) j 0) same ∙ getD-set-same (set words i s) (n + i) r 0 there
@@ -79,15 +76,6 @@ map-at : (N l : ℕ) (rows : List ℕ) (k : ℕ) → getD (map (shifted N l) row
 map-at N l rows k =
     ap (getD (map (shifted N l) rows) k) (sym (shifted-zero N l)) ∙ List·getD-map (shifted N l) rows k 0
 
--- the words laid out have the relation asked for
-laid-out : (n N l : ℕ) (rows words : List ℕ) → length rows ≡ n → n ≤ 16 → length words ≡ 32 → Filled n N l rows n words
-    → leastRelation (counted (n + n) words) n ≡ leastRelation (clashWords N rows l) n
-laid-out n N l rows words size to long f =
-    clash-counted N rows l n words
-    (halves n words (map (shifted N l) rows) rows (length-map rows (shifted N l) ∙ size) size (omega arith)
-    (λ k h. let e = f k h in (e .0 ∙ sym (map-at N l rows k), e .1)))
-    size to
-
 loop-holds : tie.Need-loop-holds Inv-loop μ-loop
 loop-holds c = search needs
 
@@ -125,31 +113,22 @@ loop-again c =
     let a = l .before .before .args in
     let span : min (a .span) 64 ≡ a .span = omega arith in (
       omega arith,
-      length-set (set (l .loop .words) (l .loop .i) (c .shift .result)) (a .n + l .loop .i) (r .code-row .result) ∙ length-set (l .loop .words) (l .loop .i) (c .shift .result)
-          ∙ l .loop .inv .1,
+      simp length-set (l .loop .inv .1),
       filled-more (a .n) (a .span) (a .l) (codeRows (a .n) (a .rows .now)) (l .loop .i) (l .loop .words) (c .shift .result) (r .code-row .result)
           (omega arith) (omega arith) (c .shift .ensures ∙ ap (λ (N : ℕ). shifted N (a .l) (r .code-row .result)) span) (r .code-row .ensures) (l .loop .inv .2),
     )
 
-slice-aggregate-least-relation : tie.Need-slice-aggregate-least-relation Inv-loop μ-loop
-slice-aggregate-least-relation c = search needs
-
-add-least-relation : tie.Need-add-least-relation Inv-loop μ-loop
-add-least-relation c = search needs
-
-least-relation-requires : tie.Need-least-relation-requires Inv-loop μ-loop
-least-relation-requires c κs = search needs
-
 returns : tie.Need-returns Inv-loop μ-loop
 returns c =
-    let l = c .before .before .before in
+    let l = c .before in
     let a = l .before .before .args in
-    let size = code-length (a .n) (a .rows .now) (omega arith) (omega arith) in
-    c .least-relation .ensures
-    ∙ laid-out (a .n) (a .span) (a .l) (codeRows (a .n) (a .rows .now)) (l .loop .words) size (omega arith) (l .loop .inv .1) (λ k h. l .loop .inv .2 k (omega arith))
+    let R = codeRows (a .n) (a .rows .now) in
+    let size : length R ≡ a .n = code-length (a .n) (a .rows .now) (omega arith) (omega arith) in
+    halves (a .n) (l .loop .words) (map (shifted (a .span) (a .l)) R) R (length-map R (shifted (a .span) (a .l)) ∙ size) size (omega arith)
+    (λ k h. let f = l .loop .inv .2 k (omega arith) in (f .0 ∙ sym (map-at (a .span) (a .l) R k), f .1))
 
-pub relation-spec : {M : Type 1} → statement M
-relation-spec =
+pub clash-words-spec : {M : Type 1} → statement M
+clash-words-spec =
     tie.close
     (tie.spec
     Inv-loop
@@ -165,7 +144,4 @@ relation-spec =
     add-i
     loop-less
     loop-again
-    slice-aggregate-least-relation
-    add-least-relation
-    least-relation-requires
     returns)
