@@ -2,18 +2,21 @@
 use mathlib.Core.Path.{_≡_, _∙_}
 use mathlib.Core.List.{List}
 use Prim.Native.Nat.{ℕ}
+use native.Mathlib.Omega.{arith}
 use lib.ListN.{length}
 use Rattle.tables.specs.declared.table.Table.{Table}
 use Rattle.tables.specs.Table.{zeroTable}
 use Rattle.tables.specs.Lent.{withRows, lent}
 use Rattle.tables.proofs.Laws.{zero-unfit}
-use Rattle.tables.proofs.Lent.{lent-taken}
+use Rattle.tables.proofs.Lent.{lent-held}
 use Rattle.link.specs.Coder.{coderFault}
 use Rattle.link.specs.Decoder.{decoderFault}
 use Rattle.link.proofs.Faults.{coder-fault, decoder-fault}
 
 pub code-lent-taken : (t : Table) (rows s : List ℕ) (b : ℕ) → coderFault (lent t rows) s b ≡ 0 → (lent t rows ≡ withRows t rows) × (length rows ≡ 15)
-code-lent-taken t rows s b = lent-taken t rows (λ (u : Table). coderFault u s b) (coder-fault zeroTable s b ∙ simp zero-unfit)
+code-lent-taken t rows s b =
+    lent-held t rows (λ (u : Table). coderFault u s b ≡ 0) (λ z. let e : coderFault zeroTable s b ≡ 12 = coder-fault zeroTable s b ∙ simp zero-unfit in omega arith)
 
 pub decode-lent-taken : (t : Table) (rows s : List ℕ) (r : ℕ) → decoderFault (lent t rows) s r ≡ 0 → (lent t rows ≡ withRows t rows) × (length rows ≡ 15)
-decode-lent-taken t rows s r = lent-taken t rows (λ (u : Table). decoderFault u s r) (decoder-fault zeroTable s r ∙ simp zero-unfit)
+decode-lent-taken t rows s r =
+    lent-held t rows (λ (u : Table). decoderFault u s r ≡ 0) (λ z. let e : decoderFault zeroTable s r ≡ 12 = decoder-fault zeroTable s r ∙ simp zero-unfit in omega arith)

@@ -1,5 +1,5 @@
 -- A table whose rows are lent beside it: fifteen rows, or the zero table, which 12 refuses. Assumes nothing.
-use mathlib.Core.Path.{_≡_, refl}
+use mathlib.Core.Path.{_≡_, refl, sym, ap, _∙_}
 use mathlib.Core.Bool.{Bool, true, false, _&&_}
 use mathlib.Core.Logic.{_≢_}
 use mathlib.Core.List.{List}
@@ -24,7 +24,7 @@ lent-none t rows e = rw (ne-eqb (length rows) 15 e, lent)
 pub lent-rows : LENT
 lent-rows t rows = (lent-fifteen t rows, lent-none t rows, refl, lent-fifteen t (t .rows))
 
--- 12 refuses any other count, so a table that is fit has fifteen
+-- 12 refuses any other count
 pub lent-fit : (t : Table) (rows : List ℕ) → fit (lent t rows) ≡ (eqb (length rows) 15 && fit (withRows t rows))
 unfolding lent
 lent-fit t rows = go (eqb (length rows) 15)
@@ -33,22 +33,20 @@ lent-fit t rows = go (eqb (length rows) 15)
     go true = refl
     go false = zero-unfit
 
-pub fit-lent : (t : Table) (rows : List ℕ) → fit (lent t rows) ≡ true → (lent t rows ≡ withRows t rows) × (fit (withRows t rows) ≡ true)
+-- what the zero table has not, a table has only with fifteen rows
+pub lent-held : (t : Table) (rows : List ℕ) (P : Table → Type 0) → (P zeroTable → ⊥) → P (lent t rows) → (lent t rows ≡ withRows t rows) × (length rows ≡ 15)
 unfolding lent
-fit-lent t rows f = go (eqb (length rows) 15) f
+lent-held t rows P none held = go (eqb (length rows) 15) refl held
   where
-    go : (b : Bool) → fit (elim b [ true ↦ withRows t rows | false ↦ zeroTable ]) ≡ true
-        → (elim b [ true ↦ withRows t rows | false ↦ zeroTable ] ≡ withRows t rows) × (fit (withRows t rows) ≡ true)
-    go true e = (refl, e)
-    go false e = let no = zero-unfit in let z : _≡_ {A = ℕ} 0 1 = cc in absurd (omega arith)
-
--- and so has one that no refusal applies to
-pub lent-taken : (t : Table) (rows : List ℕ) (fault : Table → ℕ) → fault zeroTable ≡ 12 → fault (lent t rows) ≡ 0
-    → (lent t rows ≡ withRows t rows) × (length rows ≡ 15)
-unfolding lent
-lent-taken t rows fault none taken = go (eqb (length rows) 15) refl taken
-  where
-    go : (b : Bool) → eqb (length rows) 15 ≡ b → fault (elim b [ true ↦ withRows t rows | false ↦ zeroTable ]) ≡ 0
+    go : (b : Bool) → eqb (length rows) 15 ≡ b → P (elim b [ true ↦ withRows t rows | false ↦ zeroTable ])
         → (elim b [ true ↦ withRows t rows | false ↦ zeroTable ] ≡ withRows t rows) × (length rows ≡ 15)
-    go true e z = (refl, eqb-true (length rows) 15 e)
-    go false e z = absurd (omega arith)
+    go true e p = (refl, eqb-true (length rows) 15 e)
+    go false e p = absurd (none p)
+
+never-fit : fit zeroTable ≡ true → ⊥
+never-fit e = let no = zero-unfit in let z : _≡_ {A = ℕ} 0 1 = cc in omega arith
+
+pub fit-lent : (t : Table) (rows : List ℕ) → fit (lent t rows) ≡ true → (lent t rows ≡ withRows t rows) × (fit (withRows t rows) ≡ true)
+fit-lent t rows f =
+    let k = lent-held t rows (λ (u : Table). fit u ≡ true) never-fit f in
+    (k .0, sym (ap fit (k .0)) ∙ f)
