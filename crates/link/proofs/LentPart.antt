@@ -2,19 +2,22 @@
 -- nothing.
 --
 --   lent-part    the part after the step
---   lent-info, lent-mark   information and mark of the record
+--   lent-record  the record
 --   lent-memory  the memory with that part in its place
+--   lent-next    and with fill and turn after it
 use mathlib.Core.Path.{_≡_, sym, ap, ap₂, _∙_}
 use mathlib.Core.List.{List}
 use Prim.Native.Nat.{ℕ, _+_, _-_, _≤_, _<_}
 use native.Mathlib.Nat.{add-zero}
 use native.Mathlib.Omega.{arith}
 use borrow.Rule.Slice.PartMut.{midOf, putMid}
-use lib.ListN.{length, getD, drop}
+use lib.ListN.{length, getD, set, drop}
 use Rattle.tables.specs.declared.table.Table.{Table}
-use Rattle.link.specs.Stream.{streamNext, streamInfo, streamMark}
+use Rattle.link.specs.declared.decoder.Mark.{Mark}
+use Rattle.link.specs.declared.decoder.Delivered.{Delivered}
+use Rattle.link.specs.Stream.{streamNext, streamInfo, streamMark, nextTurn}
 use Rattle.link.specs.Coder.{turnOf}
-use Rattle.link.specs.Decoder.{streamAt, pendingOf, syndromeOf, delayedOf, partNext, streamReplaced, delivered}
+use Rattle.link.specs.Decoder.{streamAt, pendingOf, syndromeOf, delayedOf, fillOf, partNext, streamReplaced, fillNext, decoderNext, delivered}
 use Rattle.link.proofs.Parts.{mid-word, mid-drop, put-part}
 
 module _ (t : Table) (s : List ℕ) (r : ℕ) (span-from : 2 ≤ t .span) (room : streamAt t (turnOf s) + (t .span + 1) ≤ length s) where
@@ -46,16 +49,28 @@ module _ (t : Table) (s : List ℕ) (r : ℕ) (span-from : 2 ≤ t .span) (room 
       ∙ ap (λ (l : List ℕ). streamNext (t .symbols) (t .span) (t .rows) (pendingOf t s (turnOf s)) (syndromeOf t s (turnOf s)) l r)
       (mid-drop s at end 3 (omega arith) room)
 
-  pub lent-info : streamInfo (t .symbols) (t .span) (t .rows) (getD part 0 0) (getD part 1 0) (getD part 2 0) r ≡ delivered t s r .info
+  pub lent-record : (d : Delivered)
+      → d .info ≡ streamInfo (t .symbols) (t .span) (t .rows) (getD part 0 0) (getD part 1 0) (getD part 2 0) r
+      → d .mark ≡ streamMark (t .symbols) (t .span) (t .rows) (getD part 0 0) (getD part 1 0) r
+      → d ≡ delivered t s r
   unfolding delivered
-  lent-info =
-      ap₂ (λ (p q : ℕ). streamInfo (t .symbols) (t .span) (t .rows) p q (getD part 2 0) r) pending-is syndrome-is
-      ∙ ap (λ (o : ℕ). streamInfo (t .symbols) (t .span) (t .rows) (pendingOf t s (turnOf s)) (syndromeOf t s (turnOf s)) o r) oldest-is
+  lent-record d e g =
+      ap₂ (λ (i : ℕ) (m : Mark). record { info = i; mark = m }) e g
+      ∙ ap₂ (λ (p q : ℕ). record {
+        info = streamInfo (t .symbols) (t .span) (t .rows) p q (getD part 2 0) r;
+        mark = streamMark (t .symbols) (t .span) (t .rows) p q r;
+      }) pending-is syndrome-is
+      ∙ ap (λ (o : ℕ). record {
+        info = streamInfo (t .symbols) (t .span) (t .rows) (pendingOf t s (turnOf s)) (syndromeOf t s (turnOf s)) o r;
+        mark = streamMark (t .symbols) (t .span) (t .rows) (pendingOf t s (turnOf s)) (syndromeOf t s (turnOf s)) r;
+      }) oldest-is
 
-  pub lent-mark : streamMark (t .symbols) (t .span) (t .rows) (getD part 0 0) (getD part 1 0) r ≡ delivered t s r .mark
-  unfolding delivered
-  lent-mark = ap₂ (λ (p q : ℕ). streamMark (t .symbols) (t .span) (t .rows) p q r) pending-is syndrome-is
+  module _ (last : List ℕ) (e : last ≡ streamNext (t .symbols) (t .span) (t .rows) (getD part 0 0) (getD part 1 0) (drop 3 part) r) where
+    pub lent-memory : putMid at (end - at) s last ≡ streamReplaced t s r
+    lent-memory = ap (putMid at (end - at) s) (e ∙ lent-part) ∙ put-part s (partNext t s r) at end (omega arith)
 
-  pub lent-memory : (last : List ℕ) → last ≡ streamNext (t .symbols) (t .span) (t .rows) (getD part 0 0) (getD part 1 0) (drop 3 part) r
-      → putMid at (end - at) s last ≡ streamReplaced t s r
-  lent-memory last e = ap (putMid at (end - at) s) (e ∙ lent-part) ∙ put-part s (partNext t s r) at end (omega arith)
+    pub lent-next : (fill turn : ℕ) → fill ≡ fillNext t (fillOf s) → turn ≡ nextTurn (t .depth) (turnOf s)
+        → set (set (putMid at (end - at) s last) 1 fill) 0 turn ≡ decoderNext t s r
+    unfolding decoderNext
+    lent-next fill turn f u =
+        ap (λ (m : List ℕ). set (set m 1 fill) 0 turn) lent-memory ∙ ap₂ (λ (i j : ℕ). set (set (streamReplaced t s r) 1 i) 0 j) f u

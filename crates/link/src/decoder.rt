@@ -234,39 +234,20 @@ fn next_fill(delay: u64, fill: u64) -> u64
     if fill < delay { fill + 1 } else { fill }
 }
 
-// One block of the turn's stream: its part is lent on.
-fn decode_stream(t: Table, rows: &[u64], state: &mut [u64], received: u64) -> Delivered
-    requires { ⌜ (decoderFault (withRows t (now rows)) (now state) received ≡ 0) × (length (now rows) ≡ 15) ⌝ }
-    ensures record { λ r. ⌜ r ≡ delivered (withRows t (now (rows .entry))) (now (state .entry)) received ⌝ }
-    ensures memory { λ r. ⌜ now (state .exit) ≡ streamReplaced (withRows t (now (rows .entry))) (now (state .entry)) received ⌝ }
-{
-    let turn = state[0] as usize;
-    let span = t.span;
-    let at = 2 + turn * (span + 1);
-    let end = at + (span + 1);
-    step(&mut state[at..end], rows, t.symbols, span, received)
-}
-
-// Fill and turn advance.
-fn advance(state: &mut [u64], depth: u64, delay: u64)
-    requires { ⌜ (2 ≤ length (now state)) × (getD (now state) 0 0 < depth) ⌝ }
-    ensures { λ r. ⌜ now (state .exit) ≡ set (set (now (state .entry)) 1 (cond (ltb (getD (now (state .entry)) 1 0) delay) (getD (now (state .entry)) 1 0 + 1) (getD (now (state .entry)) 1 0))) 0 (nextTurn depth (getD (now (state .entry)) 0 0)) ⌝ }
-{
-    let turn = state[0];
-    state[1] = next_fill(delay, state[1]);
-    state[0] = next_turn(depth, turn);
-}
-
-// A step that no refusal applies to.
+// A step that no refusal applies to: the turn's stream is lent on, and fill and turn advance.
 fn taken(t: Table, rows: &[u64], state: &mut [u64], received: u64) -> DecodeAnswer
     requires { ⌜ (decoderFault (withRows t (now rows)) (now state) received ≡ 0) × (length (now rows) ≡ 15) ⌝ }
     ensures answer { λ r. ⌜ r ≡ delivery (withRows t (now (rows .entry))) (now (state .entry)) received ⌝ }
     ensures memory { λ r. ⌜ now (state .exit) ≡ decoderNext (withRows t (now (rows .entry))) (now (state .entry)) received ⌝ }
 {
-    let delay = (t.depth * (t.span - 1)) as u64;
+    let turn = state[0];
     let fill = state[1];
-    let d = decode_stream(t, rows, state, received);
-    advance(state, t.depth as u64, delay);
+    let at = 2 + (turn as usize) * (t.span + 1);
+    let end = at + (t.span + 1);
+    let d = step(&mut state[at..end], rows, t.symbols, t.span, received);
+    let delay = (t.depth * (t.span - 1)) as u64;
+    state[1] = next_fill(delay, fill);
+    state[0] = next_turn(t.depth as u64, turn);
     if fill < delay {
         DecodeAnswer::NothingYet
     } else {

@@ -5,19 +5,16 @@ use Prim.Native.Nat.{ℕ, _-_, _/_, _^_, _≤_, _<_}
 use native.Mathlib.Nat.{mod-lt}
 use native.Mathlib.Omega.{arith}
 use borrow.Author.Needs.{needs}
-use lib.Bits.{xor-lt}
+use lib.Bits.{bitXor, xor-lt}
 use lib.ListN.{length, getD, set, take, drop, length-set, length-append, length-drop}
 use lib.Pow.{pow-pos, pow-mono}
 use Rattle.span.specs.Word.{_⊕_}
 use Rattle.span.proofs.Laws.{xor-code}
 use Rattle.tables.specs.Table.{codeRows}
-use Rattle.link.specs.Stream.{joining, information, rawTerm, register, streamJoining, streamNext, found, errorOf, keptOf, markOf}
+use Rattle.link.specs.declared.decoder.Mark.{Mark}
+use Rattle.link.specs.Stream.{joining, information, rawTerm, register, streamJoining, streamRegister, streamFound, streamNext, streamInfo, streamMark, found, errorOf, keptOf, markOf}
 use Rattle.link.proofs.decoder.step.Statement.{statement}
 use Rattle.link.proofs.decoder.step.Tie as tie
-
--- the word that joins
-joined : (n : ℕ) (rows : List ℕ) (p r i w : ℕ) → i ≡ information n r → w ≡ joining (take (n - 1) rows) p i → w ≡ streamJoining n rows p r
-joined n rows p r i w e h = h ∙ ap (joining (take (n - 1) rows) p) e
 
 -- two words written, and the delayed blocks moved
 pushed : (part last : List ℕ) (a b y : ℕ) → 3 ≤ length part → last ≡ take 2 (set (set part 0 a) 1 b) ++ (drop 3 (set (set part 0 a) 1 b) ++ (y ∷ []))
@@ -25,6 +22,32 @@ pushed : (part last : List ℕ) (a b y : ℕ) → 3 ≤ length part → last ≡
 pushed [] last a b y h e = absurd (omega arith)
 pushed (u ∷ []) last a b y h e = absurd (omega arith)
 pushed (u ∷ v ∷ part) last a b y h e = e
+
+-- the four lines, in plain terms: information, the word that joins and the register, and what follows from the error found
+module _ (n N : ℕ) (rows part : List ℕ) (r i w x : ℕ) (low : i ≡ information n r) (joins : w ≡ joining (take (n - 1) rows) (getD part 0 0) i)
+    (topped : x ≡ register N (getD part 1 0) (rawTerm w n r)) where
+  joined : w ≡ streamJoining n rows (getD part 0 0) r
+  joined = joins ∙ ap (joining (take (n - 1) rows) (getD part 0 0)) low
+
+  judged : x ≡ streamRegister n N rows (getD part 0 0) (getD part 1 0) r
+  judged = topped ∙ ap (λ (y : ℕ). register N (getD part 1 0) (rawTerm y n r)) joined
+
+  part-is : 3 ≤ length part → (kept : ℕ) → kept ≡ keptOf (found (codeRows n rows) x) x → (last : List ℕ)
+      → last ≡ take 2 (set (set part 0 (w / 2)) 1 kept) ++ (drop 3 (set (set part 0 (w / 2)) 1 kept) ++ (i ∷ []))
+      → last ≡ streamNext n N rows (getD part 0 0) (getD part 1 0) (drop 3 part) r
+  part-is h kept k last e =
+      pushed part last (w / 2) kept i h e
+      ∙ ap₂ (λ (y z : ℕ). y / 2 ∷ z ∷ (drop 3 part ++ (i ∷ []))) joined (k ∙ ap (λ (y : ℕ). keptOf (found (codeRows n rows) y) y) judged)
+      ∙ ap (λ (j : ℕ). streamJoining n rows (getD part 0 0) r / 2 ∷ keptOf (streamFound n N rows (getD part 0 0) (getD part 1 0) r) (streamRegister n N rows (getD part 0 0) (getD part 1 0) r) ∷ (drop 3 part ++ (j ∷ []))) low
+
+  info-is : (error corrected : ℕ) → error ≡ errorOf (found (codeRows n rows) x) → corrected ≡ information n error
+      → bitXor (getD part 2 0) corrected ≡ streamInfo n N rows (getD part 0 0) (getD part 1 0) (getD part 2 0) r
+  info-is error corrected e c =
+      xor-code (getD part 2 0) corrected
+      ∙ ap (λ (y : ℕ). getD part 2 0 ⊕ y) (c ∙ ap (information n) (e ∙ ap (λ (y : ℕ). errorOf (found (codeRows n rows) y)) judged))
+
+  mark-is : (m : Mark) → m ≡ markOf (found (codeRows n rows) x) x → m ≡ streamMark n N rows (getD part 0 0) (getD part 1 0) r
+  mark-is m e = e ∙ ap (λ (y : ℕ). markOf (found (codeRows n rows) y) y) judged
 
 information-requires : tie.Need-information-requires
 information-requires c κs = search needs
@@ -77,39 +100,40 @@ cast-t23 c =
     record { fits = omega arith }
 
 -- the part as it comes back
-part-is : (c : tie.After-information2)
+part-next : (c : tie.After-information2)
     → let a = c .before .before .before .before .before .before .before .before .before .before .before .before .before .before .before .args in
     c .before .before .before .push .last .0 ≡ streamNext (a .n) (a .span) (a .rows .now) (getD (a .part .now) 0 0) (getD (a .part .now) 1 0) (drop 3 (a .part .now)) (a .received)
-part-is c =
+part-next c =
     let a = c .before .before .before .before .before .before .before .before .before .before .before .before .before .before .before .args in
-    let p = a .part .now in
-    let R = codeRows (a .n) (a .rows .now) in
-    let w = joined (a .n) (a .rows .now) (getD p 0 0) (a .received) (c .before .before .before .before .before .before .before .before .before .before .before .before .information .result) (c .before .before .before .before .before .before .before .before .before .before .joining .result) (c .before .before .before .before .before .before .before .before .before .before .before .before .information .ensures)
-    (c .before .before .before .before .before .before .before .before .before .before .joining .ensures) in
-    let x = c .before .before .before .before .before .before .before .before .register .ensures ∙ ap (λ (y : ℕ). register (a .span) (getD p 1 0) (rawTerm y (a .n) (a .received))) w in
-    pushed p (c .before .before .before .push .last .0) (c .before .before .before .before .before .before .before .before .before .before .joining .result / 2) (c .before .before .before .before .before .before .before .judge .result .kept) (c .before .before .before .before .before .before .before .before .before .before .before .before .information .result) (omega arith) (c .before .before .before .push .ensures)
-    ∙ ap (λ (y : ℕ). y / 2 ∷ c .before .before .before .before .before .before .before .judge .result .kept ∷ (drop 3 p ++ (c .before .before .before .before .before .before .before .before .before .before .before .before .information .result ∷ []))) w
-    ∙ ap₂ (λ (k i : ℕ). streamJoining (a .n) (a .rows .now) (getD p 0 0) (a .received) / 2 ∷ k ∷ (drop 3 p ++ (i ∷ [])))
-    (c .before .before .before .before .before .before .before .judge .ensures .1 .0 ∙ ap (λ (y : ℕ). keptOf (found R y) y) x) (c .before .before .before .before .before .before .before .before .before .before .before .before .information .ensures)
+    let i = c .before .before .before .before .before .before .before .before .before .before .before .before .information in
+    let w = c .before .before .before .before .before .before .before .before .before .before .joining in
+    let x = c .before .before .before .before .before .before .before .before .register in
+    let v = c .before .before .before .before .before .before .before .judge in
+    let p = c .before .before .before .push in
+    let size = c .before .before .before .before .before .before .before .before .before .before .before .before .before .before .before .pre .0 in
+    let from = c .before .before .before .before .before .before .before .before .before .before .before .before .before .before .before .pre .3 in
+    part-is (a .n) (a .span) (a .rows .now) (a .part .now) (a .received) (i .result) (w .result) (x .result) (i .ensures) (w .ensures) (x .ensures) (omega arith)
+    (v .result .kept) (v .ensures .1 .0) (p .last .0) (p .ensures)
 
 same-length : tie.Need-same-length
 same-length c =
     let a = c .before .before .before .before .before .before .before .before .before .before .before .before .before .before .before .args in
     let l = length-append (drop 3 (a .part .now)) (information (a .n) (a .received) ∷ []) in
     let d = length-drop 3 (a .part .now) in
-    ap length (part-is c) ∙ omega arith
+    ap length (part-next c) ∙ omega arith
 
 returns : tie.Need-returns
 returns c =
     let a = c .before .before .before .before .before .before .before .before .before .before .before .before .before .before .before .args in
-    let p = a .part .now in
-    let R = codeRows (a .n) (a .rows .now) in
-    let w = joined (a .n) (a .rows .now) (getD p 0 0) (a .received) (c .before .before .before .before .before .before .before .before .before .before .before .before .information .result) (c .before .before .before .before .before .before .before .before .before .before .joining .result) (c .before .before .before .before .before .before .before .before .before .before .before .before .information .ensures)
-    (c .before .before .before .before .before .before .before .before .before .before .joining .ensures) in
-    let x = c .before .before .before .before .before .before .before .before .register .ensures ∙ ap (λ (y : ℕ). register (a .span) (getD p 1 0) (rawTerm y (a .n) (a .received))) w in (
-      xor-code (getD p 2 0) (c .information2 .result)
-          ∙ ap (λ (y : ℕ). getD p 2 0 ⊕ y) (c .information2 .ensures ∙ ap (information (a .n)) (c .before .before .before .before .before .before .before .judge .ensures .0 ∙ ap (λ (y : ℕ). errorOf (found R y)) x)),
-      (c .before .before .before .before .before .before .before .judge .ensures .1 .1 ∙ ap (λ (y : ℕ). markOf (found R y) y) x, part-is c),
+    let i = c .before .before .before .before .before .before .before .before .before .before .before .before .information in
+    let w = c .before .before .before .before .before .before .before .before .before .before .joining in
+    let x = c .before .before .before .before .before .before .before .before .register in
+    let v = c .before .before .before .before .before .before .before .judge in (
+      info-is (a .n) (a .span) (a .rows .now) (a .part .now) (a .received) (i .result) (w .result) (x .result) (i .ensures) (w .ensures) (x .ensures) (v .result .error) (c .information2 .result) (v .ensures .0) (c .information2 .ensures),
+      (
+        mark-is (a .n) (a .span) (a .rows .now) (a .part .now) (a .received) (i .result) (w .result) (x .result) (i .ensures) (w .ensures) (x .ensures) (v .result .mark) (v .ensures .1 .1),
+        part-next c,
+      ),
     )
 
 pub step-spec : {M : Type 1} → statement M

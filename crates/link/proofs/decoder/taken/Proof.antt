@@ -1,85 +1,163 @@
--- `link::decoder::taken`: the turn's stream, then fill and turn. Assumes nothing.
-use mathlib.Core.Path.{_≡_, sym, ap, ap₂, _∙_}
-use mathlib.Core.Bool.{Bool, true, false, cond}
-use mathlib.Core.List.{List}
-use Prim.Native.Nat.{ℕ, _+_, _-_}
+-- `link::decoder::taken`: the turn's part as the step leaves it; around it nothing changes but fill and turn. Assumes nothing.
+use mathlib.Core.Path.{_≡_, ap, _∙_}
+use Prim.Native.Nat.{_+_, _-_, _≤_}
 use native.Mathlib.Omega.{arith}
 use borrow.Author.Needs.{needs}
 use borrow.Author.Tests.{lt-ltb, le-ltb}
+use borrow.Rule.Slice.PartMut.{mid-len, putMid}
 use lib.Dec.{ltb}
-use lib.ListN.{length, set}
-use Rattle.link.specs.declared.decoder.Delivered.{Delivered}
-use Rattle.link.specs.declared.decoder.DecodeAnswer.{DecodeAnswer}
-use Rattle.link.specs.declared.decoder.DecodeAnswer.the-variants.{Delivery, NothingYet}
-use Rattle.link.specs.Stream.{nextTurn}
-use Rattle.link.specs.Coder.{turnOf}
-use Rattle.link.specs.Decoder.{fillOf, delayOf, streamReplaced, decoderNext, delivered, delivery}
-use Rattle.link.proofs.Memory.{decoder-taken, replaced-front}
-use Rattle.link.proofs.Room.{fit-room, turn-room}
+use lib.ListN.{length, set, length-set}
+use Rattle.tables.specs.declared.table.Table.{Table}
 use Rattle.tables.specs.Lent.{withRows}
+use Rattle.link.specs.declared.decoder.DecodeAnswer.the-variants.{Delivery, NothingYet}
+use Rattle.link.specs.Coder.{turnOf}
+use Rattle.link.specs.Decoder.{fillOf, delayOf, streamAt, decoderNext, delivered, delivery}
+use Rattle.link.proofs.Faults.{picked, passed}
+use Rattle.link.proofs.Memory.{DecoderTaken, decoder-taken, replaced-front}
+use Rattle.link.proofs.Room.{fit-room, turn-room, oldest-lt}
+use Rattle.link.proofs.LentPart.{syndrome-is, oldest-is, lent-record, lent-memory, lent-next}
 use Rattle.link.proofs.decoder.taken.Statement.{statement}
 use Rattle.link.proofs.decoder.taken.Tie as tie
 
-abbrev advanced : ℕ → ℕ → List ℕ → List ℕ
-advanced depth delay s = set (set s 1 (cond (ltb (fillOf s) delay) (fillOf s + 1) (fillOf s))) 0 (nextTurn depth (turnOf s))
+abbrev table : tie.Start → Table
+table c = withRows (c .args .t) (c .args .rows .now)
 
-abbrev answer : Bool → Delivered → DecodeAnswer
-answer b d = elim b [ true ↦ NothingYet | false ↦ Delivery d ]
+-- what the tests of the step said
+tests : (c : tie.Start) → DecoderTaken (table c) (c .args .state .now) (c .args .received)
+tests c = decoder-taken (table c) (c .args .state .now) (c .args .received) (c .pre .0)
+
+-- the turn's part lies inside, and nothing overflows
+room : (c : tie.Start)
+    → (2 ≤ c .args .t .span) × (streamAt (table c) (turnOf (c .args .state .now)) + (c .args .t .span + 1) ≤ length (c .args .state .now))
+    × (length (c .args .state .now) ≤ 4162) × (delayOf (table c) ≤ 4096)
+room c =
+    let k = tests c in
+    let most = fit-room (table c) (k .sizes) in
+    let inside = turn-room (table c) (k .sizes) (turnOf (c .args .state .now)) (k .turn) in
+    let size = k .size in
+    (k .sizes .N-from, omega arith, omega arith, most .1)
+
+slice-read-turn : tie.Need-slice-read-turn
+slice-read-turn c =
+    let r = room (c .before .before .before) in
+    omega arith
+
+slice-read-fill : tie.Need-slice-read-fill
+slice-read-fill c =
+    let r = room (c .before .before .before .before) in
+    omega arith
+
+add-at : tie.Need-add-at
+add-at c =
+    let r = room (c .before .before .before .before .before) in
+    record { fits = omega arith }
+
+mul-at : tie.Need-mul-at
+mul-at c =
+    let r = room (c .before .before .before .before .before) in
+    record { fits = omega arith }
+
+add-at-2 : tie.Need-add-at-2
+add-at-2 c =
+    let r = room (c .before .before .before .before .before) in
+    record { fits = omega arith }
+
+add-end : tie.Need-add-end
+add-end c =
+    let r = room (c .before .before .before .before .before .before) in
+    record { fits = omega arith }
+
+add-end-2 : tie.Need-add-end-2
+add-end-2 c =
+    let r = room (c .before .before .before .before .before .before) in
+    record { fits = omega arith }
+
+mul-step : tie.Need-mul-step
+mul-step c =
+    let r = room (c .before .before .before .before .before .before) in
+    record { fits = omega arith }
+
+sub-step : tie.Need-sub-step
+sub-step c = search needs
+
+part-step-start : tie.Need-part-step-start
+part-step-start c = search needs
+
+part-step-end : tie.Need-part-step-end
+part-step-end c =
+    let r = room (c .before .before .before .before .before .before) in
+    omega arith
+
+step-requires : tie.Need-step-requires
+step-requires c κs =
+    let b = c .before .before .before .before .before .before .before in
+    let s = b .args .state .now in
+    let k = tests b in
+    let r = room b in
+    let at = streamAt (table b) (turnOf s) in
+    let size = mid-len at (at + (b .args .t .span + 1)) s (r .1) in (
+      omega arith,
+      k .sizes .n-from,
+      k .sizes .n-to,
+      k .sizes .N-from,
+      k .sizes .N-to,
+      (let n = k .sizes .n-to in omega arith),
+      rw (syndrome-is (table b) s (b .args .received) (r .0) (r .1)) (k .syndrome),
+      rw (oldest-is (table b) s (b .args .received) (r .0) (r .1)) (oldest-lt (table b) s (b .args .received) k),
+    )
 
 sub-delay : tie.Need-sub-delay
 sub-delay c =
-    let a = c .before .before .before .args in
-    let s = a .state .now in
-    let k = decoder-taken (withRows (a .t) (a .rows .now)) s (a .received) (c .before .before .before .pre .0) in
-    let z = k .sizes in
+    let r = room (c .before .before .before .before .before .before .before .before .before .before .before) in
     omega arith
 
 mul-delay : tie.Need-mul-delay
 mul-delay c =
-    let a = c .before .before .before .before .args in
-    let s = a .state .now in
-    let k = decoder-taken (withRows (a .t) (a .rows .now)) s (a .received) (c .before .before .before .before .pre .0) in
-    let z = k .sizes in
-    let room = fit-room (withRows (a .t) (a .rows .now)) z in
+    let r = room (c .before .before .before .before .before .before .before .before .before .before .before .before) in
     record { fits = omega arith }
 
-slice-read-fill : tie.Need-slice-read-fill
-slice-read-fill c =
-    let a = c .before .before .before .before .before .args in
-    let s = a .state .now in
-    let k = decoder-taken (withRows (a .t) (a .rows .now)) s (a .received) (c .before .before .before .before .before .pre .0) in
-    let inside = turn-room (withRows (a .t) (a .rows .now)) (k .sizes) (turnOf s) (k .turn) in
+next-fill-requires : tie.Need-next-fill-requires
+next-fill-requires c κs = search needs
+
+-- the memory as the part comes back is as long as it was
+long : (c : tie.After-step)
+    → let b = c .before .before .before .before .before .before .before .before in
+    let s = b .args .state .now in
+    let at = streamAt (table b) (turnOf s) in
+    2 ≤ length (putMid at (at + (b .args .t .span + 1) - at) s (c .step .last .0))
+long c =
+    let b = c .before .before .before .before .before .before .before .before in
+    let s = b .args .state .now in
+    let r = room b in
+    let m = lent-memory (table b) s (b .args .received) (r .0) (r .1) (c .step .last .0) (c .step .ensures .1 .1) in
+    omega (arith, ap length m, replaced-front (table b) s (b .args .received) (tests b) .0)
+
+slice-write-state : tie.Need-slice-write-state
+slice-write-state c =
+    let l = long (c .before .before .before .before .before) in
     omega arith
 
-decode-stream-requires : tie.Need-decode-stream-requires
-decode-stream-requires c κs = search needs
+next-turn-requires : tie.Need-next-turn-requires
+next-turn-requires c κs = search needs
 
-advance-requires : tie.Need-advance-requires
-advance-requires c κs =
-    let a = c .before .before .before .before .before .before .before .before .before .before .args in
-    let s = a .state .now in
-    let k = decoder-taken (withRows (a .t) (a .rows .now)) s (a .received) (c .before .before .before .before .before .before .before .before .before .before .pre .0) in
-    let m = c .before .before .before .decode-stream .ensures .1 in
-    let r = replaced-front (withRows (a .t) (a .rows .now)) s (a .received) k in
-    let inside = turn-room (withRows (a .t) (a .rows .now)) (k .sizes) (turnOf s) (k .turn) in
-    let l = ap length m in
-    let u = ap turnOf m in
-    let n = k .turn in
-    (omega arith, omega arith)
+slice-write-state-2 : tie.Need-slice-write-state-2
+slice-write-state-2 c =
+    let l = long (c .before .before .before .before .before .before) in
+    simp length-set (omega arith)
 
 -- fill and turn advance from what they were
-next-is : (c : tie.After-advance)
-    → let a = c .before .before .before .before .before .before .before .before .before .before .before .args in
-    c .advance .last .0 ≡ decoderNext (withRows (a .t) (a .rows .now)) (a .state .now) (a .received)
-unfolding decoderNext
+next-is : (c : tie.After-next-turn)
+    → let b = c .before .before .before .before .before .before .before .before .before .before .before .before .before .before in
+    let s = b .args .state .now in
+    let at = streamAt (table b) (turnOf s) in
+    set (set (putMid at (at + (b .args .t .span + 1) - at) s (c .before .before .before .before .before .before .step .last .0)) 1 (c .before .next-fill .result)) 0 (c .next-turn .result)
+    ≡ decoderNext (table b) s (b .args .received)
 next-is c =
-    let a = c .before .before .before .before .before .before .before .before .before .before .before .args in
-    let s = a .state .now in
-    let k = decoder-taken (withRows (a .t) (a .rows .now)) s (a .received) (c .before .before .before .before .before .before .before .before .before .before .before .pre .0) in
-    let P = streamReplaced (withRows (a .t) (a .rows .now)) s (a .received) in
-    let r = replaced-front (withRows (a .t) (a .rows .now)) s (a .received) k in
-    c .advance .ensures ∙ ap (advanced (a .t .depth) (delayOf (withRows (a .t) (a .rows .now)))) (c .before .before .before .before .decode-stream .ensures .1)
-    ∙ ap₂ (λ (f u : ℕ). set (set P 1 (cond (ltb f (delayOf (withRows (a .t) (a .rows .now)))) (f + 1) f)) 0 (nextTurn (a .t .depth) u)) (r .2) (r .1)
+    let b = c .before .before .before .before .before .before .before .before .before .before .before .before .before .before in
+    let r = room b in
+    let p = c .before .before .before .before .before .before .step in
+    lent-next (table b) (b .args .state .now) (b .args .received) (r .0) (r .1) (p .last .0) (p .ensures .1 .1)
+    (c .before .next-fill .result) (c .next-turn .result) (c .before .next-fill .ensures) (c .next-turn .ensures .0 (tests b .turn))
 
 same-length : tie.Need-same-length
 same-length c = search needs
@@ -87,9 +165,9 @@ same-length c = search needs
 returns : tie.Need-returns
 unfolding delivery
 returns c =
-    let a = c .before .before .before .before .before .before .before .before .before .before .before .before .before .before .args in
-    let s = a .state .now in
-    (ap (λ (b : Bool). answer b (delivered (withRows (a .t) (a .rows .now)) s (a .received))) (sym (lt-ltb (fillOf s) (delayOf (withRows (a .t) (a .rows .now))) (c .if1 .taken))), next-is (c .before .before .before))
+    let b = c .before .before .before .before .before .before .before .before .before .before .before .before .before .before .before in
+    let s = b .args .state .now in
+    (picked (ltb (fillOf s) (delayOf (table b))) NothingYet (Delivery (delivered (table b) s (b .args .received))) (lt-ltb (fillOf s) (delayOf (table b)) (c .if1 .taken)), next-is (c .before))
 
 same-length-2 : tie.Need-same-length-2
 same-length-2 c = search needs
@@ -97,22 +175,37 @@ same-length-2 c = search needs
 returns-2 : tie.Need-returns-2
 unfolding delivery
 returns-2 c =
-    let a = c .before .before .before .before .before .before .before .before .before .before .before .before .before .before .args in
-    let s = a .state .now in (
-      ap Delivery (c .before .before .before .before .before .before .before .decode-stream .ensures .0)
-          ∙ ap (λ (b : Bool). answer b (delivered (withRows (a .t) (a .rows .now)) s (a .received))) (sym (le-ltb (fillOf s) (delayOf (withRows (a .t) (a .rows .now))) (c .if1 .left))),
-      next-is (c .before .before .before),
+    let b = c .before .before .before .before .before .before .before .before .before .before .before .before .before .before .before in
+    let s = b .args .state .now in
+    let r = room b in
+    let p = c .before .before .before .before .before .before .before .step in (
+      ap Delivery (lent-record (table b) s (b .args .received) (r .0) (r .1) (p .result) (p .ensures .0) (p .ensures .1 .0))
+          ∙ passed (ltb (fillOf s) (delayOf (table b))) NothingYet (Delivery (delivered (table b) s (b .args .received))) (le-ltb (fillOf s) (delayOf (table b)) (c .if1 .left)),
+      next-is (c .before),
     )
 
 pub taken-spec : {M : Type 1} → statement M
 taken-spec =
     tie.close
     (tie.spec
+    slice-read-turn
+    slice-read-fill
+    add-at
+    mul-at
+    add-at-2
+    add-end
+    add-end-2
+    mul-step
+    sub-step
+    part-step-start
+    part-step-end
+    step-requires
     sub-delay
     mul-delay
-    slice-read-fill
-    decode-stream-requires
-    advance-requires
+    next-fill-requires
+    slice-write-state
+    next-turn-requires
+    slice-write-state-2
     same-length
     returns
     same-length-2
