@@ -92,8 +92,8 @@ returns c =
     let a = l .before .before .args in
     let known = l .before .shared-slice-known in (
       found (a .words .now) (a .end) (a .f) (l .loop .i) (l .before .before .pre) (λ j. omega (arith, known .given j)) (omega arith) (l .loop .b)
-          (l .loop .inv .2) (l .loop .inv .3) (r .reduce-by .result) (r .reduce-by .ensures) (omega arith) (c .before .before .before .if1 .taken)
-          (c .before .one-at .result) (c .before .one-at .ensures),
+          (l .loop .inv .2) (l .loop .inv .3) (r .reduce-by .result) (r .reduce-by .ensures) (omega arith) (c .before .if1 .taken)
+          (c .before .before .before .one-at .result) (c .before .before .before .one-at .ensures),
       λ e. absurd (found-some _ e),
     )
 
@@ -111,9 +111,6 @@ mul-b-2 c = search needs
 
 element-write-b-2 : tie.Need-element-write-b-2 Inv-loop μ-loop
 element-write-b-2 c = search needs
-
-one-at-requires-2 : tie.Need-one-at-requires-2 Inv-loop μ-loop
-one-at-requires-2 c κs = search needs
 
 mul-b-3 : tie.Need-mul-b-3 Inv-loop μ-loop
 mul-b-3 c = search needs
@@ -133,7 +130,8 @@ loop-less c = search needs
 loop-again : tie.Need-loop-again Inv-loop μ-loop
 unfolding _⊕_
 loop-again c =
-    let r = c .before in
+    let r = c .before .before .before in
+    let one = c .before .before .one-at in
     let l = r .before .before .before .before .before .before .before in
     let a = l .before .before .args in
     let known = l .before .shared-slice-known in
@@ -145,7 +143,7 @@ loop-again c =
     in
     ⊎-elim
     (λ w. (omega arith, (let e = ap (λ (b : Basis). b .size) (w .2) in omega arith), w .2 ∙ sym (next ∙ joined-passed (l .loop .i) (l .loop .b) (r .reduce-by .result) (w .0 .taken)), none (λ u e. omega arith)))
-    (λ w. (omega arith, (let e = ap (λ (b : Basis). b .size) (w .4) in omega arith), w .4 ∙ sym (next ∙ joined-stored (l .loop .i) (l .loop .b) (r .reduce-by .result) (w .1 .result) (w .2 .result) (w .0 .left) (w .1 .ensures) (w .2 .ensures)), none (λ u e. w .0 .left e)))
+    (λ w. (omega arith, (let e = ap (λ (b : Basis). b .size) (w .2) in omega arith), w .2 ∙ sym (next ∙ joined-stored (l .loop .i) (l .loop .b) (r .reduce-by .result) (w .1 .result) (one .result) (w .0 .left) (w .1 .ensures) (one .ensures)), none (λ u e. w .0 .left e)))
     (c .if1 .came)
 
 returns-2 : tie.Need-returns-2 Inv-loop μ-loop
@@ -173,7 +171,6 @@ eliminate-spec =
     lowest-one-requires
     mul-b-2
     element-write-b-2
-    one-at-requires-2
     mul-b-3
     element-write-b-3
     add-b
