@@ -1,7 +1,6 @@
 -- A decoding step on the turn's part is the step on the memory: `streamNext` and the record of the part are those of the turn's stream. Assumes
 -- nothing.
 --
---   lent-part    the part after the step
 --   lent-record  the record
 --   lent-memory  the memory with that part in its place
 --   lent-next    and with fill and turn after it
@@ -42,7 +41,7 @@ module _ (t : Table) (s : List ℕ) (r : ℕ) (span-from : 2 ≤ t .span) (room 
   pub oldest-is : getD part 2 0 ≡ delayedOf t s (turnOf s) 0
   oldest-is = word 2 (omega arith) ∙ ap (λ (i : ℕ). getD s i 0) (sym (add-zero (at + 2)))
 
-  pub lent-part : streamNext (t .symbols) (t .span) (t .rows) (getD part 0 0) (getD part 1 0) (drop 3 part) r ≡ partNext t s r
+  lent-part : streamNext (t .symbols) (t .span) (t .rows) (getD part 0 0) (getD part 1 0) (drop 3 part) r ≡ partNext t s r
   unfolding partNext
   lent-part =
       ap₂ (λ (p q : ℕ). streamNext (t .symbols) (t .span) (t .rows) p q (drop 3 part) r) pending-is syndrome-is

@@ -11,11 +11,11 @@ ghost use mathlib.Core.Bool.{true, cond, _||_};
 ghost use mathlib.Core.List.{List, [], _∷_, _++_};
 ghost use Prim.Native.Nat.{ℕ, _+_, _-_, _^_, _≤_, _<_};
 ghost use lib.Dec.{leb, ltb};
-ghost use lib.ListN.{length, getD, set, take, drop};
+ghost use lib.ListN.{length, getD, take, drop};
 ghost use Rattle.tables.specs.Lent.{withRows, lent};
 ghost use Rattle.tables.specs.Table.{codeRows, fit};
-ghost use Rattle.link.specs.Stream.{nextTurn, information, rawTerm, register, found, errorOf, keptOf, markOf, streamNext, streamInfo, streamMark};
-ghost use Rattle.link.specs.Decoder.{decoderWords, someAbove, decoderMalformed, decoderFault, streamReplaced, decoderNext, delivered, delivery, decodeAnswer, decodeMemory};
+ghost use Rattle.link.specs.Stream.{information, rawTerm, register, found, errorOf, keptOf, markOf, streamNext, streamInfo, streamMark};
+ghost use Rattle.link.specs.Decoder.{decoderWords, someAbove, decoderMalformed, decoderFault, decoderNext, delivery, decodeAnswer, decodeMemory};
 ghost use Rattle.link.specs.Answers.{decodeNumbers, decodeValues, Answered};
 
 pub enum Mark {

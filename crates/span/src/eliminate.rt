@@ -102,19 +102,19 @@ fn eliminate(words: &[u64], end: usize, f: usize) -> Eliminated
     while i < end {
         let r = reduce_by(b.size, &b.vectors, &b.checks, &b.coefficients, words[i]);
         let rest = r.rest;
-        let made_of = r.coefficients ^ one_at(i);
+        let coefficients = r.coefficients ^ one_at(i);
         if rest == 0 {
             if f <= i {
                 return Eliminated {
                     basis: b,
-                    found: Least::Found(made_of),
+                    found: Least::Found(coefficients),
                 };
             }
         } else {
             let at = b.size;
             b.vectors[at] = rest;
             b.checks[at] = lowest_one(rest);
-            b.coefficients[at] = made_of;
+            b.coefficients[at] = coefficients;
             b.size = at + 1;
         }
         i += 1;

@@ -18,7 +18,7 @@ use Rattle.tables.specs.Lent.{withRows}
 use Rattle.link.proofs.coder.taken.Statement.{statement}
 use Rattle.link.proofs.coder.taken.Tie as tie
 
--- the turn's part in plain terms: its word is the pending word; what the part gives is the parity, and with what it holds the memory is anew
+-- the turn's part, in plain terms: its word is the pending word, so that the parity and the memory that come of it are those of the step
 module _ (t : Table) (s : List ℕ) (b : ℕ) where
   abbrev at : ℕ
   at = 1 + turnOf s
