@@ -17,8 +17,10 @@ use Rattle.tables.specs.Reading.{numbers, Says}
 use Rattle.tables.specs.Written.{Whole}
 use Rattle.tables.specs.Made.{columns, triangleRows, making, madeNumbers}
 use Rattle.tables.proofs.Laws.{refused-range, parses-exactly, made, made-whole, is-made, not-made}
-use Rattle.link.specs.Answers.{Answered}
-use Rattle.link.proofs.Answers.{start-numbers, code-numbers, decode-numbers}
+use Rattle.memory.specs.Answers.{Answered}
+use Rattle.memory.proofs.Answers.{start-numbers}
+use Rattle.coder.proofs.Answers.{code-numbers}
+use Rattle.decoder.proofs.Answers.{decode-numbers}
 use Rattle.numbers.specs.Table.{numbersOf, givenBack}
 use Rattle.numbers.proofs.Laws.{given-back}
 use Rattle.records.specs.Answers.{numberOf, readingOf, codedOf, decodedOf}

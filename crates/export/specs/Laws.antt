@@ -18,10 +18,12 @@ use Rattle.tables.specs.Table.{rowsOf, sizesFit}
 use Rattle.tables.specs.Format.{parse, refused, parsed}
 use Rattle.tables.specs.Written.{Whole}
 use Rattle.tables.specs.Made.{columns, triangleRows, making, madeNumbers}
-use Rattle.link.specs.Start.{startFault, started, startAnswer, startMemory}
-use Rattle.link.specs.Coder.{coderFault, codedBlock, coderNext, codeAnswer, codeMemory}
-use Rattle.link.specs.Decoder.{decoderFault, decoderNext, decodeAnswer, decodeMemory}
-use Rattle.link.specs.Answers.{startNumbers, codeNumbers, decodeNumbers, decodeValues}
+use Rattle.memory.specs.Start.{startFault, started, startAnswer, startMemory}
+use Rattle.coder.specs.Coder.{coderFault, codedBlock, coderNext, codeAnswer, codeMemory}
+use Rattle.decoder.specs.Decoder.{decoderFault, decoderNext, decodeAnswer, decodeMemory}
+use Rattle.memory.specs.Answers.{startNumbers}
+use Rattle.coder.specs.Answers.{codeNumbers}
+use Rattle.decoder.specs.Answers.{decodeNumbers, decodeValues}
 use Rattle.numbers.specs.Table.{numbersOf, givenBack}
 use Rattle.records.specs.declared.reading.BurstReading.{BurstReading}
 use Rattle.records.specs.Answers.{numberOf, readingOf, codedOf, decodedOf}

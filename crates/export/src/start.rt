@@ -1,13 +1,12 @@
 // Starting a memory.
-use link::start::start_coder;
-use link::start::start_decoder;
+use memory::start::start_coder;
+use memory::start::start_decoder;
 use numbers::table::table_of;
 use records::starting::started;
 ghost use mathlib.Core.Path.{_≡_};
-ghost use Rattle.link.specs.Start.{startAnswer, startMemory};
-ghost use Rattle.link.specs.Coder.{coderWords};
-ghost use Rattle.link.specs.Decoder.{decoderWords};
-ghost use Rattle.link.specs.Answers.{startNumbers};
+ghost use Rattle.memory.specs.Start.{startAnswer, startMemory};
+ghost use Rattle.memory.specs.Memory.{coderWords, decoderWords};
+ghost use Rattle.memory.specs.Answers.{startNumbers};
 ghost use Rattle.numbers.specs.Table.{tableOf};
 ghost use Rattle.records.specs.Answers.{numberOf};
 

@@ -4,8 +4,8 @@ use mathlib.Core.List.{[], _∷_, _++_}
 use Prim.Native.Nat.{ℕ, _^_, _≤_, _<_}
 use native.Mathlib.Omega.{arith}
 use lib.ListN.{length, length-append}
-use Rattle.link.specs.declared.decoder.Delivered.{Delivered}
-use Rattle.link.specs.Answers.{markWord, markError}
+use Rattle.decoder.specs.declared.decode.Delivered.{Delivered}
+use Rattle.decoder.specs.Answers.{markWord, markError}
 use Rattle.lines.specs.Text.{decimalOf, space, newline, lineOf, refusedLine}
 use Rattle.lines.specs.Writing.{longest, LONGEST}
 use Rattle.lines.proofs.Digits.{digits-64, digits-16}

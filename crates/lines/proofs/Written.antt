@@ -10,10 +10,10 @@ use lib.Dec.{leb}
 use borrow.Author.Tests.{le-leb, lt-leb, leb-true, leb-false}
 use lib.ListN.{length, take, drop, set, length-append, take-append-drop}
 use lib.Seq.{set-split, length-take-le, take-at, drop-at, drop-drop}
-use Rattle.link.specs.declared.decoder.Mark.{Mark}
-use Rattle.link.specs.declared.decoder.Mark.the-variants.{Clean, Held, Corrected, Doubtful}
-use Rattle.link.specs.declared.decoder.Delivered.{Delivered}
-use Rattle.link.specs.Answers.{markWord, markError}
+use Rattle.decoder.specs.declared.decode.Mark.{Mark}
+use Rattle.decoder.specs.declared.decode.Mark.the-variants.{Clean, Held, Corrected, Doubtful}
+use Rattle.decoder.specs.declared.decode.Delivered.{Delivered}
+use Rattle.decoder.specs.Answers.{markWord, markError}
 use Rattle.lines.specs.Text.{decimalOf, space, newline, lineOf}
 use Rattle.lines.specs.Writing.{written, Wrote, longest, room, put, putEnd}
 

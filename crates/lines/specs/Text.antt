@@ -14,8 +14,8 @@ use mathlib.Core.Bool.{true, false}
 use mathlib.Core.List.{List, [], _∷_, _++_}
 use Prim.Native.Nat.{ℕ, zero, suc, _+_, _/_, _%_, _≤_, _<_}
 use lib.Dec.{ltb}
-use Rattle.link.specs.declared.decoder.Delivered.{Delivered}
-use Rattle.link.specs.Answers.{markWord, markError}
+use Rattle.decoder.specs.declared.decode.Delivered.{Delivered}
+use Rattle.decoder.specs.Answers.{markWord, markError}
 
 -- the byte of a digit: "0" is 48
 abbrev pub glyph : ℕ → ℕ

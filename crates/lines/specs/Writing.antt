@@ -13,8 +13,8 @@ use mathlib.Core.List.{List, _++_}
 use Prim.Native.Nat.{ℕ, _+_, _^_, _≤_, _<_}
 use lib.Dec.{leb}
 use lib.ListN.{length, take, drop}
-use Rattle.link.specs.declared.decoder.Delivered.{Delivered}
-use Rattle.link.specs.Answers.{markError}
+use Rattle.decoder.specs.declared.decode.Delivered.{Delivered}
+use Rattle.decoder.specs.Answers.{markError}
 use Rattle.lines.specs.Text.{headerLine, lineOf, refusedLine, oddLine}
 
 unfoldable pub written : List ℕ → ℕ → List ℕ → List ℕ

@@ -1,12 +1,12 @@
 // Lines, written into lent bytes from a position on. Each public function returns the position after them; where there is no
 // room for the longest line it writes nothing, and the position stays.
-use link::decoder::Delivered;
-use link::decoder::Mark;
+use decoder::decode::Delivered;
+use decoder::decode::Mark;
 ghost use mathlib.Core.Path.{_≡_};
 ghost use mathlib.Core.List.{[], _∷_, _++_};
 ghost use Prim.Native.Nat.{_+_, _≤_};
 ghost use lib.ListN.{length};
-ghost use Rattle.link.specs.Answers.{markWord, markError};
+ghost use Rattle.decoder.specs.Answers.{markWord, markError};
 ghost use Rattle.lines.specs.Text.{decimalOf, space, headerLine, lineOf, refusedLine, oddLine};
 ghost use Rattle.lines.specs.Writing.{Wrote, longest, room, put, putEnd};
 

@@ -9,14 +9,15 @@ use native.Mathlib.Omega.{arith}
 use lib.ListN.{length}
 use Rattle.tables.specs.declared.table.Table.{Table}
 use Rattle.tables.proofs.Bounds.{fit-facts}
-use Rattle.link.specs.Start.{started}
-use Rattle.link.specs.Coder.{coderWords, turnOf, pendingAt, coderFault, coderNext}
-use Rattle.link.specs.Decoder.{decoderWords, fillOf, delayOf, streamAt, pendingOf, syndromeOf, delayedOf, decoderFault, decoderNext}
+use Rattle.memory.specs.Start.{started}
+use Rattle.memory.specs.Memory.{coderWords, turnOf, decoderWords}
+use Rattle.coder.specs.Coder.{pendingAt, coderFault, coderNext}
+use Rattle.decoder.specs.Decoder.{fillOf, delayOf, streamAt, pendingOf, syndromeOf, delayedOf, decoderFault, decoderNext}
 use Rattle.link.specs.Runs.{Call, Sent, Taken, sentBy, takenBy}
 use Rattle.link.specs.Recovery.{Wrong, Bursts, Recovered, Running}
 use Rattle.link.specs.Massey.{blockSent, blockTaken}
 use Rattle.link.specs.Clean.{Clean, Undisturbed, CLEAN, STARTED-CLEAN}
-use Rattle.link.proofs.Started.{started-word}
+use Rattle.memory.proofs.Started.{started-word}
 use Rattle.link.proofs.Runs.{before-first, coderBefore, decoderBefore}
 use Rattle.link.proofs.OneTable.{from-one}
 use Rattle.link.proofs.Bursts.{bursts-separated}

@@ -9,9 +9,9 @@ use Rattle.tables.specs.Table.{sizesFit, rowsFit, fit}
 use Rattle.tables.specs.Format.{firstOf}
 use Rattle.tables.specs.Examples as Tables
 use Rattle.tables.proofs.Laws.{examples-hold as tables-hold}
-use Rattle.link.specs.Stream.{joining}
-use Rattle.link.specs.Coder.{coderFault, coderJoining, codedBlock, coderNext, codeAnswer, codeMemory}
-use Rattle.link.specs.Decoder.{someAbove, decoderFault, decoderJoining, decoderRegister, decoderFound, partNext, decoderNext, delivered, delivery, decodeAnswer, decodeMemory}
+use Rattle.memory.specs.Stream.{joining}
+use Rattle.coder.specs.Coder.{coderFault, coderJoining, codedBlock, coderNext, codeAnswer, codeMemory}
+use Rattle.decoder.specs.Decoder.{someAbove, decoderFault, decoderJoining, decoderRegister, decoderFound, partNext, decoderNext, delivered, delivery, decodeAnswer, decodeMemory}
 use Rattle.link.specs.Computed.{Z, answersBy}
 use Rattle.link.specs.Examples.{Example, tables, AllHold, steps, EXAMPLES}
 

@@ -19,18 +19,21 @@ use lib.ListN.{length, getD}
 use Rattle.span.specs.Word.{_⊕_, odd, digit}
 use Rattle.span.specs.Combination.{combination}
 use Rattle.span.proofs.Laws.{xor-zero-r, xor-lt, xor-mod, xor-self, xor-twice}
-use Rattle.link.specs.declared.decoder.Mark.{Mark}
-use Rattle.link.specs.declared.decoder.Mark.the-variants.{Doubtful}
-use Rattle.link.specs.declared.decoder.DecodeAnswer.{DecodeAnswer}
-use Rattle.link.specs.declared.decoder.DecodeAnswer.the-variants.{Delivery}
-use Rattle.link.specs.Stream.{joining, found, errorOf, keptOf, markOf}
-use Rattle.link.specs.Coder.{turnOf, pendingAt}
-use Rattle.link.specs.Decoder.{fillOf}
+use Rattle.decoder.specs.declared.decode.Mark.{Mark}
+use Rattle.decoder.specs.declared.decode.Mark.the-variants.{Doubtful}
+use Rattle.decoder.specs.declared.decode.DecodeAnswer.{DecodeAnswer}
+use Rattle.decoder.specs.declared.decode.DecodeAnswer.the-variants.{Delivery}
+use Rattle.memory.specs.Stream.{joining}
+use Rattle.decoder.specs.Step.{found, errorOf, keptOf, markOf}
+use Rattle.memory.specs.Memory.{turnOf}
+use Rattle.coder.specs.Coder.{pendingAt}
+use Rattle.decoder.specs.Decoder.{fillOf}
 use Rattle.link.proofs.Suitable.{Corrects}
-use Rattle.link.proofs.Step.{both-half, both-odd, coder-info, topped-lt}
+use Rattle.link.proofs.Step.{both-half, both-odd, coder-info}
+use Rattle.memory.proofs.Words.{topped-lt}
 use Rattle.link.proofs.Sequence.{Stream, guard-clean, guard-syndrome, stream-judged}
 use Rattle.link.proofs.Interleaving.{place-first, place-next, place-earlier}
-use Rattle.link.proofs.Memory.{streamIn, pendingIn, syndromeIn, delayedIn, registerIn}
+use Rattle.decoder.proofs.Memory.{streamIn, pendingIn, syndromeIn, delayedIn, registerIn}
 use Rattle.link.proofs.Turn.{CoderRun, DecoderRun, coder-again, coder-first, pending-again, pending-first, syndrome-again, syndrome-first}
 use Rattle.link.proofs.Delay.{fill-complete, oldest, oldest-first}
 

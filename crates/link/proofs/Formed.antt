@@ -16,20 +16,24 @@ use Rattle.span.specs.Combination.{combination}
 use Rattle.span.proofs.Laws.{xor-lt, combination-lt}
 use Rattle.tables.specs.declared.table.Table.{Table}
 use Rattle.tables.proofs.Bounds.{fit-facts}
-use Rattle.link.specs.Stream.{joining, found, nextTurn}
-use Rattle.link.specs.Start.{started}
-use Rattle.link.specs.Coder.{infoRows, coderWords, turnOf, pendingAt, coderFault, codedBlock, coderNext, CoderFormed}
-use Rattle.link.specs.Decoder.{decoderWords, fillOf, delayOf, decoderFault, decoderNext, delivery, DecoderFormed}
-use Rattle.link.specs.declared.decoder.DecodeAnswer.{DecodeAnswer}
+use Rattle.memory.specs.Stream.{joining, nextTurn}
+use Rattle.decoder.specs.Step.{found}
+use Rattle.memory.specs.Start.{started}
+use Rattle.memory.specs.Memory.{infoRows, coderWords, turnOf, decoderWords}
+use Rattle.coder.specs.Coder.{pendingAt, coderFault, codedBlock, coderNext, CoderFormed}
+use Rattle.decoder.specs.Decoder.{fillOf, delayOf, decoderFault, decoderNext, delivery, DecoderFormed}
+use Rattle.decoder.specs.declared.decode.DecodeAnswer.{DecodeAnswer}
 use Rattle.link.specs.Runs.{Sent, Taken, sentEntry, takenEntry, sentBy, takenBy, noneSent, noneTaken}
 use Rattle.link.specs.Recovery.{SameTable}
 use Rattle.link.specs.Formed.{STARTED-FORMED, FORMED-KEPT, FORMED-THROUGHOUT}
 use Rattle.link.proofs.Interleaving.{turn-next}
-use Rattle.link.proofs.Started.{started-word}
-use Rattle.link.proofs.Step.{topped-lt}
+use Rattle.memory.proofs.Started.{started-word}
+use Rattle.memory.proofs.Words.{topped-lt}
 use Rattle.link.proofs.Sequence.{kept-lt}
 use Rattle.link.proofs.Runs.{ran-keeps}
-use Rattle.link.proofs.Memory.{Fits, CoderStep, coder-step, coder-length, streamIn, pendingIn, syndromeIn, registerIn, DecoderStep, decoder-step, decoder-length}
+use Rattle.memory.proofs.Fits.{Fits}
+use Rattle.coder.proofs.Memory.{CoderStep, coder-step, coder-length}
+use Rattle.decoder.proofs.Memory.{streamIn, pendingIn, syndromeIn, registerIn, DecoderStep, decoder-step, decoder-length}
 use Rattle.link.proofs.OneTable.{same-step, from-one}
 
 -- ---- a start

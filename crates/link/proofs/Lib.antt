@@ -1,11 +1,4 @@
--- Why the definitions of the link have the properties that 01 asks for; the lowest file first. A layer above sees `Answers`.
-mod Words
-mod Parts
-mod Error
-mod Marks
-mod Faults
-mod LentRows
-mod Started
+-- Why coder and decoder together have the properties that 01 asks for; the lowest file first.
 mod Suitable
 mod Origin
 mod Step
@@ -15,10 +8,6 @@ mod Register
 mod Interleaving
 mod Runs
 mod Calls
-mod Memory
-mod Room
-mod LentPart
-pub mod Answers
 mod Streams
 mod Turn
 mod Delay

@@ -15,14 +15,16 @@ use lib.ListN.{length, getD, take}
 use Rattle.span.specs.declared.eliminate.Least.{Least}
 use Rattle.span.specs.declared.eliminate.Least.the-variants.{Missing}
 use Rattle.tables.specs.declared.table.Table.{Table}
-use Rattle.link.specs.Stream.{rawTerm}
-use Rattle.link.specs.Coder.{infoRows, coderNext}
-use Rattle.link.specs.Decoder.{decoderNext, decoderJoining, decoderRegister, decoderFound}
+use Rattle.decoder.specs.Step.{rawTerm}
+use Rattle.memory.specs.Memory.{infoRows}
+use Rattle.coder.specs.Coder.{coderNext}
+use Rattle.decoder.specs.Decoder.{decoderNext, decoderJoining, decoderRegister, decoderFound}
 use Rattle.link.specs.Runs.{Call, Sent, Taken, sentEntry, takenEntry, sentBy, takenBy, noneSent, noneTaken, sentAt, takenAt}
 use Rattle.link.specs.Recovery.{SameTable, CoderTables, DecoderTables}
 use Rattle.link.specs.Massey.{infoSent, blockSent, blockTaken, rawAt, registerAt, foundAt}
 use Rattle.link.proofs.Runs.{coderBefore, decoderBefore, sent-place, taken-place}
-use Rattle.link.proofs.Memory.{CoderStep, coder-step, DecoderStep, decoder-step, Verdict, decoder-verdict}
+use Rattle.coder.proofs.Memory.{CoderStep, coder-step}
+use Rattle.decoder.proofs.Memory.{DecoderStep, decoder-step, Verdict, decoder-verdict}
 use Rattle.link.proofs.Turn.{CoderRun, DecoderRun}
 
 -- a step under a table is one under any that is the same, of equal entries and equal memories after it

@@ -14,7 +14,7 @@ use Rattle.tables.specs.declared.table.Table.{Table}
 use Rattle.tables.specs.Code.{Suitable}
 use Rattle.tables.specs.Table.{rowsOf, fit}
 use Rattle.tables.proofs.Laws.{accepted-suitable, made}
-use Rattle.link.specs.Coder.{infoRows}
+use Rattle.memory.specs.Memory.{infoRows}
 use Rattle.link.specs.Recovery.{Origin}
 use Rattle.tables.proofs.Bounds.{Fitting, fit-facts, parse-room, making-room}
 use Rattle.link.proofs.Suitable.{Corrects, suitable-corrects}

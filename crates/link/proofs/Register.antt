@@ -14,7 +14,8 @@ use lib.Dec.{leb, leb·zero, leb·suc-zero, leb·suc-suc}
 use lib.Pow.{pow-pos}
 use Rattle.span.specs.Word.{bit, digit}
 use Rattle.span.proofs.Laws.{bit-suc, bit-low, bit-none}
-use Rattle.link.proofs.Step.{topped-low, topped-bit, topped-lt}
+use Rattle.link.proofs.Step.{topped-low, topped-bit}
+use Rattle.memory.proofs.Words.{topped-lt}
 
 leb-add : (c k i : ℕ) → leb k i ≡ leb (c + k) (c + i)
 leb-add c k i = go (decLt i k)

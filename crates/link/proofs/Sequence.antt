@@ -15,8 +15,8 @@ use Rattle.span.specs.declared.eliminate.Least.the-variants.{Found, Missing}
 use Rattle.span.specs.Word.{_⊕_, odd, digit}
 use Rattle.span.specs.Combination.{combination}
 use Rattle.span.proofs.Laws.{xor-zero-l, xor-zero-r, odd-of, combination-zero}
-use Rattle.link.specs.declared.decoder.Mark.the-variants.{Doubtful}
-use Rattle.link.specs.Stream.{found, errorOf, keptOf, markOf}
+use Rattle.decoder.specs.declared.decode.Mark.the-variants.{Doubtful}
+use Rattle.decoder.specs.Step.{found, errorOf, keptOf, markOf}
 use Rattle.link.proofs.Suitable.{Corrects}
 use Rattle.link.proofs.Step.{leaving, staying}
 

@@ -15,18 +15,19 @@ use Rattle.tables.specs.Table.{sizesFit, rowsFit, fit}
 use Rattle.tables.specs.Format.{firstOf}
 use Rattle.tables.specs.Reading.{reading}
 use Rattle.tables.proofs.Laws.{examples-hold}
-use Rattle.link.specs.declared.decoder.DecodeAnswer.{DecodeAnswer}
-use Rattle.link.specs.declared.decoder.DecodeAnswer.the-variants.{NothingYet}
-use Rattle.link.specs.Stream.{joining}
-use Rattle.link.specs.Start.{started}
-use Rattle.link.specs.Coder.{coderWords, coderFault, coderJoining, codedBlock, coderNext, CoderFormed}
-use Rattle.link.specs.Decoder.{delayOf, pendingOf, syndromeOf, delayedOf, someAbove, decoderFault, decoderJoining, decoderRegister, decoderFound, partNext, decoderNext, delivered, delivery, DecoderFormed}
+use Rattle.decoder.specs.declared.decode.DecodeAnswer.{DecodeAnswer}
+use Rattle.decoder.specs.declared.decode.DecodeAnswer.the-variants.{NothingYet}
+use Rattle.memory.specs.Stream.{joining}
+use Rattle.memory.specs.Start.{started}
+use Rattle.memory.specs.Memory.{coderWords}
+use Rattle.coder.specs.Coder.{coderFault, coderJoining, codedBlock, coderNext, CoderFormed}
+use Rattle.decoder.specs.Decoder.{delayOf, pendingOf, syndromeOf, delayedOf, someAbove, decoderFault, decoderJoining, decoderRegister, decoderFound, partNext, decoderNext, delivered, delivery, DecoderFormed}
 use Rattle.link.specs.Runs.{Call, Sent, Taken, run, noneSent, noneTaken, sentAt, takenAt}
 use Rattle.link.specs.Recovery.{Origin, Wrong, Stretch, Burst, Chosen, Within}
 use Rattle.link.specs.Computed.{Z, calls, delivers, differing}
 use Rattle.link.specs.Examples.{bytesOfZ}
 use Rattle.link.specs.Sharp.{filled, zerosSent, received, Shows, lateGuard, closeBursts, longBurst, SHARP-RUNS, RecoveryWith, BOUNDS, GUARD-SHARP, GAP-SHARP, LENGTH-SHARP}
-use Rattle.link.proofs.Started.{started-word}
+use Rattle.memory.proofs.Started.{started-word}
 use Rattle.link.proofs.Formed.{started-formed}
 use Rattle.link.proofs.Fade.{Sure}
 use Rattle.link.proofs.Recovery.{recovery}

@@ -19,9 +19,9 @@ use Rattle.span.specs.Word.{_⊕_, odd, bit, sel, digit, shifted}
 use Rattle.span.specs.Combination.{combination}
 use Rattle.span.specs.Relation.{leastCoefficients}
 use Rattle.span.proofs.Laws.{xor-self-bool, xor-assoc, xor-swap, xor-zero-r, xor-half, odd-xor, odd-digit, odd-mod, odd-of, xor-false-r, bit-odd, combination-last, combination-low, combination-xor, shifted-mod, shifted-inside}
-use Rattle.link.specs.declared.decoder.Mark.the-variants.{Clean, Corrected, Doubtful, Held}
-use Rattle.link.specs.Stream.{joining, found, errorOf, keptOf, markOf}
-use Rattle.link.proofs.Words.{bit-most}
+use Rattle.decoder.specs.declared.decode.Mark.the-variants.{Clean, Corrected, Doubtful, Held}
+use Rattle.memory.specs.Stream.{joining}
+use Rattle.decoder.specs.Step.{found, errorOf, keptOf, markOf}
 use Rattle.link.proofs.Suitable.{Corrects}
 
 digit-half : (s : Bool) → digit s / 2 ≡ 0
@@ -36,9 +36,6 @@ module _ (ν b : ℕ) (s : Bool) (h : b < 2 ^ ν) where
   pub topped-bit : bit ν (b + digit s * 2 ^ ν) ≡ s
   topped-bit =
       bit-odd ν (b + digit s * 2 ^ ν) ∙ ap odd (ap (λ (x : ℕ). x / 2 ^ ν) (add-comm b (digit s * 2 ^ ν)) ∙ high (digit s) ν h) ∙ odd-digit s
-
-pub topped-lt : (ν b : ℕ) (s : Bool) → b < 2 ^ ν → b + digit s * 2 ^ ν < 2 ^ suc ν
-topped-lt ν b s h = let l = bit-most s ν in omega arith
 
 module _ (infos : List ℕ) (ν : ℕ) (size : length infos ≡ ν) where
   image-split : (r : ℕ) → combination (infos ++ (1 ∷ [])) r ≡ combination infos (r % 2 ^ ν) ⊕ digit (bit ν r)

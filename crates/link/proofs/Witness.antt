@@ -12,9 +12,9 @@ use Rattle.span.specs.Relation.{leastFrom, leastCoefficients}
 use Rattle.tables.specs.Table.{sizesFit, rowsFit, fit}
 use Rattle.tables.specs.Format.{firstOf}
 use Rattle.tables.specs.Made.{columns, upper, madeRow, madeRows, madeTable, making}
-use Rattle.link.specs.Stream.{joining}
-use Rattle.link.specs.Coder.{pendingAt, coderFault, coderJoining, codedBlock, coderNext, codeMemory, CoderFormed}
-use Rattle.link.specs.Decoder.{pendingOf, syndromeOf, delayedOf, someAbove, decoderFault, decoderJoining, decoderRegister, decoderFound, partNext, decoderNext, decodeMemory, delivered, delivery, DecoderFormed}
+use Rattle.memory.specs.Stream.{joining}
+use Rattle.coder.specs.Coder.{pendingAt, coderFault, coderJoining, codedBlock, coderNext, codeMemory, CoderFormed}
+use Rattle.decoder.specs.Decoder.{pendingOf, syndromeOf, delayedOf, someAbove, decoderFault, decoderJoining, decoderRegister, decoderFound, partNext, decoderNext, decodeMemory, delivered, delivery, DecoderFormed}
 use Rattle.link.specs.Runs.{Sent, Taken, run, sentBy, takenBy}
 use Rattle.link.specs.Recovery.{Origin, Wrong, Stretch, Chosen, Within}
 use Rattle.link.specs.Computed.{answersBy, differing}

@@ -13,14 +13,14 @@ use lib.ListN.{replicate}
 use Rattle.tables.specs.declared.table.Table.{Table}
 use Rattle.tables.specs.Reading.{Says}
 use Rattle.tables.specs.Examples as Tables
-use Rattle.link.specs.declared.coder.CodeAnswer.{CodeAnswer}
-use Rattle.link.specs.declared.coder.CodeAnswer.the-variants.{Coded}
-use Rattle.link.specs.declared.decoder.Mark.the-variants.{Clean, Held, Corrected, Doubtful}
-use Rattle.link.specs.declared.decoder.DecodeAnswer.{DecodeAnswer}
-use Rattle.link.specs.declared.decoder.DecodeAnswer.the-variants.{NothingYet}
-use Rattle.link.specs.Start.{started}
-use Rattle.link.specs.Coder.{codeAnswer, codeMemory}
-use Rattle.link.specs.Decoder.{decodeAnswer, decodeMemory}
+use Rattle.coder.specs.declared.code.CodeAnswer.{CodeAnswer}
+use Rattle.coder.specs.declared.code.CodeAnswer.the-variants.{Coded}
+use Rattle.decoder.specs.declared.decode.Mark.the-variants.{Clean, Held, Corrected, Doubtful}
+use Rattle.decoder.specs.declared.decode.DecodeAnswer.{DecodeAnswer}
+use Rattle.decoder.specs.declared.decode.DecodeAnswer.the-variants.{NothingYet}
+use Rattle.memory.specs.Start.{started}
+use Rattle.coder.specs.Coder.{codeAnswer, codeMemory}
+use Rattle.decoder.specs.Decoder.{decodeAnswer, decodeMemory}
 use Rattle.link.specs.Computed.{calls, answersBy, delivers}
 
 -- the bytes of the table, the first memory, the blocks handed to the calls, and the answers

@@ -1,11 +1,5 @@
--- `link`: coder and decoder on lent memory, runs of their steps, recovery after a fade, well-formed memories, the guard, the clean
--- start, Massey's code, runs that are computed, and the examples.
-pub mod Stream
-pub mod Marks
-pub mod Start
-pub mod Coder
-pub mod Decoder
-pub mod Answers
+-- `link`: coder and decoder together: streams apart, runs of their steps, recovery after a fade, well-formed memories, the guard, the clean start,
+-- Massey's code, runs that are computed, and the examples.
 pub mod Streams
 pub mod Runs
 pub mod Recovery

@@ -1,5 +1,1 @@
-// The link: coder and decoder on lent memory.
-pub mod coder;
-pub mod decoder;
-pub mod start;
-pub mod stream;
+// What coder and decoder are together: theorems alone, on runs of their steps. The functions are those of `coder` and `decoder`.

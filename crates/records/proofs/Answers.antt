@@ -1,10 +1,10 @@
 -- The range of a mark's number. Assumes nothing.
 use Prim.Native.Nat.{_≤_}
 use native.Mathlib.Omega.{arith}
-use Rattle.link.specs.declared.decoder.Mark.{Mark}
-use Rattle.link.specs.declared.decoder.Mark.the-variants.{Clean, Held, Corrected, Doubtful}
-use Rattle.link.specs.declared.decoder.DecodeAnswer.the-variants.{Delivery, NothingYet, Refused}
-use Rattle.link.specs.Answers.{markNumber}
+use Rattle.decoder.specs.declared.decode.Mark.{Mark}
+use Rattle.decoder.specs.declared.decode.Mark.the-variants.{Clean, Held, Corrected, Doubtful}
+use Rattle.decoder.specs.declared.decode.DecodeAnswer.the-variants.{Delivery, NothingYet, Refused}
+use Rattle.decoder.specs.Answers.{markNumber}
 use Rattle.records.specs.Answers.{MARK-RANGE}
 
 pub mark-range : MARK-RANGE

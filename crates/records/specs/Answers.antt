@@ -9,8 +9,8 @@
 use mathlib.Core.List.{List, [], _∷_}
 use Prim.Native.Nat.{ℕ, _≤_}
 use lib.ListN.{getD}
-use Rattle.link.specs.declared.decoder.DecodeAnswer.{DecodeAnswer}
-use Rattle.link.specs.Answers.{decodeNumbers}
+use Rattle.decoder.specs.declared.decode.DecodeAnswer.{DecodeAnswer}
+use Rattle.decoder.specs.Answers.{decodeNumbers}
 use Rattle.records.specs.declared.reading.BurstReading.{BurstReading}
 use Rattle.records.specs.declared.coded.BurstCoded.{BurstCoded}
 use Rattle.records.specs.declared.decoded.BurstDecoded.{BurstDecoded}

@@ -1,7 +1,7 @@
 // A coder's answer as numbers.
-use link::coder::CodeAnswer;
+use coder::code::CodeAnswer;
 ghost use mathlib.Core.Path.{_≡_};
-ghost use Rattle.link.specs.Answers.{codeNumbers};
+ghost use Rattle.coder.specs.Answers.{codeNumbers};
 ghost use Rattle.records.specs.Answers.{codedOf};
 
 #[repr(C)]

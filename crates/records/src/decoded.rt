@@ -1,10 +1,10 @@
 // A decoder's answer as numbers.
-use link::decoder::DecodeAnswer;
-use link::decoder::Delivered;
-use link::decoder::Mark;
+use decoder::decode::DecodeAnswer;
+use decoder::decode::Delivered;
+use decoder::decode::Mark;
 ghost use mathlib.Core.Path.{_≡_};
 ghost use mathlib.Core.List.{_∷_};
-ghost use Rattle.link.specs.Answers.{recordNumbers, decodeNumbers};
+ghost use Rattle.decoder.specs.Answers.{recordNumbers, decodeNumbers};
 ghost use Rattle.records.specs.Answers.{decodedOf};
 
 #[repr(C)]

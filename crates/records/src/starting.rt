@@ -1,7 +1,7 @@
 // The answer of a start as a number.
-use link::start::StartAnswer;
+use memory::start::StartAnswer;
 ghost use mathlib.Core.Path.{_≡_};
-ghost use Rattle.link.specs.Answers.{startNumbers};
+ghost use Rattle.memory.specs.Answers.{startNumbers};
 ghost use Rattle.records.specs.Answers.{numberOf};
 
 pub fn started(answer: StartAnswer) -> u64

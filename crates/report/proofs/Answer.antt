@@ -6,9 +6,9 @@ use Prim.Native.Nat.{ℕ, _+_, _≤_}
 use native.Mathlib.Omega.{arith}
 use borrow.Author.Tests.{le-leb}
 use lib.ListN.{length}
-use Rattle.link.specs.declared.decoder.Delivered.{Delivered}
-use Rattle.link.specs.declared.decoder.DecodeAnswer.{DecodeAnswer}
-use Rattle.link.specs.declared.decoder.DecodeAnswer.the-variants.{Delivery, NothingYet, Refused}
+use Rattle.decoder.specs.declared.decode.Delivered.{Delivered}
+use Rattle.decoder.specs.declared.decode.DecodeAnswer.{DecodeAnswer}
+use Rattle.decoder.specs.declared.decode.DecodeAnswer.the-variants.{Delivery, NothingYet, Refused}
 use Rattle.lines.specs.Text.{lineOf, refusedLine}
 use Rattle.lines.specs.Writing.{Wrote, longest, put, putEnd}
 use Rattle.report.specs.Listing.{Printed}

@@ -7,8 +7,8 @@ use Rattle.span.specs.Relation.{leastFrom, leastCoefficients}
 use Rattle.tables.specs.Table.{sizesFit, rowsFit, fit}
 use Rattle.tables.specs.Format.{firstOf}
 use Rattle.tables.specs.Made.{columns, upper, madeRow, madeRows, madeTable, making}
-use Rattle.link.specs.Stream.{joining}
-use Rattle.link.specs.Decoder.{someAbove, decoderFault, decoderJoining, decoderRegister, decoderFound, partNext, decoderNext, delivered, delivery, decodeAnswer, decodeMemory}
+use Rattle.memory.specs.Stream.{joining}
+use Rattle.decoder.specs.Decoder.{someAbove, decoderFault, decoderJoining, decoderRegister, decoderFound, partNext, decoderNext, delivered, delivery, decodeAnswer, decodeMemory}
 use Rattle.lines.specs.Text.{decimalWithin, decimalOf, lineOf, refusedLine}
 use Rattle.report.specs.Listing.{listed, listing, EXAMPLE}
 

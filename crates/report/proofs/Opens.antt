@@ -14,7 +14,7 @@ use Rattle.tables.specs.Table.{zeroTable, fit}
 use Rattle.tables.specs.Made.{making}
 use Rattle.tables.proofs.Bounds.{fit-facts}
 use Rattle.tables.proofs.Laws.{made}
-use Rattle.link.specs.Decoder.{decoderWords}
+use Rattle.memory.specs.Memory.{decoderWords}
 use Rattle.report.specs.declared.opening.Opened.{Opened}
 use Rattle.lines.specs.Text.{headerLine, refusedLine}
 use Rattle.lines.specs.Writing.{Wrote, longest, put, putEnd}

@@ -26,10 +26,11 @@ use Rattle.tables.specs.declared.table.Table.{Table}
 use Rattle.tables.specs.declared.make.MakeAnswer.{MakeAnswer}
 use Rattle.tables.specs.declared.make.MakeAnswer.the-variants.{Made, OutOfRange}
 use Rattle.tables.specs.Made.{making, madeNumbers}
-use Rattle.link.specs.declared.decoder.DecodeAnswer.{DecodeAnswer}
-use Rattle.link.specs.declared.decoder.DecodeAnswer.the-variants.{Delivery, NothingYet, Refused}
-use Rattle.link.specs.Start.{started}
-use Rattle.link.specs.Decoder.{decoderWords, decodeAnswer, decodeMemory}
+use Rattle.decoder.specs.declared.decode.DecodeAnswer.{DecodeAnswer}
+use Rattle.decoder.specs.declared.decode.DecodeAnswer.the-variants.{Delivery, NothingYet, Refused}
+use Rattle.memory.specs.Start.{started}
+use Rattle.memory.specs.Memory.{decoderWords}
+use Rattle.decoder.specs.Decoder.{decodeAnswer, decodeMemory}
 use Rattle.lines.specs.Text.{headerLine, lineOf, refusedLine, oddLine}
 use Rattle.lines.specs.Writing.{Wrote, longest}
 

@@ -30,8 +30,8 @@ use Rattle.tables.specs.declared.make.MakeAnswer.{MakeAnswer}
 use Rattle.tables.specs.declared.make.MakeAnswer.the-variants.{Made, OutOfRange}
 use Rattle.tables.specs.Table.{zeroTable}
 use Rattle.tables.specs.Made.{making, madeNumbers}
-use Rattle.link.specs.Start.{started}
-use Rattle.link.specs.Decoder.{decoderWords}
+use Rattle.memory.specs.Start.{started}
+use Rattle.memory.specs.Memory.{decoderWords}
 use Rattle.report.specs.declared.opening.Opened.{Opened}
 use Rattle.lines.specs.Text.{headerLine, refusedLine}
 use Rattle.lines.specs.Writing.{Wrote, longest}

@@ -1,7 +1,7 @@
 // The opening of the listing program: the header, the made table of its first two bytes, and the decoder started.
 use lines::text::header;
 use lines::text::refusal;
-use link::start::start_decoder;
+use memory::start::start_decoder;
 use tables::make::MakeAnswer;
 use tables::make::make;
 use tables::table::Table;
@@ -12,7 +12,7 @@ ghost use Prim.Native.Nat.{_+_, _≤_};
 ghost use lib.ListN.{length};
 ghost use Rattle.tables.specs.Table.{zeroTable, fit};
 ghost use Rattle.tables.specs.Made.{making};
-ghost use Rattle.link.specs.Decoder.{decoderWords};
+ghost use Rattle.memory.specs.Memory.{decoderWords};
 ghost use Rattle.lines.specs.Writing.{longest};
 ghost use Rattle.report.specs.Opening.{openingRoom, memoryWords, startedIn, openedMade, openedWithin, Opens};
 

@@ -1,9 +1,9 @@
 // The loop of the listing program: received blocks are decoded, and their lines written.
+use decoder::decode::DecodeAnswer;
+use decoder::decode::decode;
 use lines::text::line;
 use lines::text::odd_byte;
 use lines::text::refusal;
-use link::decoder::DecodeAnswer;
-use link::decoder::decode;
 use tables::table::Table;
 ghost use mathlib.Core.Path.{_≡_};
 ghost use Prim.Native.Nat.{_+_, _*_, _/_, _≤_, _<_, _^_};

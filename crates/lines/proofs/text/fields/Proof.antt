@@ -3,7 +3,7 @@ use mathlib.Core.List.{[], _∷_, _++_}
 use Prim.Native.Nat.{_+_, _≤_}
 use native.Mathlib.Omega.{arith}
 use lib.ListN.{length}
-use Rattle.link.specs.Answers.{markWord, markError}
+use Rattle.decoder.specs.Answers.{markWord, markError}
 use Rattle.lines.specs.Writing.{Wrote, longest}
 use Rattle.lines.specs.Text.{decimalOf, space, newline}
 use Rattle.lines.proofs.Digits.{digits-64, digits-16}

@@ -4,8 +4,8 @@ use Prim.Native.Nat.{ℕ, _+_, _-_, _*_, _/_, _^_, _≤_, _<_}
 use native.Mathlib.Omega.{arith}
 use borrow.Author.Needs.{needs}
 use lib.ListN.{length, getD}
-use Rattle.link.specs.declared.decoder.DecodeAnswer.{DecodeAnswer}
-use Rattle.link.specs.Decoder.{decodeAnswer, decodeMemory}
+use Rattle.decoder.specs.declared.decode.DecodeAnswer.{DecodeAnswer}
+use Rattle.decoder.specs.Decoder.{decodeAnswer, decodeMemory}
 use Rattle.lines.specs.Text.{oddLine}
 use Rattle.lines.specs.Writing.{longest}
 use Rattle.report.specs.Listing.{blockOf, Printed}

@@ -1,0 +1,2 @@
+// The coder on lent memory.
+pub mod code;

@@ -1,0 +1,2 @@
+// The decoder on lent memory.
+pub mod decode;

@@ -1,0 +1,31 @@
+// A coder's step.
+use coder::code::CodeAnswer;
+use coder::code::code_lent;
+use numbers::table::sizes_of;
+use records::coded::BurstCoded;
+use records::coded::coded;
+use tables::table::Table;
+ghost use mathlib.Core.Path.{_≡_};
+ghost use lib.ListN.{length, drop};
+ghost use Rattle.tables.specs.Lent.{withRows};
+ghost use Rattle.coder.specs.Coder.{codeAnswer, codeMemory};
+ghost use Rattle.coder.specs.Answers.{codeNumbers};
+ghost use Rattle.numbers.specs.Table.{tableOf};
+ghost use Rattle.records.specs.Answers.{codedOf};
+
+// The rows are lent where they stand.
+fn step(t: Table, numbers: &[u64], words: &mut [u64], info: u16) -> CodeAnswer
+    requires { ⌜ length (now numbers) ≡ 18 ⌝ }
+    ensures answer { λ r. ⌜ r ≡ codeAnswer (withRows t (drop 3 (now (numbers .entry)))) (now (words .entry)) info ⌝ }
+    ensures memory { λ r. ⌜ now (words .exit) ≡ codeMemory (withRows t (drop 3 (now (numbers .entry)))) (now (words .entry)) info ⌝ }
+{
+    code_lent(t, &numbers[3..18], words, info)
+}
+
+#[no_mangle]
+pub extern "C" fn burst_code(table: &[u64; 18], words: &mut [u64], info: u16) -> BurstCoded
+    ensures answer { λ r. ⌜ r ≡ codedOf (codeNumbers (codeAnswer (tableOf (now (table .entry))) (now (words .entry)) info)) ⌝ }
+    ensures memory { λ r. ⌜ now (words .exit) ≡ codeMemory (tableOf (now (table .entry))) (now (words .entry)) info ⌝ }
+{
+    coded(step(sizes_of(table), table, words, info))
+}
