@@ -16,7 +16,7 @@ use lib.ListN.{length, getD, set}
 use Rattle.span.specs.Word.{odd, digit}
 use Rattle.tables.specs.declared.table.Table.{Table}
 use Rattle.tables.specs.Table.{fit}
-use Rattle.tables.specs.Format.{firstOf}
+use Rattle.tables.specs.Refusal.{firstOf}
 use Rattle.coder.specs.declared.code.CodeAnswer.{CodeAnswer}
 use Rattle.coder.specs.declared.code.CodeAnswer.the-variants.{Coded, Refused}
 use Rattle.memory.specs.Memory.{infoRows, coderWords, turnOf}

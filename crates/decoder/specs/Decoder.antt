@@ -23,7 +23,7 @@ use lib.ListN.{length, getD, set, take, drop}
 use Rattle.span.specs.declared.eliminate.Least.{Least}
 use Rattle.tables.specs.declared.table.Table.{Table}
 use Rattle.tables.specs.Table.{fit}
-use Rattle.tables.specs.Format.{firstOf}
+use Rattle.tables.specs.Refusal.{firstOf}
 use Rattle.decoder.specs.declared.decode.Delivered.{Delivered}
 use Rattle.decoder.specs.declared.decode.DecodeAnswer.{DecodeAnswer}
 use Rattle.decoder.specs.declared.decode.DecodeAnswer.the-variants.{Delivery, NothingYet, Refused}

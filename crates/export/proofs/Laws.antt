@@ -7,16 +7,16 @@ use Prim.Native.Nat.{ℕ, _-_, _*_, _<_}
 use native.Mathlib.Omega.{arith}
 use lib.ListN.{getD, take}
 use Rattle.tables.specs.declared.table.Table.{Table}
-use Rattle.tables.specs.declared.make.MakeAnswer.{MakeAnswer}
-use Rattle.tables.specs.declared.read.ReadAnswer.{ReadAnswer}
-use Rattle.tables.specs.declared.read.ReadAnswer.the-variants.{Accepted, Refused, Unsuitable}
+use Rattle.maker.specs.declared.make.MakeAnswer.{MakeAnswer}
+use Rattle.reader.specs.declared.read.ReadAnswer.{ReadAnswer}
+use Rattle.reader.specs.declared.read.ReadAnswer.the-variants.{Accepted, Refused, Unsuitable}
 use Rattle.tables.specs.Code.{Clashes, Suitable}
-use Rattle.tables.specs.Table.{rowsOf, sizesFit}
-use Rattle.tables.specs.Format.{parse, refused, parsed}
-use Rattle.tables.specs.Reading.{numbers, Says}
-use Rattle.tables.specs.Written.{Whole}
-use Rattle.tables.specs.Made.{columns, triangleRows, making, madeNumbers}
-use Rattle.tables.proofs.Laws.{refused-range, parses-exactly, made, made-whole, is-made, not-made}
+use Rattle.tables.specs.Table.{rowsOf, sizesFit, Whole}
+use Rattle.reader.specs.Format.{parse, refused, parsed}
+use Rattle.reader.specs.Reading.{numbers, Says}
+use Rattle.maker.specs.Made.{columns, triangleRows, making, madeNumbers}
+use Rattle.reader.proofs.Laws.{refused-range, parses-exactly}
+use Rattle.maker.proofs.Laws.{made, made-whole, is-made, not-made}
 use Rattle.memory.specs.Answers.{Answered}
 use Rattle.memory.proofs.Answers.{start-numbers}
 use Rattle.coder.proofs.Answers.{code-numbers}

@@ -14,10 +14,9 @@ use Prim.Native.Nat.{ℕ, _-_, _*_, _<_}
 use lib.ListN.{getD, take}
 use Rattle.tables.specs.declared.table.Table.{Table}
 use Rattle.tables.specs.Code.{Clashes, Suitable}
-use Rattle.tables.specs.Table.{rowsOf, sizesFit}
-use Rattle.tables.specs.Format.{parse, refused, parsed}
-use Rattle.tables.specs.Written.{Whole}
-use Rattle.tables.specs.Made.{columns, triangleRows, making, madeNumbers}
+use Rattle.tables.specs.Table.{rowsOf, sizesFit, Whole}
+use Rattle.reader.specs.Format.{parse, refused, parsed}
+use Rattle.maker.specs.Made.{columns, triangleRows, making, madeNumbers}
 use Rattle.memory.specs.Start.{startFault, started, startAnswer, startMemory}
 use Rattle.coder.specs.Coder.{coderFault, codedBlock, coderNext, codeAnswer, codeMemory}
 use Rattle.decoder.specs.Decoder.{decoderFault, decoderNext, decodeAnswer, decodeMemory}

@@ -4,8 +4,8 @@
 use mathlib.Core.Path.{_≡_}
 use mathlib.Core.List.{List}
 use Prim.Native.Nat.{ℕ}
-use Rattle.tables.specs.declared.read.Reading.{Reading}
-use Rattle.tables.specs.Reading.{numbers, Read}
+use Rattle.reader.specs.declared.read.Reading.{Reading}
+use Rattle.reader.specs.Reading.{numbers, Read}
 use Rattle.numbers.specs.Table.{givenBack}
 use Rattle.records.specs.declared.reading.BurstReading.{BurstReading}
 use Rattle.records.specs.Answers.{readingOf}

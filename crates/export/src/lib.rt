@@ -1,4 +1,4 @@
-// What C may call (include/burst.h): numbers in, numbers out, over `tables` and `link`, by `numbers` and `records`. Nothing is decided here.
+// What C may call (include/burst.h): numbers in, numbers out, over the layers below, by `numbers` and `records`. Nothing is decided here.
 pub mod code;
 pub mod decode;
 pub mod make;

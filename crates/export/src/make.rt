@@ -1,9 +1,9 @@
 // Making a table.
+use maker::make::make;
 use numbers::table::give_back;
 use records::making::made;
-use tables::make::make;
 ghost use mathlib.Core.Path.{_≡_};
-ghost use Rattle.tables.specs.Made.{making, madeNumbers};
+ghost use Rattle.maker.specs.Made.{making, madeNumbers};
 ghost use Rattle.numbers.specs.Table.{givenBack};
 ghost use Rattle.records.specs.Answers.{numberOf};
 

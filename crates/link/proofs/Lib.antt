@@ -22,6 +22,7 @@ mod Premises
 mod Guard
 mod Clean
 mod Computed
+mod TableExamples
 mod Sharp
 mod Witness
 mod Examples

@@ -9,12 +9,12 @@ use lib.ListN.{length, getD, replicate, length-replicate, List·getD-map}
 use Rattle.span.specs.Word.{_⊕_, odd, bit}
 use Rattle.span.specs.Combination.{combination}
 use Rattle.span.specs.Relation.{leastFrom, leastCoefficients}
-use Rattle.tables.specs.declared.read.ReadAnswer.the-variants.{Accepted}
+use Rattle.reader.specs.declared.read.ReadAnswer.the-variants.{Accepted}
 use Rattle.tables.specs.declared.table.Table.{Table}
 use Rattle.tables.specs.Table.{sizesFit, rowsFit, fit}
-use Rattle.tables.specs.Format.{firstOf}
-use Rattle.tables.specs.Reading.{reading}
-use Rattle.tables.proofs.Laws.{examples-hold}
+use Rattle.tables.specs.Refusal.{firstOf}
+use Rattle.reader.specs.Reading.{reading}
+use Rattle.link.proofs.TableExamples.{examples-hold}
 use Rattle.decoder.specs.declared.decode.DecodeAnswer.{DecodeAnswer}
 use Rattle.decoder.specs.declared.decode.DecodeAnswer.the-variants.{NothingYet}
 use Rattle.memory.specs.Stream.{joining}

@@ -5,7 +5,7 @@ use Rattle.span.specs.Word.{_⊕_, odd, bit}
 use Rattle.span.specs.Combination.{combination}
 use Rattle.span.specs.Relation.{leastFrom, leastCoefficients}
 use Rattle.tables.specs.Table.{sizesFit, rowsFit, fit}
-use Rattle.tables.specs.Format.{firstOf}
+use Rattle.tables.specs.Refusal.{firstOf}
 use Rattle.memory.specs.Stream.{joining}
 use Rattle.coder.specs.Coder.{coderFault, coderJoining, codedBlock, coderNext, codeAnswer, codeMemory}
 use Rattle.decoder.specs.Decoder.{someAbove, decoderFault, decoderJoining, decoderRegister, decoderFound, partNext, decoderNext, delivered, delivery, decodeAnswer, decodeMemory}

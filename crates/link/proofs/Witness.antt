@@ -10,8 +10,8 @@ use Rattle.span.specs.Word.{_⊕_, odd, bit}
 use Rattle.span.specs.Combination.{combination}
 use Rattle.span.specs.Relation.{leastFrom, leastCoefficients}
 use Rattle.tables.specs.Table.{sizesFit, rowsFit, fit}
-use Rattle.tables.specs.Format.{firstOf}
-use Rattle.tables.specs.Made.{columns, upper, madeRow, madeRows, madeTable, making}
+use Rattle.tables.specs.Refusal.{firstOf}
+use Rattle.maker.specs.Made.{columns, upper, madeRow, madeRows, madeTable, making}
 use Rattle.memory.specs.Stream.{joining}
 use Rattle.coder.specs.Coder.{pendingAt, coderFault, coderJoining, codedBlock, coderNext, codeMemory, CoderFormed}
 use Rattle.decoder.specs.Decoder.{pendingOf, syndromeOf, delayedOf, someAbove, decoderFault, decoderJoining, decoderRegister, decoderFound, partNext, decoderNext, decodeMemory, delivered, delivery, DecoderFormed}

@@ -1,4 +1,4 @@
--- The examples T1 to T12 of 01, as data. T1 to T9 are those of `tables`. The depth m is 1 throughout.
+-- The examples T1 to T12 of 01, as data. T1 to T9 are those of `TableExamples`. The depth m is 1 throughout.
 --
 --   Example     what is asked and what is answered
 --   Holds x, AllHold xs   the definitions give that answer, and all of these
@@ -11,8 +11,8 @@ use mathlib.Core.List.{List, [], _∷_, _++_, map}
 use Prim.Native.Nat.{ℕ}
 use lib.ListN.{replicate}
 use Rattle.tables.specs.declared.table.Table.{Table}
-use Rattle.tables.specs.Reading.{Says}
-use Rattle.tables.specs.Examples as Tables
+use Rattle.reader.specs.Reading.{Says}
+use Rattle.link.specs.TableExamples as Tables
 use Rattle.coder.specs.declared.code.CodeAnswer.{CodeAnswer}
 use Rattle.coder.specs.declared.code.CodeAnswer.the-variants.{Coded}
 use Rattle.decoder.specs.declared.decode.Mark.the-variants.{Clean, Held, Corrected, Doubtful}

@@ -23,11 +23,11 @@ use mathlib.Core.List.{List, [], _∷_}
 use Prim.Native.Nat.{ℕ, _+_, _-_, _*_, _≤_, _<_}
 use lib.ListN.{length, take}
 use Rattle.tables.specs.declared.table.Table.{Table}
-use Rattle.tables.specs.declared.read.Reading.{Reading}
-use Rattle.tables.specs.declared.read.ReadAnswer.the-variants.{Accepted}
-use Rattle.tables.specs.declared.make.MakeAnswer.the-variants.{Made}
-use Rattle.tables.specs.Reading.{Read}
-use Rattle.tables.specs.Made.{making}
+use Rattle.reader.specs.declared.read.Reading.{Reading}
+use Rattle.reader.specs.declared.read.ReadAnswer.the-variants.{Accepted}
+use Rattle.maker.specs.declared.make.MakeAnswer.the-variants.{Made}
+use Rattle.reader.specs.Reading.{Read}
+use Rattle.maker.specs.Made.{making}
 use Rattle.decoder.specs.declared.decode.Mark.{Mark}
 use Rattle.decoder.specs.declared.decode.Mark.the-variants.{Doubtful}
 use Rattle.decoder.specs.declared.decode.DecodeAnswer.the-variants.{Delivery}

@@ -8,7 +8,7 @@ use borrow.Author.Tests.{eq-eqb, eqb-true, eqb-false}
 use lib.Dec.{eqb}
 use lib.ListN.{length}
 use Rattle.tables.specs.declared.table.Table.{Table}
-use Rattle.tables.specs.Format.{firstOf}
+use Rattle.tables.specs.Refusal.{firstOf}
 use Rattle.tables.proofs.Laws.{first-range}
 use Rattle.memory.specs.declared.start.StartAnswer.{StartAnswer}
 use Rattle.memory.specs.declared.start.StartAnswer.the-variants.{Started, Refused}

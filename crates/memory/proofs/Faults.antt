@@ -15,7 +15,7 @@ use lib.Dec.{eqb}
 use lib.ListN.{length}
 use Rattle.tables.specs.declared.table.Table.{Table}
 use Rattle.tables.specs.Table.{fit}
-use Rattle.tables.specs.Format.{firstOf}
+use Rattle.tables.specs.Refusal.{firstOf}
 use Rattle.tables.proofs.Laws.{first, first-none}
 use Rattle.memory.specs.declared.start.StartAnswer.the-variants.{Started, Refused}
 use Rattle.memory.specs.Start.{startFault, started, startAnswer, startMemory}

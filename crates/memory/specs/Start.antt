@@ -12,7 +12,7 @@ use lib.Dec.{eqb}
 use lib.ListN.{length, replicate}
 use Rattle.tables.specs.declared.table.Table.{Table}
 use Rattle.tables.specs.Table.{fit}
-use Rattle.tables.specs.Format.{firstOf}
+use Rattle.tables.specs.Refusal.{firstOf}
 use Rattle.memory.specs.declared.start.StartAnswer.{StartAnswer}
 use Rattle.memory.specs.declared.start.StartAnswer.the-variants.{Started, Refused}
 

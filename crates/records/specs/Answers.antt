@@ -1,4 +1,4 @@
--- The struct of numbers of an answer, made of 01's numbers, which `tables` and `link` name: `numbers`, `madeNumbers`, `startNumbers`,
+-- The struct of numbers of an answer, made of 01's numbers, which the crates below name: `numbers`, `madeNumbers`, `startNumbers`,
 -- `codeNumbers` and `decodeNumbers`. What does not apply is 0.
 --
 --   numberOf ns       the refusal's number, or 0

@@ -1,4 +1,4 @@
-// The answers of `tables` and `link` as numbers: the structs that cross to C. Nothing is decided here.
+// The answers of `reader`, `maker`, `memory`, `coder` and `decoder` as numbers: the structs that cross to C. Nothing is decided here.
 pub mod coded;
 pub mod decoded;
 pub mod making;

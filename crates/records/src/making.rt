@@ -1,7 +1,7 @@
 // The answer of making as a number.
-use tables::make::MakeAnswer;
+use maker::make::MakeAnswer;
 ghost use mathlib.Core.Path.{_≡_};
-ghost use Rattle.tables.specs.Made.{madeNumbers};
+ghost use Rattle.maker.specs.Made.{madeNumbers};
 ghost use Rattle.records.specs.Answers.{numberOf};
 
 pub fn made(answer: MakeAnswer) -> u64

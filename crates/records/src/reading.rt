@@ -1,7 +1,7 @@
 // The answer of reading as numbers.
-use tables::read::ReadAnswer;
+use reader::read::ReadAnswer;
 ghost use mathlib.Core.Path.{_≡_};
-ghost use Rattle.tables.specs.Reading.{numbers};
+ghost use Rattle.reader.specs.Reading.{numbers};
 ghost use Rattle.records.specs.Answers.{readingOf};
 
 #[repr(C)]

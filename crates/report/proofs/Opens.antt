@@ -8,12 +8,12 @@ use borrow.Author.Tests.{leb-true}
 use lib.Dec.{leb}
 use lib.ListN.{length, getD}
 use Rattle.tables.specs.declared.table.Table.{Table}
-use Rattle.tables.specs.declared.make.MakeAnswer.{MakeAnswer}
-use Rattle.tables.specs.declared.make.MakeAnswer.the-variants.{Made, OutOfRange}
+use Rattle.maker.specs.declared.make.MakeAnswer.{MakeAnswer}
+use Rattle.maker.specs.declared.make.MakeAnswer.the-variants.{Made, OutOfRange}
 use Rattle.tables.specs.Table.{zeroTable, fit}
-use Rattle.tables.specs.Made.{making}
+use Rattle.maker.specs.Made.{making}
 use Rattle.tables.proofs.Bounds.{fit-facts}
-use Rattle.tables.proofs.Laws.{made}
+use Rattle.maker.proofs.Laws.{made}
 use Rattle.memory.specs.Memory.{decoderWords}
 use Rattle.report.specs.declared.opening.Opened.{Opened}
 use Rattle.lines.specs.Text.{headerLine, refusedLine}

@@ -23,9 +23,9 @@ use Prim.Native.Nat.{ℕ, _+_, _*_, _/_, _%_, _^_, _≤_}
 use lib.Dec.{leb}
 use lib.ListN.{length, getD}
 use Rattle.tables.specs.declared.table.Table.{Table}
-use Rattle.tables.specs.declared.make.MakeAnswer.{MakeAnswer}
-use Rattle.tables.specs.declared.make.MakeAnswer.the-variants.{Made, OutOfRange}
-use Rattle.tables.specs.Made.{making, madeNumbers}
+use Rattle.maker.specs.declared.make.MakeAnswer.{MakeAnswer}
+use Rattle.maker.specs.declared.make.MakeAnswer.the-variants.{Made, OutOfRange}
+use Rattle.maker.specs.Made.{making, madeNumbers}
 use Rattle.decoder.specs.declared.decode.DecodeAnswer.{DecodeAnswer}
 use Rattle.decoder.specs.declared.decode.DecodeAnswer.the-variants.{Delivery, NothingYet, Refused}
 use Rattle.memory.specs.Start.{started}

@@ -26,10 +26,10 @@ use Prim.Native.Nat.{ℕ, _+_, _*_, _%_, _^_, _≤_, _<_}
 use lib.Dec.{leb}
 use lib.ListN.{length, getD, drop}
 use Rattle.tables.specs.declared.table.Table.{Table}
-use Rattle.tables.specs.declared.make.MakeAnswer.{MakeAnswer}
-use Rattle.tables.specs.declared.make.MakeAnswer.the-variants.{Made, OutOfRange}
+use Rattle.maker.specs.declared.make.MakeAnswer.{MakeAnswer}
+use Rattle.maker.specs.declared.make.MakeAnswer.the-variants.{Made, OutOfRange}
 use Rattle.tables.specs.Table.{zeroTable}
-use Rattle.tables.specs.Made.{making, madeNumbers}
+use Rattle.maker.specs.Made.{making, madeNumbers}
 use Rattle.memory.specs.Start.{started}
 use Rattle.memory.specs.Memory.{decoderWords}
 use Rattle.report.specs.declared.opening.Opened.{Opened}

@@ -11,6 +11,7 @@ use lib.Seq.{length-take-le}
 use Rattle.span.specs.Combination.{Below}
 use Rattle.tables.specs.declared.table.Table.{Table}
 use Rattle.tables.specs.Table.{codeRows, sizesFit, rowsFit, fit}
+use Rattle.tables.specs.Laws.{ZERO-UNFIT}
 
 pub and-left : (s t : Bool) → s && t ≡ true → s ≡ true
 and-left true t e = refl
@@ -70,6 +71,10 @@ unfolding fit
 fit-sizes t e =
     sizes-of (t .symbols) (t .span) (t .depth)
     (and-left (sizesFit (t .symbols) (t .span) (t .depth)) (rowsFit (t .span) (take (t .symbols - 1) (t .rows))) e)
+
+pub zero-unfit : ZERO-UNFIT
+unfolding fit sizesFit
+zero-unfit = refl
 
 -- a code of n symbols has n rows
 pub code-length : (n : ℕ) (rows : List ℕ) → 1 ≤ n → n - 1 ≤ length rows → length (codeRows n rows) ≡ n

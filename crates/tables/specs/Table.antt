@@ -8,11 +8,13 @@
 --   sizesFit n N m     n is 2 to 16, N is 2 to 64, m is 1 to 64
 --   rowsFit N rows     no row has a one at bit N or above
 --   fit t              refusal 12 does not apply
+--   Whole t            t is fit, and its rows past n − 1 are 0
+use mathlib.Core.Path.{_≡_}
 use mathlib.Core.Bool.{Bool, true, _&&_}
 use mathlib.Core.List.{List, [], _∷_, _++_}
-use Prim.Native.Nat.{ℕ, _-_, _^_}
+use Prim.Native.Nat.{ℕ, suc, _-_, _^_, _≤_}
 use lib.Dec.{leb, ltb}
-use lib.ListN.{take, replicate}
+use lib.ListN.{length, getD, take, replicate}
 use Rattle.tables.specs.declared.table.Table.{Table}
 
 abbrev pub table : ℕ → ℕ → ℕ → List ℕ → Table
@@ -39,3 +41,9 @@ rowsFit N (w ∷ ws) = ltb w (2 ^ N) && rowsFit N ws
 -- 01, refusal 12: "The handed table has n, N or m out of range, or one of its rows 1 to n − 1 has a one at bit N or above."
 unfoldable pub fit : Table → Bool
 fit t = sizesFit (t .symbols) (t .span) (t .depth) && rowsFit (t .span) (take (t .symbols - 1) (t .rows))
+
+-- a table as reading gives it: fit, and its other rows 0
+pub record Whole (t : Table) : Type 0 where
+  pub fits : fit t ≡ true
+  pub room : length (t .rows) ≡ 15
+  pub blank : (i : ℕ) → t .symbols ≤ suc i → getD (t .rows) i 0 ≡ 0

@@ -1,5 +1,3 @@
-// Tables of the code: judging, making, reading.
+// Tables of the code, and judging them.
 pub mod judge;
-pub mod make;
-pub mod read;
 pub mod table;

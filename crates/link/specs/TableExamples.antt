@@ -1,0 +1,61 @@
+-- The examples T1 to T9 of 01, as data. The depth m is 1 throughout.
+--
+--   Example     what is asked and what is answered
+--   Holds x, AllHold xs   the definitions give that answer, and all of these
+--   row j a b   a row record
+--   examples    T1 to T9
+--   EXAMPLES    all of them hold
+use mathlib.Core.Path.{_≡_}
+use mathlib.Core.List.{List, [], _∷_, _++_}
+use Prim.Native.Nat.{ℕ, _-_, _*_}
+use lib.ListN.{replicate}
+use Rattle.tables.specs.declared.table.Table.{Table}
+use Rattle.maker.specs.declared.make.MakeAnswer.the-variants.{Made}
+use Rattle.tables.specs.Table.{table, zeroTable}
+use Rattle.reader.specs.Reading.{Says}
+use Rattle.maker.specs.Made.{making}
+
+pub data Example : Type 0 where
+  accepts : List ℕ → Table → Example
+  refuses : List ℕ → ℕ → ℕ → Example
+  clashes : List ℕ → ℕ → ℕ → ℕ → Example
+  makes : ℕ → List ℕ → Example
+
+-- the bytes are accepted as the table; refused with a number and a place; refused for 10, which the triple shows; n and m = 1 make these rows
+abbrev pub Holds : Example → Type 0
+Holds (accepts bytes t) = Says bytes [] t
+Holds (refuses bytes k p) = Says bytes (k ∷ p ∷ []) zeroTable
+Holds (clashes bytes l e0 e1) = Says bytes (10 ∷ l ∷ e0 ∷ e1 ∷ []) zeroTable
+Holds (makes n rows) = making n 1 ≡ record { answer = Made; table = table n (2 * n) 1 (rows ++ replicate (16 - n) 0) }
+
+abbrev pub AllHold : List Example → Type 0
+AllHold [] = Unit {0}
+AllHold (x ∷ xs) = Holds x × AllHold xs
+
+-- the record of row j whose two low bytes are a and b
+abbrev pub row : ℕ → ℕ → ℕ → List ℕ
+row j a b = 2 ∷ j ∷ a ∷ b ∷ replicate 6 0
+
+abbrev pub examples : List Example
+examples =
+    -- T1: Z, that is n = 2, N = 4, row 10
+    accepts (1 ∷ 2 ∷ 4 ∷ 1 ∷ 2 ∷ 1 ∷ 10 ∷ 0 ∷ 0 ∷ 0 ∷ 0 ∷ 0 ∷ 0 ∷ 0 ∷ 0 ∷ []) (table 2 4 1 (10 ∷ replicate 14 0))
+    -- T2 to T5
+    ∷ refuses [] 1 0
+    ∷ refuses (0 ∷ []) 4 0
+    ∷ refuses (1 ∷ []) 3 0
+    ∷ refuses (1 ∷ 17 ∷ 4 ∷ 1 ∷ []) 5 0
+    -- T6: n = 2, N = 4, row 2
+    ∷ clashes ((1 ∷ 2 ∷ 4 ∷ 1 ∷ []) ++ row 1 2 0 ++ (0 ∷ [])) 1 1 2
+    -- T7: n = 3, N = 6, rows 56, 34 (000, example 2)
+    ∷ accepts ((1 ∷ 3 ∷ 6 ∷ 1 ∷ []) ++ row 1 56 0 ++ row 2 34 0 ++ (0 ∷ [])) (table 3 6 1 (56 ∷ 34 ∷ replicate 13 0))
+    -- T8
+    ∷ makes 3 (52 ∷ 34 ∷ [])
+    ∷ makes 4 (232 ∷ 196 ∷ 130 ∷ [])
+    ∷ makes 5 (976 ∷ 392 ∷ 772 ∷ 514 ∷ [])
+    -- T9: n = 5, N = 10, rows 976, 904, 772, 514
+    ∷ clashes ((1 ∷ 5 ∷ 10 ∷ 1 ∷ []) ++ row 1 208 3 ++ row 2 136 3 ++ row 3 4 3 ++ row 4 2 2 ++ (0 ∷ [])) 3 3 26
+    ∷ []
+
+abbrev pub EXAMPLES : Type 0
+EXAMPLES = AllHold examples

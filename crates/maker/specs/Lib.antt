@@ -1,0 +1,3 @@
+-- `maker`: the tables that we make.
+pub mod Made
+pub mod Laws

@@ -1,0 +1,2 @@
+// Making a table.
+pub mod make;

@@ -1,0 +1,8 @@
+-- `Bounds` and `Laws` are what a layer above sees; the other files are the crate's own, the lowest first.
+mod Format
+mod Progress
+mod Reading
+mod Written
+mod FormatExamples
+pub mod Bounds
+pub mod Laws

@@ -1,0 +1,2 @@
+// Reading a table from bytes.
+pub mod read;
