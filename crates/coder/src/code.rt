@@ -1,14 +1,14 @@
 // The coder: one step on lent memory.
 use memory::stream::joining;
 use memory::stream::next_turn;
-use span::bits::mask;
 use tables::table::Table;
 use tables::table::lent_fits;
+use words::bits::mask;
 ghost use mathlib.Core.Path.{_≡_};
 ghost use mathlib.Core.List.{[], _∷_};
 ghost use Prim.Native.Nat.{_+_, _/_, _≤_};
 ghost use lib.ListN.{length, getD, set, take};
-ghost use Rattle.span.specs.Word.{odd, digit};
+ghost use Rattle.words.specs.Word.{odd, digit};
 ghost use Rattle.tables.specs.Lent.{withRows, lent};
 ghost use Rattle.memory.specs.Stream.{joining};
 ghost use Rattle.coder.specs.Coder.{coderMalformed, coderFault, codedBlock, coderNext, codeAnswer, codeMemory};

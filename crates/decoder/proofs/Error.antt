@@ -17,7 +17,7 @@ use lib.Pow.{pow-pos}
 use lib.Seq.{take-all, length-take-le}
 use Rattle.span.specs.declared.eliminate.Least.{Least}
 use Rattle.span.specs.declared.eliminate.Least.the-variants.{Found, Missing}
-use Rattle.span.specs.Word.{odd}
+use Rattle.words.specs.Word.{odd}
 use Rattle.span.specs.Combination.{combination, counted}
 use Rattle.span.specs.Relation.{leastRelation, leastCoefficients, raised, IsLeast}
 use Rattle.span.proofs.Laws.{combination-zero, least-coefficients, least-unique, least-raised}

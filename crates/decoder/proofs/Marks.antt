@@ -10,7 +10,7 @@ use lib.Dec.{eqb}
 use lib.ListN.{length}
 use Rattle.span.specs.declared.eliminate.Least.{Least}
 use Rattle.span.specs.declared.eliminate.Least.the-variants.{Found, Missing}
-use Rattle.span.specs.Word.{odd}
+use Rattle.words.specs.Word.{odd}
 use Rattle.span.specs.Combination.{combination}
 use Rattle.span.specs.Relation.{IsLeast}
 use Rattle.span.proofs.Laws.{combination-zero, least-coefficients, least-unique}

@@ -18,7 +18,7 @@ use lib.Dec.{leb, ltb, eqb}
 use lib.ListN.{length, getD, set, take, drop, length-append, length-set, length-drop, List·getD-append}
 use lib.Seq.{getD-set-same, getD-set-other, length-take-le, getD-append-add, getD-take, getD-drop, getD-at}
 use Rattle.span.specs.declared.eliminate.Least.{Least}
-use Rattle.span.specs.Word.{_⊕_, odd, bit, digit}
+use Rattle.words.specs.Word.{_⊕_, odd, bit, digit}
 use Rattle.tables.specs.declared.table.Table.{Table}
 use Rattle.tables.specs.Table.{fit}
 use Rattle.tables.proofs.Bounds.{Fitting, fit-facts}

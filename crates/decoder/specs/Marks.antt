@@ -9,7 +9,7 @@ use mathlib.Core.List.{List}
 use Prim.Native.Nat.{ℕ, _^_, _<_}
 use lib.ListN.{length}
 use Rattle.span.specs.declared.eliminate.Least.the-variants.{Found}
-use Rattle.span.specs.Word.{odd}
+use Rattle.words.specs.Word.{odd}
 use Rattle.span.specs.Combination.{combination}
 use Rattle.span.specs.Relation.{IsLeast}
 use Rattle.decoder.specs.declared.decode.Mark.the-variants.{Clean, Corrected, Doubtful, Held}

@@ -16,7 +16,7 @@ use lib.Dec.{eqb}
 use lib.ListN.{take}
 use Rattle.span.specs.declared.eliminate.Least.{Least}
 use Rattle.span.specs.declared.eliminate.Least.the-variants.{Found, Missing}
-use Rattle.span.specs.Word.{_⊕_, odd, bit, digit}
+use Rattle.words.specs.Word.{_⊕_, odd, bit, digit}
 use Rattle.span.specs.Relation.{leastCoefficients}
 use Rattle.tables.specs.Table.{codeRows}
 use Rattle.memory.specs.Stream.{joining, nextPending}

@@ -1,11 +1,11 @@
 // The decoder: one step on lent memory, in 01's four lines.
 use memory::stream::joining;
 use memory::stream::next_turn;
-use span::bits::mask;
 use span::eliminate::Least;
 use span::eliminate::least_relation;
 use tables::table::Table;
 use tables::table::lent_fits;
+use words::bits::mask;
 ghost use mathlib.Core.Path.{_≡_};
 ghost use mathlib.Core.Bool.{true, cond, _||_};
 ghost use mathlib.Core.List.{List, [], _∷_, _++_};

@@ -16,9 +16,9 @@ use Prim.Native.Nat.{ℕ, suc, _+_, _-_, _*_, _/_, _%_, _^_, _≤_, _<_}
 use native.Mathlib.Nat.{zero-mod, add-mul, suc-mul, one-mul, mul-comm, mul-le-mul-right, mod-lt, div-add-mod', le-div-iff-mul-le, eq-zero-or-pos}
 use native.Mathlib.Omega.{arith}
 use lib.ListN.{length, getD}
-use Rattle.span.specs.Word.{_⊕_, odd, digit}
+use Rattle.words.specs.Word.{_⊕_, odd, digit}
 use Rattle.span.specs.Combination.{combination}
-use Rattle.span.proofs.Laws.{xor-zero-r, xor-lt, xor-mod, xor-self, xor-twice}
+use Rattle.words.proofs.Laws.{xor-zero-r, xor-lt, xor-mod, xor-self, xor-twice}
 use Rattle.decoder.specs.declared.decode.Mark.{Mark}
 use Rattle.decoder.specs.declared.decode.Mark.the-variants.{Doubtful}
 use Rattle.decoder.specs.declared.decode.DecodeAnswer.{DecodeAnswer}
@@ -30,7 +30,7 @@ use Rattle.coder.specs.Coder.{pendingAt}
 use Rattle.decoder.specs.Decoder.{fillOf}
 use Rattle.link.proofs.Suitable.{Corrects}
 use Rattle.link.proofs.Step.{both-half, both-odd, coder-info}
-use Rattle.memory.proofs.Words.{topped-lt}
+use Rattle.words.proofs.Masks.{topped-lt}
 use Rattle.link.proofs.Sequence.{Stream, guard-clean, guard-syndrome, stream-judged}
 use Rattle.link.proofs.Interleaving.{place-first, place-next, place-earlier}
 use Rattle.decoder.proofs.Memory.{streamIn, pendingIn, syndromeIn, delayedIn, registerIn}

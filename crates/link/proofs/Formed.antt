@@ -11,9 +11,10 @@ use borrow.Author.Tests.{eqb-true, eqb-false, ltb-true}
 use lib.Dec.{ltb, eqb}
 use lib.ListN.{length, getD, length-replicate}
 use lib.Pow.{pow-pos}
-use Rattle.span.specs.Word.{_⊕_, odd, bit}
+use Rattle.words.specs.Word.{_⊕_, odd, bit}
 use Rattle.span.specs.Combination.{combination}
-use Rattle.span.proofs.Laws.{xor-lt, combination-lt}
+use Rattle.words.proofs.Laws.{xor-lt}
+use Rattle.span.proofs.Laws.{combination-lt}
 use Rattle.tables.specs.declared.table.Table.{Table}
 use Rattle.tables.proofs.Bounds.{fit-facts}
 use Rattle.memory.specs.Stream.{joining, nextTurn}
@@ -28,7 +29,7 @@ use Rattle.link.specs.Recovery.{SameTable}
 use Rattle.link.specs.Formed.{STARTED-FORMED, FORMED-KEPT, FORMED-THROUGHOUT}
 use Rattle.link.proofs.Interleaving.{turn-next}
 use Rattle.memory.proofs.Started.{started-word}
-use Rattle.memory.proofs.Words.{topped-lt}
+use Rattle.words.proofs.Masks.{topped-lt}
 use Rattle.link.proofs.Sequence.{kept-lt}
 use Rattle.link.proofs.Runs.{ran-keeps}
 use Rattle.memory.proofs.Fits.{Fits}

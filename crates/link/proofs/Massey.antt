@@ -15,9 +15,10 @@ use lib.ListN.{length, getD, length-append, length-take}
 use lib.Seq.{length-take-le}
 use Rattle.span.specs.declared.eliminate.Least.{Least}
 use Rattle.span.specs.declared.eliminate.Least.the-variants.{Found, Missing}
-use Rattle.span.specs.Word.{_⊕_, odd, bit, digit}
+use Rattle.words.specs.Word.{_⊕_, odd, bit, digit}
 use Rattle.span.specs.Combination.{combination}
-use Rattle.span.proofs.Laws.{xor-false-r, combination-lt}
+use Rattle.words.proofs.Laws.{xor-false-r}
+use Rattle.span.proofs.Laws.{combination-lt}
 use Rattle.tables.specs.declared.table.Table.{Table}
 use Rattle.tables.specs.Table.{rowsOf}
 use Rattle.decoder.specs.declared.decode.DecodeAnswer.{DecodeAnswer}

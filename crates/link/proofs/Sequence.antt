@@ -12,9 +12,10 @@ use native.Mathlib.Omega.{arith}
 use lib.Pow.{pow-pos}
 use Rattle.span.specs.declared.eliminate.Least.{Least}
 use Rattle.span.specs.declared.eliminate.Least.the-variants.{Found, Missing}
-use Rattle.span.specs.Word.{_⊕_, odd, digit}
+use Rattle.words.specs.Word.{_⊕_, odd, digit}
 use Rattle.span.specs.Combination.{combination}
-use Rattle.span.proofs.Laws.{xor-zero-l, xor-zero-r, odd-of, combination-zero}
+use Rattle.words.proofs.Laws.{xor-zero-l, xor-zero-r, odd-of}
+use Rattle.span.proofs.Laws.{combination-zero}
 use Rattle.decoder.specs.declared.decode.Mark.the-variants.{Doubtful}
 use Rattle.decoder.specs.Step.{found, errorOf, keptOf, markOf}
 use Rattle.link.proofs.Suitable.{Corrects}

@@ -15,10 +15,11 @@ use lib.ListN.{length}
 use lib.Pow.{pow-add, high, low, mod-pow-add, shr-shr}
 use Rattle.span.specs.declared.eliminate.Least.{Least}
 use Rattle.span.specs.declared.eliminate.Least.the-variants.{Found, Missing}
-use Rattle.span.specs.Word.{_⊕_, odd, bit, sel, digit, shifted}
+use Rattle.words.specs.Word.{_⊕_, odd, bit, sel, digit, shifted}
 use Rattle.span.specs.Combination.{combination}
 use Rattle.span.specs.Relation.{leastCoefficients}
-use Rattle.span.proofs.Laws.{xor-self-bool, xor-assoc, xor-swap, xor-zero-r, xor-half, odd-xor, odd-digit, odd-mod, odd-of, xor-false-r, bit-odd, combination-last, combination-low, combination-xor, shifted-mod, shifted-inside}
+use Rattle.words.proofs.Laws.{xor-self-bool, xor-assoc, xor-swap, xor-zero-r, xor-half, odd-xor, odd-digit, odd-mod, odd-of, xor-false-r, bit-odd, shifted-mod, shifted-inside}
+use Rattle.span.proofs.Laws.{combination-last, combination-low, combination-xor}
 use Rattle.decoder.specs.declared.decode.Mark.the-variants.{Clean, Corrected, Doubtful, Held}
 use Rattle.memory.specs.Stream.{joining}
 use Rattle.decoder.specs.Step.{found, errorOf, keptOf, markOf}

@@ -1,7 +1,7 @@
 -- The table of steps, computed. Assumes nothing.
 use mathlib.Core.Path.{refl}
 use mathlib.Core.Bool.{xor}
-use Rattle.span.specs.Word.{_⊕_, odd, bit}
+use Rattle.words.specs.Word.{_⊕_, odd, bit}
 use Rattle.span.specs.Combination.{combination}
 use Rattle.span.specs.Relation.{leastFrom, leastCoefficients}
 use Rattle.tables.specs.Table.{sizesFit, rowsFit, fit}

@@ -9,10 +9,11 @@ use lib.ListN.{length}
 use lib.Pow.{pow-pos}
 use Rattle.span.specs.declared.eliminate.Least.{Least}
 use Rattle.span.specs.declared.eliminate.Least.the-variants.{Found, Missing}
-use Rattle.span.specs.Word.{_⊕_, shifted}
+use Rattle.words.specs.Word.{_⊕_, shifted}
 use Rattle.span.specs.Combination.{combination, Below}
 use Rattle.span.specs.Relation.{leastCoefficients, IsLeast}
-use Rattle.span.proofs.Laws.{xor-eq, xor-self, xor-lt, shifted-zero, combination-zero, combination-xor, combination-lt, least-coefficients}
+use Rattle.words.proofs.Laws.{xor-eq, xor-self, xor-lt, shifted-zero}
+use Rattle.span.proofs.Laws.{combination-zero, combination-xor, combination-lt, least-coefficients}
 use Rattle.tables.specs.Code.{Suitable}
 use Rattle.tables.proofs.Laws.{alike}
 

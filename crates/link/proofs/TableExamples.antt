@@ -7,7 +7,7 @@ use native.Mathlib.Omega.{arith}
 use borrow.Author.Tests.{leb-true, ltb-true, eqb-true, eqb-false, not-true}
 use lib.Dec.{leb, ltb, eqb}
 use lib.ListN.{length, replicate}
-use Rattle.span.specs.Word.{_⊕_, odd, bit, shifted}
+use Rattle.words.specs.Word.{_⊕_, odd, bit, shifted}
 use Rattle.span.specs.Combination.{combination}
 use Rattle.tables.specs.Code.{image, shiftedImage, Clashes, Suitable}
 use Rattle.tables.specs.Table.{table, sizesFit}

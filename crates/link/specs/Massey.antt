@@ -28,7 +28,7 @@ use lib.Dec.{leb, ltb}
 use lib.ListN.{length, getD}
 use Rattle.span.specs.declared.eliminate.Least.{Least}
 use Rattle.span.specs.declared.eliminate.Least.the-variants.{Found, Missing}
-use Rattle.span.specs.Word.{_⊕_, bit}
+use Rattle.words.specs.Word.{_⊕_, bit}
 use Rattle.tables.specs.declared.table.Table.{Table}
 use Rattle.tables.specs.Table.{rowsOf}
 use Rattle.decoder.specs.declared.decode.DecodeAnswer.the-variants.{Delivery, NothingYet}

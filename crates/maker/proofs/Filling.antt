@@ -16,9 +16,10 @@ use native.Mathlib.Decide.{decLe, ℕ-discrete}
 use native.Mathlib.Omega.{arith}
 use lib.ListN.{length, getD, List·getD-eq-default}
 use lib.Pow.{pow-pos, pow-lt, pow-add, shr-lt, shr-le, split}
-use Rattle.span.specs.Word.{_⊕_, odd, bit, sel, commonParity, shifted}
+use Rattle.words.specs.Word.{_⊕_, odd, bit, sel, commonParity, shifted}
 use Rattle.span.specs.Combination.{combination, Below}
-use Rattle.span.proofs.Laws.{xor-assoc, xor-comm, xor-self, xor-zero-l, xor-zero-r, xor-twice, xor-eq, xor-lt, xor-swap, xor-mod, xor-shr, xor-shl, odd-of, odd-digit, odd-xor, xor-half, bit-xor, bit-none, bit-pow, sel-lt, shifted-xor, shifted-lt, parity-xor, parity-pow, combination-xor, combination-pow, combination-lt, parity-top, xor-false-l}
+use Rattle.words.proofs.Laws.{xor-assoc, xor-comm, xor-self, xor-zero-l, xor-zero-r, xor-twice, xor-eq, xor-lt, xor-swap, xor-mod, xor-shr, xor-shl, odd-of, odd-digit, odd-xor, xor-half, bit-xor, bit-none, bit-pow, sel-lt, shifted-xor, shifted-lt, parity-xor, parity-pow, parity-top, xor-false-l}
+use Rattle.span.proofs.Laws.{combination-xor, combination-pow, combination-lt}
 use Rattle.maker.specs.Made.{triangleRows, Triangle}
 use Rattle.maker.specs.Laws.{FILLING}
 use Rattle.tables.specs.Code.{image, shiftedImage, Clashes, Suitable}

@@ -12,9 +12,10 @@ use native.Mathlib.Omega.{arith}
 use lib.ListN.{length, getD, length-append, List·getD-append}
 use lib.Pow.{pow-pos, pow-lt, pow-add, shl-shr, mod-pow-add, mod-mod-pow}
 use lib.Seq.{getD-at}
-use Rattle.span.specs.Word.{_⊕_, odd, bit, sel, digit, commonParity, shifted}
+use Rattle.words.specs.Word.{_⊕_, odd, bit, sel, digit, commonParity, shifted}
 use Rattle.span.specs.Combination.{combination, Below, Independent}
-use Rattle.span.proofs.Laws.{xor-self, xor-zero-l, xor-zero-r, xor-eq, xor-lt, xor-swap, odd-mod, odd-digit, bit-zero, bit-suc, bit-xor, bit-none, bit-pow, bit-pow-other, xor-shl, pow-add-xor, sel-xor, sel-lt, shifted-zero, parity-comm, parity-xor, combination-xor, combination-pow, spanning, xor-false-l, xor-false-r, mod-top, shifted-mod}
+use Rattle.words.proofs.Laws.{xor-self, xor-zero-l, xor-zero-r, xor-eq, xor-lt, xor-swap, odd-mod, odd-digit, bit-zero, bit-suc, bit-xor, bit-none, bit-pow, bit-pow-other, xor-shl, pow-add-xor, sel-xor, sel-lt, shifted-zero, parity-comm, parity-xor, xor-false-l, xor-false-r, mod-top, shifted-mod}
+use Rattle.span.proofs.Laws.{combination-xor, combination-pow, spanning}
 
 -- ---- words
 

@@ -14,7 +14,7 @@ use borrow.Author.Tests.{ltb-true, eqb-true}
 use lib.Dec.{ltb, eqb}
 use lib.ListN.{length, getD, take, replicate}
 use lib.Seq.{take-suc, take-at, length-take-le, getD-take, take-all}
-use Rattle.span.specs.Word.{_⊕_, odd, bit, digit, commonParity, shifted}
+use Rattle.words.specs.Word.{_⊕_, odd, bit, digit, commonParity, shifted}
 use Rattle.span.specs.Combination.{combination, Below}
 use Rattle.tables.specs.declared.table.Table.{Table}
 use Rattle.maker.specs.declared.make.MakeAnswer.the-variants.{Made, OutOfRange}

@@ -11,9 +11,10 @@ use native.Mathlib.Omega.{arith}
 use lib.ListN.{length, getD, length-append, List·getD-append}
 use lib.Pow.{pow-pos, pow-lt, pow-mono}
 use lib.Seq.{getD-at, getD-append-seam}
-use Rattle.span.specs.Word.{_⊕_, bit, sel, digit}
+use Rattle.words.specs.Word.{_⊕_, bit, sel, digit}
 use Rattle.span.specs.Combination.{Below}
-use Rattle.span.proofs.Laws.{xor-comm, xor-zero-r, bit-xor, bit-none, bit-pow, bit-pow-other, pow-add-xor, combination-xor, combination-pow, combination-low, combination-lt, bit-low}
+use Rattle.words.proofs.Laws.{xor-comm, xor-zero-r, bit-xor, bit-none, bit-pow, bit-pow-other, pow-add-xor, bit-low}
+use Rattle.span.proofs.Laws.{combination-xor, combination-pow, combination-low, combination-lt}
 use Rattle.tables.specs.Code.{image}
 use Rattle.maker.specs.Made.{upper, madeRow, madeRows, triangleRows, Triangle}
 use Rattle.maker.specs.Laws.{NESTED-ROWS}

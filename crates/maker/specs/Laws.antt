@@ -16,7 +16,7 @@ use mathlib.Core.Logic.{_↔_}
 use mathlib.Core.List.{List, [], _∷_, _++_}
 use Prim.Native.Nat.{ℕ, suc, _+_, _-_, _*_, _^_, _≤_, _<_}
 use lib.ListN.{length, getD, take}
-use Rattle.span.specs.Word.{bit, digit}
+use Rattle.words.specs.Word.{bit, digit}
 use Rattle.tables.specs.Code.{Suitable}
 use Rattle.tables.specs.Table.{table, zeroTable, rowsOf, sizesFit, fit, Whole}
 use Rattle.maker.specs.declared.make.MakeAnswer.the-variants.{Made}

@@ -14,7 +14,7 @@ use mathlib.Core.Bool.{Bool, true, false}
 use mathlib.Core.List.{List, [], _∷_, _++_}
 use Prim.Native.Nat.{ℕ, zero, suc, _+_, _-_, _*_, _^_, _<_}
 use lib.ListN.{length, getD, replicate}
-use Rattle.span.specs.Word.{bit, digit}
+use Rattle.words.specs.Word.{bit, digit}
 use Rattle.tables.specs.declared.table.Table.{Table}
 use Rattle.maker.specs.declared.make.Making.{Making}
 use Rattle.maker.specs.declared.make.MakeAnswer.{MakeAnswer}

@@ -1,9 +1,9 @@
 // The made tables: Berlekamp and Preparata's, from a triangle of bits.
-use span::bits::select;
-use span::bits::shift;
 use tables::table::Table;
 use tables::table::sizes_fit;
 use tables::table::zero_table;
+use words::bits::select;
+use words::bits::shift;
 ghost use mathlib.Core.Path.{_≡_};
 ghost use mathlib.Core.List.{_++_};
 ghost use Prim.Native.Nat.{_-_, _≤_, _<_};

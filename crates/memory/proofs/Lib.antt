@@ -1,5 +1,4 @@
 -- Laws that coder, decoder and link use; `Answers` is also for the crates above them.
-pub mod Words
 pub mod Parts
 pub mod Faults
 pub mod Fits

@@ -8,7 +8,7 @@ use mathlib.Core.Bool.{cond}
 use mathlib.Core.List.{List}
 use Prim.Native.Nat.{ℕ, suc, _/_}
 use lib.Dec.{eqb}
-use Rattle.span.specs.Word.{_⊕_}
+use Rattle.words.specs.Word.{_⊕_}
 use Rattle.span.specs.Combination.{combination}
 
 -- "In every step, of coder or decoder, w is the exclusive or of the pending word of the turn's stream and the rows of the ones in the block's

@@ -1,10 +1,10 @@
 // Reading a table: 01, "Table bytes" and refusals 1 to 10. The fault of a record stands apart from what a sound record does.
-use span::bits::mask;
 use tables::judge::Judgement;
 use tables::judge::judge;
 use tables::table::Table;
 use tables::table::sizes_fit;
 use tables::table::zero_table;
+use words::bits::mask;
 ghost use mathlib.Core.Path.{_≡_};
 ghost use mathlib.Core.Logic.{_≢_};
 ghost use mathlib.Core.Bool.{cond, not};

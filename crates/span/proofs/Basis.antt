@@ -17,12 +17,12 @@ use lib.Seq.{getD-set-same, getD-set-other, getD-append-seam, append-snoc, take-
 use Rattle.span.specs.declared.eliminate.Least.the-variants.{Found, Missing}
 use Rattle.span.specs.declared.eliminate.Basis.{Basis}
 use Rattle.span.specs.declared.eliminate.Reduced.{Reduced}
-use Rattle.span.specs.Word.{_⊕_, commonParity}
+use Rattle.words.specs.Word.{_⊕_, commonParity}
 use Rattle.span.specs.Combination.{combination, Below}
 use Rattle.span.specs.Relation.{leastRelation, leastCoefficients, IsLeast}
 use Rattle.span.specs.Basis.{basis, reducedBy, reducedTo, reduction, answer}
 use Rattle.span.specs.Elimination.{lowestOne, emptyBasis, grown, pickBasis, joined, extended, basisOf}
-use Rattle.span.proofs.Word.{xor-twice, xor-lt, parity-pow, trailing-bit}
+use Rattle.words.proofs.Laws.{xor-twice, xor-lt, parity-pow, trailing-bit}
 use Rattle.span.proofs.Combination.{combination-lt}
 use Rattle.span.proofs.Relation.{least-unique, least-coefficients, relation-found, relation-none}
 use Rattle.span.proofs.Elimination.{Reduces, start, pass, join, least-by}

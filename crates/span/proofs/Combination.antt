@@ -9,9 +9,9 @@ use native.Mathlib.Omega.{arith}
 use lib.Pow.{pow-pos, shr-shr, mod-mod-pow, field}
 use lib.ListN.{length, getD, take, drop, length-take, take-append-drop}
 use lib.Seq.{getD-append-seam, getD-take, length-take-le, take-all, take-take}
-use Rattle.span.specs.Word.{_⊕_, odd, bit, sel}
+use Rattle.words.specs.Word.{_⊕_, odd, bit, sel}
 use Rattle.span.specs.Combination.{combination, Below, counted}
-use Rattle.span.proofs.Word.{xor-zero-l, xor-zero-r, xor-assoc, xor-swap, xor-lt, xor-half, odd-of, odd-mod, odd-xor, sel-xor, sel-lt, bit-none, xor-comm, pow-add-xor}
+use Rattle.words.proofs.Laws.{xor-zero-l, xor-zero-r, xor-assoc, xor-swap, xor-lt, xor-half, odd-of, odd-mod, odd-xor, sel-xor, sel-lt, bit-none, xor-comm, pow-add-xor}
 
 pub combination-zero : (ws : List ℕ) → combination ws 0 ≡ 0
 unfolding combination odd

@@ -14,10 +14,10 @@ use lib.ListN.{length}
 use lib.Pow.{pow-lt}
 use Rattle.span.specs.declared.eliminate.Least.{Least}
 use Rattle.span.specs.declared.eliminate.Least.the-variants.{Found, Missing}
-use Rattle.span.specs.Word.{_⊕_}
+use Rattle.words.specs.Word.{_⊕_}
 use Rattle.span.specs.Combination.{combination, Member, Independent, Below}
 use Rattle.span.specs.Relation.{leastCoefficients, IsLeast}
-use Rattle.span.proofs.Word.{xor-eq, xor-self, xor-lt}
+use Rattle.words.proofs.Laws.{xor-eq, xor-self, xor-lt}
 use Rattle.span.proofs.Combination.{combination-xor, combination-lt}
 use Rattle.span.proofs.Relation.{least-coefficients}
 

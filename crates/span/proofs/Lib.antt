@@ -1,5 +1,4 @@
 -- `Laws` is what a layer above sees; the files below it are the crate's own.
-mod Word
 mod Combination
 mod Relation
 mod Elimination

@@ -16,10 +16,10 @@ use lib.Pow.{pow-mono}
 use lib.Seq.{take-suc, length-take-le}
 use Rattle.span.specs.declared.eliminate.Least.{Least}
 use Rattle.span.specs.declared.eliminate.Least.the-variants.{Found, Missing}
-use Rattle.span.specs.Word.{_⊕_}
+use Rattle.words.specs.Word.{_⊕_}
 use Rattle.span.specs.Combination.{combination, Member, Relation, Independent}
 use Rattle.span.specs.Relation.{leastFrom, leastRelation, leastCoefficients, raised, IsLeast}
-use Rattle.span.proofs.Word.{xor-comm, xor-eq, xor-self, pow-add-xor}
+use Rattle.words.proofs.Laws.{xor-comm, xor-eq, xor-self, pow-add-xor}
 use Rattle.span.proofs.Combination.{combination-above, combination-take}
 
 above : (P : ℕ → Type 0) (a d : ℕ) → (P a → ⊥) → a ≤ d → P d → suc a ≤ d

@@ -1,5 +1,4 @@
--- `span`: words over GF(2), their combinations, and the least relation among them.
-pub mod Word
+-- `span`: combinations of words, and the least relation among them.
 pub mod Combination
 pub mod Relation
 pub mod Basis

@@ -1,6 +1,6 @@
 // Combinations of words by a coefficient number.
-use crate::bits::select;
-use crate::bound::at_most;
+use words::bits::select;
+use words::bound::at_most;
 ghost use mathlib.Core.Path.{_≡_};
 ghost use lib.ListN.{take};
 ghost use Rattle.span.specs.Combination.{combination};

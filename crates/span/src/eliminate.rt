@@ -1,7 +1,7 @@
 // Elimination over GF(2): a basis by value, and the least relation among words.
-use crate::bits::common_parity;
-use crate::bits::select;
-use crate::bound::at_most;
+use words::bits::common_parity;
+use words::bits::select;
+use words::bound::at_most;
 ghost use mathlib.Core.Path.{_≡_};
 ghost use Prim.Native.Nat.{_<_, _≤_, _^_};
 ghost use lib.ListN.{length, take};

@@ -1,5 +1,3 @@
-// Words over GF(2): the parity of common ones, combinations of words, and the least relation among them.
-pub mod bits;
-pub mod bound;
+// Combinations of words over GF(2), and the least relation among them.
 pub mod combine;
 pub mod eliminate;

@@ -1,6 +1,6 @@
 // The table by value, and when it is fit. Row j stands at rows[j − 1]; row n, the parity's, is 1 always and is not stored.
-use span::bits::mask;
-use span::bound::at_most;
+use words::bits::mask;
+use words::bound::at_most;
 ghost use mathlib.Core.Path.{_≡_};
 ghost use Rattle.tables.specs.Table.{table, zeroTable, sizesFit, fit};
 ghost use Rattle.tables.specs.Lent.{lent};

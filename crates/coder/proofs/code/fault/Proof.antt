@@ -13,7 +13,7 @@ use Rattle.tables.proofs.Bounds.{fit-facts}
 use Rattle.memory.specs.Memory.{coderWords}
 use Rattle.coder.specs.Coder.{coderMalformed, coderFault}
 use Rattle.coder.proofs.Faults.{coder-fault}
-use Rattle.memory.proofs.Words.{above-mask}
+use Rattle.words.proofs.Masks.{above-mask}
 use Rattle.tables.specs.Lent.{withRows, lent}
 use Rattle.tables.proofs.Lent.{fit-lent}
 use Rattle.coder.proofs.code.fault.Statement.{statement}

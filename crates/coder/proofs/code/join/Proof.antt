@@ -3,7 +3,7 @@ use mathlib.Core.Path.{ap, _∙_}
 use Prim.Native.Nat.{ℕ, _/_, _%_}
 use borrow.Author.Needs.{needs}
 use lib.ListN.{set}
-use Rattle.span.proofs.Laws.{odd-mod}
+use Rattle.words.proofs.Laws.{odd-mod}
 use Rattle.coder.proofs.code.join.Statement.{statement}
 use Rattle.coder.proofs.code.join.Tie as tie
 

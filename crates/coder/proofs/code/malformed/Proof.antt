@@ -7,7 +7,7 @@ use borrow.Author.Needs.{needs}
 use borrow.Author.Tests.{le-leb, lt-leb}
 use lib.Dec.{leb}
 use lib.ListN.{getD}
-use Rattle.memory.proofs.Words.{above-mask}
+use Rattle.words.proofs.Masks.{above-mask}
 use Rattle.coder.proofs.code.malformed.Statement.{statement}
 use Rattle.coder.proofs.code.malformed.Tie as tie
 

@@ -7,12 +7,12 @@ use native.Mathlib.Omega.{arith}
 use borrow.Author.Needs.{needs}
 use borrow.Rule.Slice.PartMut.{midOf, putMid}
 use lib.ListN.{length, getD, set, length-set}
-use Rattle.span.specs.Word.{odd, digit}
+use Rattle.words.specs.Word.{odd, digit}
 use Rattle.tables.specs.declared.table.Table.{Table}
 use Rattle.memory.specs.Stream.{joining}
 use Rattle.memory.specs.Memory.{infoRows, turnOf}
 use Rattle.coder.specs.Coder.{coderJoining, codedBlock, coderNext}
-use Rattle.memory.proofs.Words.{bit-shifted}
+use Rattle.words.proofs.Masks.{bit-shifted}
 use Rattle.memory.proofs.Parts.{mid-word, put-word}
 use Rattle.coder.proofs.Memory.{CoderTaken, coder-taken, coded-fits}
 use Rattle.tables.specs.Lent.{withRows}

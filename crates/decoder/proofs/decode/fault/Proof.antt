@@ -12,7 +12,7 @@ use Rattle.tables.specs.Table.{fit}
 use Rattle.tables.proofs.Bounds.{fit-facts}
 use Rattle.memory.specs.Memory.{decoderWords}
 use Rattle.decoder.specs.Decoder.{decoderMalformed, decoderFault}
-use Rattle.memory.proofs.Words.{above-mask}
+use Rattle.words.proofs.Masks.{above-mask}
 use Rattle.decoder.proofs.Faults.{decoder-fault}
 use Rattle.decoder.proofs.Room.{fit-room}
 use Rattle.tables.specs.Lent.{withRows, lent}

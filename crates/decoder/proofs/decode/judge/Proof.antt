@@ -6,7 +6,7 @@ use native.Mathlib.Omega.{arith}
 use borrow.Author.Needs.{needs}
 use lib.ListN.{length}
 use lib.Pow.{pow-mono}
-use Rattle.span.proofs.Laws.{odd-of}
+use Rattle.words.proofs.Laws.{odd-of}
 use Rattle.tables.specs.Table.{codeRows}
 use Rattle.decoder.specs.Step.{found}
 use Rattle.decoder.proofs.Error.{code-size, zero-found, found-lt, found-some, judged-zero, judged-found, judged-doubtful, judged-held}

@@ -8,7 +8,7 @@ use borrow.Author.Needs.{needs}
 use lib.ListN.{length}
 use Rattle.span.specs.declared.eliminate.Least.the-variants.{Found}
 use Rattle.tables.specs.Table.{codeRows}
-use Rattle.memory.proofs.Words.{bit-shifted}
+use Rattle.words.proofs.Masks.{bit-shifted}
 use Rattle.decoder.proofs.Error.{code-size, error-found, error-missing}
 use Rattle.decoder.proofs.decode.least_error.Statement.{statement}
 use Rattle.decoder.proofs.decode.least_error.Tie as tie

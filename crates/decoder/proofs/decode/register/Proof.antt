@@ -6,10 +6,10 @@ use native.Mathlib.Omega.{arith}
 use borrow.Author.Needs.{needs}
 use lib.Bits.{bitXor}
 use lib.Pow.{pow-mono}
-use Rattle.span.specs.Word.{_⊕_, odd, digit}
-use Rattle.span.proofs.Laws.{xor-code, odd-mod, odd-xor, bit-odd}
+use Rattle.words.specs.Word.{_⊕_, odd, digit}
+use Rattle.words.proofs.Laws.{xor-code, odd-mod, odd-xor, bit-odd}
 use Rattle.decoder.specs.Step.{rawTerm}
-use Rattle.memory.proofs.Words.{bit-most, bit-shifted}
+use Rattle.words.proofs.Masks.{bit-most, bit-shifted}
 use Rattle.decoder.proofs.decode.register.Statement.{statement}
 use Rattle.decoder.proofs.decode.register.Tie as tie
 

@@ -10,7 +10,7 @@ use lib.Dec.{leb}
 use lib.ListN.{getD}
 use lib.Pow.{pow-pos}
 use Rattle.decoder.specs.Decoder.{someAbove}
-use Rattle.memory.proofs.Words.{above-mask, or-above}
+use Rattle.words.proofs.Masks.{above-mask, or-above}
 use Rattle.decoder.proofs.decode.some_above.Statement.{statement}
 use Rattle.decoder.proofs.decode.some_above.Tie as tie
 

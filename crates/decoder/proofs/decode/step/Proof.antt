@@ -8,8 +8,8 @@ use borrow.Author.Needs.{needs}
 use lib.Bits.{bitXor, xor-lt}
 use lib.ListN.{length, getD, set, take, drop, length-set, length-append, length-drop}
 use lib.Pow.{pow-pos, pow-mono}
-use Rattle.span.specs.Word.{_⊕_}
-use Rattle.span.proofs.Laws.{xor-code}
+use Rattle.words.specs.Word.{_⊕_}
+use Rattle.words.proofs.Laws.{xor-code}
 use Rattle.tables.specs.Table.{codeRows}
 use Rattle.decoder.specs.declared.decode.Mark.{Mark}
 use Rattle.memory.specs.Stream.{joining}

@@ -9,7 +9,7 @@ use lib.Bits.{bitOr}
 use lib.Dec.{leb}
 use lib.ListN.{getD}
 use Rattle.decoder.specs.Decoder.{someAbove}
-use Rattle.memory.proofs.Words.{above-mask, or-above}
+use Rattle.words.proofs.Masks.{above-mask, or-above}
 use Rattle.decoder.proofs.decode.stream_malformed.Statement.{statement}
 use Rattle.decoder.proofs.decode.stream_malformed.Tie as tie
 

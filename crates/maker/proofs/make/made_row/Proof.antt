@@ -8,8 +8,8 @@ use borrow.Author.Needs.{needs}
 use lib.Dec.{lit<}
 use lib.ListN.{getD}
 use lib.Pow.{pow-lt, pow-mono}
-use Rattle.span.specs.Word.{odd, bit, sel, digit, shifted}
-use Rattle.span.proofs.Laws.{bit-odd, shifted-inside}
+use Rattle.words.specs.Word.{odd, bit, sel, digit, shifted}
+use Rattle.words.proofs.Laws.{bit-odd, shifted-inside}
 use Rattle.maker.specs.Made.{columns, upper, madeRow}
 use Rattle.maker.proofs.make.made_row.Statement.{statement}
 use Rattle.maker.proofs.make.made_row.Tie as tie

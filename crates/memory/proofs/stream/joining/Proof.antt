@@ -2,8 +2,8 @@
 use mathlib.Core.Path.{ap, _∙_}
 use Prim.Native.Nat.{ℕ}
 use borrow.Author.Needs.{needs}
-use Rattle.span.specs.Word.{_⊕_}
-use Rattle.span.proofs.Laws.{xor-code}
+use Rattle.words.specs.Word.{_⊕_}
+use Rattle.words.proofs.Laws.{xor-code}
 use Rattle.memory.specs.Stream.{joining}
 use Rattle.memory.proofs.stream.joining.Statement.{statement}
 use Rattle.memory.proofs.stream.joining.Tie as tie

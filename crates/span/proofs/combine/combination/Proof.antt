@@ -7,9 +7,9 @@ use borrow.Author.Needs.{needs}
 use mathlib.Core.List.{List}
 use lib.ListN.{length, take, drop, getD, length-take, drop-of-length-le}
 use lib.Seq.{drop-cons, getD-take}
-use Rattle.span.specs.Word.{_⊕_, odd, sel}
+use Rattle.words.specs.Word.{_⊕_, odd, sel}
 use Rattle.span.specs.Combination.{combination}
-use Rattle.span.proofs.Word.{xor-zero-l, xor-zero-r, xor-assoc}
+use Rattle.words.proofs.Laws.{xor-zero-l, xor-zero-r, xor-assoc}
 use Rattle.span.proofs.combine.combination.Statement.{statement}
 use Rattle.span.proofs.combine.combination.Tie as tie
 

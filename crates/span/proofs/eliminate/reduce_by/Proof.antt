@@ -7,9 +7,9 @@ use borrow.Author.Needs.{needs}
 use lib.ListN.{getD}
 use Rattle.span.specs.declared.eliminate.Basis.{Basis}
 use Rattle.span.specs.declared.eliminate.Reduced.{Reduced}
-use Rattle.span.specs.Word.{_⊕_, odd, sel, digit, commonParity}
+use Rattle.words.specs.Word.{_⊕_, odd, sel, digit, commonParity}
 use Rattle.span.specs.Basis.{basis, reducedBy, reducedTo, reduction}
-use Rattle.span.proofs.Word.{odd-digit}
+use Rattle.words.proofs.Laws.{odd-digit}
 use Rattle.span.proofs.eliminate.reduce_by.Statement.{statement}
 use Rattle.span.proofs.eliminate.reduce_by.Tie as tie
 

@@ -1,4 +1,4 @@
--- Words of 64 bits as the code has them: masks, and a bit shifted to its place. Assumes nothing.
+-- Words of 64 bits as code has them: masks, and a bit at a place above others. Assumes nothing.
 --
 --   above-mask    a word is above the mask of k places exactly if it is 2^k or more
 --   or-above      the ones of two words together are 2^k or more exactly if one of the words is
@@ -15,7 +15,7 @@ use borrow.Author.Tests.{lt-ltb, le-ltb, le-leb, lt-leb}
 use lib.Bits.{bitOr, or-lt, or-add-and, and-le-l, and-le-r}
 use lib.Dec.{leb, ltb}
 use lib.Pow.{pow-pos, pow-mono}
-use Rattle.span.specs.Word.{digit}
+use Rattle.words.specs.Word.{digit}
 
 pub above-mask : (k r x : ℕ) → k ≤ 64 → r ≡ 2 ^ min k 64 - 1 → ltb r x ≡ leb (2 ^ k) x
 above-mask k r x h e = go (decLt r x)

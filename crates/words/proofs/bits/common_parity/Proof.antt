@@ -1,13 +1,13 @@
--- `span::bits::common_parity`: the count of common ones, taken modulo 2, is the exclusive or over the 64 places. Assumes nothing.
+-- `words::bits::common_parity`: the count of common ones, taken modulo 2, is the exclusive or over the 64 places. Assumes nothing.
 use mathlib.Core.Path.{_≡_, sym, ap, _∙_}
 use Prim.Native.Nat.{ℕ, _%_, _^_, _<_}
 use borrow.Author.Needs.{needs}
 use lib.Bits.{bitAnd}
 use lib.Count.{ones}
-use Rattle.span.specs.Word.{digit, commonParity}
-use Rattle.span.proofs.Word.{odd-mod, parity-ones}
-use Rattle.span.proofs.bits.common_parity.Statement.{statement}
-use Rattle.span.proofs.bits.common_parity.Tie as tie
+use Rattle.words.specs.Word.{digit, commonParity}
+use Rattle.words.proofs.Word.{odd-mod, parity-ones}
+use Rattle.words.proofs.bits.common_parity.Statement.{statement}
+use Rattle.words.proofs.bits.common_parity.Tie as tie
 
 -- the count of common ones, modulo 2
 counted : (a b : ℕ) → a < 2 ^ 64 → ones (bitAnd a b) % 2 ≡ digit (commonParity 64 a b)

@@ -1,14 +1,14 @@
--- `span::bits::shift`: what a shift in the word keeps, the mask cuts to the bits asked for. Assumes nothing.
+-- `words::bits::shift`: what a shift in the word keeps, the mask cuts to the bits asked for. Assumes nothing.
 use mathlib.Core.Path.{_≡_, sym, ap, _∙_}
 use Prim.Native.Nat.{ℕ, _+_, _-_, _*_, _%_, _^_, _≤_, min}
 use native.Mathlib.Omega.{arith}
 use borrow.Author.Needs.{needs}
 use lib.Bits.{bitAnd, and-mask}
 use lib.Pow.{mod-mod-pow}
-use Rattle.span.specs.Word.{shifted}
-use Rattle.span.proofs.Word.{shifted-past}
-use Rattle.span.proofs.bits.shift.Statement.{statement}
-use Rattle.span.proofs.bits.shift.Tie as tie
+use Rattle.words.specs.Word.{shifted}
+use Rattle.words.proofs.Word.{shifted-past}
+use Rattle.words.proofs.bits.shift.Statement.{statement}
+use Rattle.words.proofs.bits.shift.Tie as tie
 
 cut : (x k : ℕ) → k ≤ 64 → x % 2 ^ 64 % 2 ^ k ≡ x % 2 ^ k
 cut x k h =

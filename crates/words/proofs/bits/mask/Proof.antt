@@ -1,11 +1,11 @@
--- `span::bits::mask`: 64 ones shifted down by what is missing. Assumes nothing.
+-- `words::bits::mask`: 64 ones shifted down by what is missing. Assumes nothing.
 use mathlib.Core.Path.{_≡_, ap, _∙_}
 use Prim.Native.Nat.{ℕ, _+_, _-_, _/_, _^_, min}
 use native.Mathlib.Omega.{arith}
 use borrow.Author.Needs.{needs}
 use lib.Pow.{high, ones-lt, ones-split}
-use Rattle.span.proofs.bits.mask.Statement.{statement}
-use Rattle.span.proofs.bits.mask.Tie as tie
+use Rattle.words.proofs.bits.mask.Statement.{statement}
+use Rattle.words.proofs.bits.mask.Tie as tie
 
 same : (i j : ℕ) → i ≡ j → 2 ^ i - 1 ≡ 2 ^ j - 1
 same i j e = ap (λ (k : ℕ). 2 ^ k - 1) e

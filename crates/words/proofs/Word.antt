@@ -13,7 +13,7 @@ use lib.Pow.{pow-pos, pow-add, shr-shr, shl-shr, shl-exact, split, field, mod-po
 use lib.Bits.{bitXor, bitAnd, and-shr, and-mod, xor-block}
 use lib.Bits as Bits
 use lib.Count.{ones, ones-step, trailingZeros, under}
-use Rattle.span.specs.Word.{_⊕_, odd, bit, sel, digit, commonParity, shifted}
+use Rattle.words.specs.Word.{_⊕_, odd, bit, sel, digit, commonParity, shifted}
 
 -- ---- exclusive or of two truth values
 

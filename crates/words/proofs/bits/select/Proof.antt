@@ -1,4 +1,4 @@
--- `span::bits::select`: 0 less an odd bit is all ones, which mask nothing. Assumes nothing.
+-- `words::bits::select`: 0 less an odd bit is all ones, which mask nothing. Assumes nothing.
 use mathlib.Core.Path.{_≡_, sym, ap, _∙_}
 use mathlib.Core.Bool.{Bool, true, false}
 use Prim.Native.Nat.{ℕ, _+_, _-_, _%_, _^_, _<_}
@@ -6,10 +6,10 @@ use native.Mathlib.Nat.{mod-eq-of-lt}
 use native.Mathlib.Omega.{arith}
 use borrow.Author.Needs.{needs}
 use lib.Bits.{bitAnd, and-mask, and-zero-r}
-use Rattle.span.specs.Word.{sel, digit, odd}
-use Rattle.span.proofs.Word.{odd-mod}
-use Rattle.span.proofs.bits.select.Statement.{statement}
-use Rattle.span.proofs.bits.select.Tie as tie
+use Rattle.words.specs.Word.{sel, digit, odd}
+use Rattle.words.proofs.Word.{odd-mod}
+use Rattle.words.proofs.bits.select.Statement.{statement}
+use Rattle.words.proofs.bits.select.Tie as tie
 
 wrapping-sub-u64-requires : tie.Need-wrapping-sub-u64-requires
 wrapping-sub-u64-requires c κs = search needs

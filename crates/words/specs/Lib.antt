@@ -1,0 +1,3 @@
+-- `words`: numbers as words over GF(2).
+pub mod Word
+pub mod Laws
