@@ -50,7 +50,7 @@ MADE-TOLD =
     × Whole t × (givenBack number t before ≡ numbersOf t))
     × (number ≢ 0 → givenBack number t before ≡ before)
 
--- `Answered` of `link`, in the struct's numbers: of a refusal the number, and 0 for all else
+-- `Answered` of `memory`, in the struct's numbers: of a refusal the number, and 0 for all else
 abbrev pub Told : {X : Type 0} → (List ℕ → X) → ℕ → List ℕ → List ℕ → List ℕ → List ℕ → List ℕ → Type 0
 Told f fault values next before ns after =
     (fault ≢ 0 → (f ns ≡ f (fault ∷ 0 ∷ 0 ∷ 0 ∷ [])) × (after ≡ before)) × (fault ≡ 0 → (f ns ≡ f (0 ∷ values)) × (after ≡ next))

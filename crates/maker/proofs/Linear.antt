@@ -1,4 +1,4 @@
--- Shifts, single bits and linear maps of words, from the laws of `span`: what the proof about the triangle rests on. A linear map is fixed by
+-- Shifts, single bits and linear maps of words, from the laws of `words` and `span`: what the proof about the triangle rests on. A linear map is fixed by
 -- its values at single ones (`linear-same`), and one of k-bit words that maps only 0 to 0 reaches every word (`linear-onto`). Assumes nothing.
 use mathlib.Core.Path.{_≡_, refl, sym, ap, ap₂, _∙_, subst}
 use mathlib.Core.Bool.{Bool, true, false, xor}

@@ -32,6 +32,6 @@ readingOf (k ∷ p ∷ []) = record { refused = k; place = p; l = 0; e0 = 0; e1 
 readingOf (k ∷ l ∷ e0 ∷ []) = record { refused = k; place = 0; l = l; e0 = e0; e1 = 0 }
 readingOf (k ∷ l ∷ e0 ∷ e1 ∷ ns) = record { refused = k; place = 0; l = l; e0 = e0; e1 = e1 }
 
--- 0 to 4, as CR 1 of 02 numbers them; `FAULT-RANGE` of `link` has the numbers of refusals
+-- 0 to 4, as CR 1 of 02 numbers them; the numbers of refusals have `START-RANGE`, `CODE-RANGE` and `DECODE-RANGE`
 abbrev pub MARK-RANGE : Type 0
 MARK-RANGE = (a : DecodeAnswer) → decodedOf (decodeNumbers a) .mark ≤ 4
