@@ -2,19 +2,17 @@
 --
 --   coder-fault            the chain of tests
 --   code-refuses, codes    a step that is refused, and one that is not
-use mathlib.Core.Path.{_≡_, sym, ap, _∙_}
-use mathlib.Core.Bool.{true, false, cond, not}
+use mathlib.Core.Path.{_≡_}
+use mathlib.Core.Bool.{cond, not}
 use mathlib.Core.List.{List}
 use Prim.Native.Nat.{ℕ, _-_, _^_, _<_}
-use native.Mathlib.Omega.{arith}
-use borrow.Author.Tests.{eq-eqb, ne-eqb}
 use lib.Dec.{leb, eqb}
 use lib.ListN.{length}
 use Rattle.tables.specs.declared.table.Table.{Table}
 use Rattle.tables.specs.Table.{fit}
 use Rattle.coder.specs.declared.code.CodeAnswer.the-variants.{Coded, Refused}
 use Rattle.memory.specs.Memory.{coderWords}
-use Rattle.memory.proofs.Faults.{four-first, picked, passed}
+use Rattle.memory.proofs.Faults.{four-first, refuses, takes}
 use Rattle.coder.specs.Coder.{coderMalformed, coderFault, codedBlock, coderNext, codeAnswer, codeMemory}
 
 pub coder-fault : (t : Table) (s : List ℕ) (b : ℕ)
@@ -26,12 +24,8 @@ coder-fault t s b = four-first (not (fit t)) (not (eqb (length s) (coderWords t)
 pub code-refuses : (t : Table) (s : List ℕ) (b : ℕ) (k : ℕ) → coderFault t s b ≡ k → 0 < k
     → (Refused k ≡ codeAnswer t s b) × (s ≡ codeMemory t s b)
 unfolding codeAnswer codeMemory
-code-refuses t s b k e some =
-    let no : eqb (coderFault t s b) 0 ≡ false = ne-eqb (coderFault t s b) 0 (λ (z : coderFault t s b ≡ 0). omega arith) in
-    (ap Refused (sym e) ∙ passed (eqb (coderFault t s b) 0) (Coded (codedBlock t s b)) (Refused (coderFault t s b)) no, passed (eqb (coderFault t s b) 0) (coderNext t s b) s no)
+code-refuses t s b = refuses Refused (coderFault t s b) (Coded (codedBlock t s b)) (coderNext t s b) s
 
 pub codes : (t : Table) (s : List ℕ) (b : ℕ) → coderFault t s b ≡ 0 → (Coded (codedBlock t s b) ≡ codeAnswer t s b) × (coderNext t s b ≡ codeMemory t s b)
 unfolding codeAnswer codeMemory
-codes t s b e =
-    let yes : eqb (coderFault t s b) 0 ≡ true = eq-eqb (coderFault t s b) 0 e in
-    (picked (eqb (coderFault t s b) 0) (Coded (codedBlock t s b)) (Refused (coderFault t s b)) yes, picked (eqb (coderFault t s b) 0) (coderNext t s b) s yes)
+codes t s b = takes Refused (coderFault t s b) (Coded (codedBlock t s b)) (coderNext t s b) s

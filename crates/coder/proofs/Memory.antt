@@ -17,10 +17,10 @@ use lib.Seq.{getD-set-same, getD-set-other}
 use lib.Pow.{pow-mono}
 use Rattle.words.specs.Word.{odd, digit}
 use Rattle.tables.specs.declared.table.Table.{Table}
-use Rattle.tables.specs.Table.{fit}
+use Rattle.tables.specs.Table.{fit, infoRows}
 use Rattle.tables.proofs.Bounds.{Fitting, fit-facts}
 use Rattle.memory.specs.Stream.{joining, nextTurn}
-use Rattle.memory.specs.Memory.{infoRows, coderWords, turnOf}
+use Rattle.memory.specs.Memory.{coderWords, turnOf}
 use Rattle.coder.specs.Coder.{pendingAt, coderMalformed, coderFault, coderJoining, codedBlock, coderNext}
 use Rattle.words.proofs.Masks.{topped-lt}
 use Rattle.memory.proofs.Faults.{or-none, four-none}

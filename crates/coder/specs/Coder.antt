@@ -15,11 +15,11 @@ use lib.Dec.{leb, eqb}
 use lib.ListN.{length, getD, set}
 use Rattle.words.specs.Word.{odd, digit}
 use Rattle.tables.specs.declared.table.Table.{Table}
-use Rattle.tables.specs.Table.{fit}
+use Rattle.tables.specs.Table.{fit, infoRows}
 use Rattle.tables.specs.Refusal.{firstOf}
 use Rattle.coder.specs.declared.code.CodeAnswer.{CodeAnswer}
 use Rattle.coder.specs.declared.code.CodeAnswer.the-variants.{Coded, Refused}
-use Rattle.memory.specs.Memory.{infoRows, coderWords, turnOf}
+use Rattle.memory.specs.Memory.{coderWords, turnOf}
 use Rattle.memory.specs.Stream.{joining, nextPending, nextTurn}
 
 abbrev pub pendingAt : List ℕ → ℕ → ℕ

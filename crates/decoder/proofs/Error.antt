@@ -1,6 +1,5 @@
 -- The least error block of a register, as the code finds it: by the least relation that ends in the register. Assumes nothing.
 --
---   code-size                    the code has n rows
 --   error-found, error-missing   from the relation among rows and register
 --   zero-found                   the register 0 is the image of 0
 --   found-lt, found-some         an error block that was found is below 2^n, and not 0 unless the register is
@@ -14,23 +13,16 @@ use native.Mathlib.Omega.{arith}
 use borrow.Author.Tests.{ne-eqb}
 use lib.ListN.{length, take, length-append}
 use lib.Pow.{pow-pos}
-use lib.Seq.{take-all, length-take-le}
+use lib.Seq.{take-all}
 use Rattle.span.specs.declared.eliminate.Least.{Least}
 use Rattle.span.specs.declared.eliminate.Least.the-variants.{Found, Missing}
 use Rattle.words.specs.Word.{odd}
 use Rattle.span.specs.Combination.{combination, counted}
 use Rattle.span.specs.Relation.{leastRelation, leastCoefficients, raised, IsLeast}
 use Rattle.span.proofs.Laws.{combination-zero, least-coefficients, least-unique, least-raised}
-use Rattle.tables.specs.Table.{codeRows}
 use Rattle.decoder.specs.declared.decode.Mark.{Mark}
 use Rattle.decoder.specs.declared.decode.Mark.the-variants.{Clean, Corrected, Doubtful, Held}
 use Rattle.decoder.specs.Step.{errorOf, keptOf, markOf}
-
-pub code-size : (n : ℕ) (rows : List ℕ) → 1 ≤ n → n - 1 ≤ length rows → length (codeRows n rows) ≡ n
-code-size n rows h room =
-    let a = length-append (take (n - 1) rows) (1 ∷ []) in
-    let b = length-take-le (n - 1) rows room in
-    omega arith
 
 -- the words that count are the rows and the register
 ended : (rows words : List ℕ) (n x : ℕ) → length rows ≡ n → n ≤ 16 → take (n + 1) words ≡ rows ++ (x ∷ [])

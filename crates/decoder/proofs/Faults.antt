@@ -2,19 +2,17 @@
 --
 --   decoder-fault              the chain of tests
 --   decode-refuses, decodes    a step that is refused, and one that is not
-use mathlib.Core.Path.{_≡_, sym, ap, _∙_}
-use mathlib.Core.Bool.{true, false, cond, not}
+use mathlib.Core.Path.{_≡_}
+use mathlib.Core.Bool.{cond, not}
 use mathlib.Core.List.{List}
 use Prim.Native.Nat.{ℕ, _^_, _<_}
-use native.Mathlib.Omega.{arith}
-use borrow.Author.Tests.{eq-eqb, ne-eqb}
 use lib.Dec.{leb, eqb}
 use lib.ListN.{length}
 use Rattle.tables.specs.declared.table.Table.{Table}
 use Rattle.tables.specs.Table.{fit}
 use Rattle.decoder.specs.declared.decode.DecodeAnswer.the-variants.{Refused}
 use Rattle.memory.specs.Memory.{decoderWords}
-use Rattle.memory.proofs.Faults.{four-first, picked, passed}
+use Rattle.memory.proofs.Faults.{four-first, refuses, takes}
 use Rattle.decoder.specs.Decoder.{decoderMalformed, decoderFault, decoderNext, delivery, decodeAnswer, decodeMemory}
 
 pub decoder-fault : (t : Table) (s : List ℕ) (r : ℕ)
@@ -26,12 +24,8 @@ decoder-fault t s r = four-first (not (fit t)) (not (eqb (length s) (decoderWord
 pub decode-refuses : (t : Table) (s : List ℕ) (r : ℕ) (k : ℕ) → decoderFault t s r ≡ k → 0 < k
     → (Refused k ≡ decodeAnswer t s r) × (s ≡ decodeMemory t s r)
 unfolding decodeAnswer decodeMemory
-decode-refuses t s r k e some =
-    let no : eqb (decoderFault t s r) 0 ≡ false = ne-eqb (decoderFault t s r) 0 (λ (z : decoderFault t s r ≡ 0). omega arith) in
-    (ap Refused (sym e) ∙ passed (eqb (decoderFault t s r) 0) (delivery t s r) (Refused (decoderFault t s r)) no, passed (eqb (decoderFault t s r) 0) (decoderNext t s r) s no)
+decode-refuses t s r = refuses Refused (decoderFault t s r) (delivery t s r) (decoderNext t s r) s
 
 pub decodes : (t : Table) (s : List ℕ) (r : ℕ) → decoderFault t s r ≡ 0 → (delivery t s r ≡ decodeAnswer t s r) × (decoderNext t s r ≡ decodeMemory t s r)
 unfolding decodeAnswer decodeMemory
-decodes t s r e =
-    let yes : eqb (decoderFault t s r) 0 ≡ true = eq-eqb (decoderFault t s r) 0 e in
-    (picked (eqb (decoderFault t s r) 0) (delivery t s r) (Refused (decoderFault t s r)) yes, picked (eqb (decoderFault t s r) 0) (decoderNext t s r) s yes)
+decodes t s r = takes Refused (decoderFault t s r) (delivery t s r) (decoderNext t s r) s

@@ -1,6 +1,6 @@
 -- What a decoder step that is taken does to each word, as records over n, N, m and the information's rows. Assumes nothing.
 --
---   pendingIn, syndromeIn, delayedIn, registerIn   words of the turn's stream, and the register
+--   streamIn, pendingIn, syndromeIn, delayedIn, registerIn   words of the turn's stream, and the register
 --   DecoderTaken, decoder-taken    what the tests of a step that is taken say
 --   DecoderStep, decoder-step      what the step does
 --   decoder-length                 the length stays
@@ -20,13 +20,13 @@ use lib.Seq.{getD-set-same, getD-set-other, length-take-le, getD-append-add, get
 use Rattle.span.specs.declared.eliminate.Least.{Least}
 use Rattle.words.specs.Word.{_⊕_, odd, bit, digit}
 use Rattle.tables.specs.declared.table.Table.{Table}
-use Rattle.tables.specs.Table.{fit}
+use Rattle.tables.specs.Table.{fit, infoRows}
 use Rattle.tables.proofs.Bounds.{Fitting, fit-facts}
 use Rattle.decoder.specs.declared.decode.DecodeAnswer.{DecodeAnswer}
 use Rattle.decoder.specs.declared.decode.DecodeAnswer.the-variants.{Delivery, NothingYet}
 use Rattle.memory.specs.Stream.{joining, nextTurn}
 use Rattle.decoder.specs.Step.{rawTerm, found, errorOf, keptOf, markOf}
-use Rattle.memory.specs.Memory.{infoRows, turnOf, decoderWords}
+use Rattle.memory.specs.Memory.{turnOf, decoderWords}
 use Rattle.decoder.specs.Decoder.{fillOf, delayOf, pendingOf, syndromeOf, delayedOut, decoderMalformed, decoderFault, decoderJoining, decoderRegister, decoderFound, partNext, streamReplaced, fillNext, decoderNext, delivered, delivery}
 use Rattle.memory.proofs.Faults.{or-none, four-none, picked, passed}
 use Rattle.memory.proofs.Fits.{Fits, table-fits}

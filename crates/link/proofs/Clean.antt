@@ -9,6 +9,7 @@ use native.Mathlib.Omega.{arith}
 use lib.ListN.{length}
 use Rattle.tables.specs.declared.table.Table.{Table}
 use Rattle.tables.proofs.Bounds.{fit-facts}
+use Rattle.tables.proofs.Fit.{zeros-at}
 use Rattle.memory.specs.Start.{started}
 use Rattle.memory.specs.Memory.{coderWords, turnOf, decoderWords}
 use Rattle.coder.specs.Coder.{pendingAt, coderFault, coderNext}
@@ -17,7 +18,6 @@ use Rattle.link.specs.Runs.{Call, Sent, Taken, sentBy, takenBy}
 use Rattle.link.specs.Recovery.{Wrong, Bursts, Recovered, Running}
 use Rattle.link.specs.Massey.{blockSent, blockTaken}
 use Rattle.link.specs.Clean.{Clean, Undisturbed, CLEAN, STARTED-CLEAN}
-use Rattle.memory.proofs.Started.{started-word}
 use Rattle.link.proofs.Runs.{before-first, coderBefore, decoderBefore}
 use Rattle.link.proofs.OneTable.{from-one}
 use Rattle.link.proofs.Bursts.{bursts-separated}
@@ -84,13 +84,13 @@ clean t coder decoder cs ds f c b (suc p) from h = (λ late. past f c b p (omega
 pub started-clean : STARTED-CLEAN
 started-clean t fits =
     let m = fit-facts t fits .m-from in
-    let a = started-word (coderWords t) 0 in
-    let b = started-word (decoderWords t) 0 in
+    let a = zeros-at (coderWords t) 0 in
+    let b = zeros-at (decoderWords t) 0 in
     record {
       coder-turn = omega arith;
       decoder-turn = omega arith;
-      syndrome = λ k h. started-word (decoderWords t) (streamAt t k + 1);
+      syndrome = λ k h. zeros-at (decoderWords t) (streamAt t k + 1);
       pending = λ d h.
-          started-word (decoderWords t) (streamAt t ((turnOf (started (decoderWords t)) + d) % t .depth))
-          ∙ sym (started-word (coderWords t) (1 + (turnOf (started (coderWords t)) + d) % t .depth));
+          zeros-at (decoderWords t) (streamAt t ((turnOf (started (decoderWords t)) + d) % t .depth))
+          ∙ sym (zeros-at (coderWords t) (1 + (turnOf (started (coderWords t)) + d) % t .depth));
     }

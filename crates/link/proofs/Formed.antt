@@ -20,7 +20,7 @@ use Rattle.tables.proofs.Bounds.{fit-facts}
 use Rattle.memory.specs.Stream.{joining, nextTurn}
 use Rattle.decoder.specs.Step.{found}
 use Rattle.memory.specs.Start.{started}
-use Rattle.memory.specs.Memory.{infoRows, coderWords, turnOf, decoderWords}
+use Rattle.memory.specs.Memory.{coderWords, turnOf, decoderWords}
 use Rattle.coder.specs.Coder.{pendingAt, coderFault, codedBlock, coderNext, CoderFormed}
 use Rattle.decoder.specs.Decoder.{fillOf, delayOf, decoderFault, decoderNext, delivery, DecoderFormed}
 use Rattle.decoder.specs.declared.decode.DecodeAnswer.{DecodeAnswer}
@@ -28,8 +28,9 @@ use Rattle.link.specs.Runs.{Sent, Taken, sentEntry, takenEntry, sentBy, 
 use Rattle.link.specs.Recovery.{SameTable}
 use Rattle.link.specs.Formed.{STARTED-FORMED, FORMED-KEPT, FORMED-THROUGHOUT}
 use Rattle.link.proofs.Interleaving.{turn-next}
-use Rattle.memory.proofs.Started.{started-word}
 use Rattle.words.proofs.Masks.{topped-lt}
+use Rattle.tables.specs.Table.{infoRows}
+use Rattle.tables.proofs.Fit.{zeros-at}
 use Rattle.link.proofs.Sequence.{kept-lt}
 use Rattle.link.proofs.Runs.{ran-keeps}
 use Rattle.memory.proofs.Fits.{Fits}
@@ -40,20 +41,20 @@ use Rattle.link.proofs.OneTable.{same-step, from-one}
 -- ---- a start
 
 zero-lt : (words i k : ℕ) → getD (started words) i 0 < 2 ^ k
-zero-lt words i k = rw (started-word words i) (pow-pos k)
+zero-lt words i k = rw (zeros-at words i) (pow-pos k)
 
 pub started-formed : STARTED-FORMED
 started-formed t fits =
     let z = fit-facts t fits in (
       record {
         size = length-replicate (coderWords t) 0;
-        turn = rw (started-word (coderWords t) 0) (z .m-from);
+        turn = rw (zeros-at (coderWords t) 0) (z .m-from);
         pending = λ k h. zero-lt (coderWords t) (1 + k) (t .span - 1);
       },
       record {
         size = length-replicate (decoderWords t) 0;
-        turn = rw (started-word (decoderWords t) 0) (z .m-from);
-        fill = rw (started-word (decoderWords t) 1) zero-le;
+        turn = rw (zeros-at (decoderWords t) 0) (z .m-from);
+        fill = rw (zeros-at (decoderWords t) 1) zero-le;
         pending = λ k h. zero-lt (decoderWords t) (streamIn (t .span) k) (t .span - 1);
         syndrome = λ k h. zero-lt (decoderWords t) (streamIn (t .span) k + 1) (t .span - 1);
         delayed = λ k i h l. zero-lt (decoderWords t) (streamIn (t .span) k + 2 + i) (t .symbols - 1);

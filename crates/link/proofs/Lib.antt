@@ -22,8 +22,7 @@ mod Premises
 mod Guard
 mod Clean
 mod Computed
-mod TableExamples
+mod Examples
 mod Sharp
 mod Witness
-mod Examples
 mod StepExamples

@@ -20,20 +20,20 @@ use Rattle.span.specs.Combination.{combination}
 use Rattle.words.proofs.Laws.{xor-false-r}
 use Rattle.span.proofs.Laws.{combination-lt}
 use Rattle.tables.specs.declared.table.Table.{Table}
-use Rattle.tables.specs.Table.{rowsOf}
+use Rattle.tables.specs.Table.{rowsOf, infoRows}
+use Rattle.tables.proofs.Fit.{zeros-at}
 use Rattle.decoder.specs.declared.decode.DecodeAnswer.{DecodeAnswer}
 use Rattle.decoder.specs.declared.decode.DecodeAnswer.the-variants.{Delivery}
 use Rattle.memory.specs.Stream.{joining}
 use Rattle.decoder.specs.Step.{information, errorOf, keptOf, markOf}
 use Rattle.memory.specs.Start.{started}
-use Rattle.memory.specs.Memory.{infoRows, coderWords, turnOf, decoderWords}
+use Rattle.memory.specs.Memory.{coderWords, turnOf, decoderWords}
 use Rattle.coder.specs.Coder.{pendingAt, coderFault, coderNext}
 use Rattle.decoder.specs.Decoder.{fillOf, delayOf, pendingOf, decoderFault, decoderNext}
 use Rattle.link.specs.Runs.{Call, sentBy, takenBy, takenAt}
 use Rattle.link.specs.Massey.{convolution, HoldsPast, stream, infoSent, blockSent, blockTaken, rawAt, registerAt, foundAt, PARITY, SYNDROME, SYNDROME-ERRORS, REGISTER, PENDING, PENDING-RECEIVED, DELIVERY, WAITING}
 use Rattle.link.proofs.Origin.{below-snoc}
 use Rattle.link.proofs.Step.{topped-low, topped-bit, joined-half, joined-odd, coder-half, coder-even}
-use Rattle.memory.proofs.Started.{started-word}
 use Rattle.link.proofs.Interleaving.{place-first, place-next, place-earlier}
 use Rattle.link.proofs.Runs.{coderBefore, decoderBefore, before-first, sent-place, taken-place}
 use Rattle.memory.proofs.Fits.{Fits}
@@ -213,11 +213,11 @@ info-size t room = length-take-le (t .symbols - 1) (t .rows) room
 
 coder-zeros : (t : Table) (cs : List Call) (i : ℕ) → getD (coderBefore (started (coderWords t)) cs 0) i 0 ≡ 0
 coder-zeros t cs i =
-    ap (λ (s : List ℕ). getD s i 0) (before-first coderFault coderNext (started (coderWords t)) cs) ∙ started-word (coderWords t) i
+    ap (λ (s : List ℕ). getD s i 0) (before-first coderFault coderNext (started (coderWords t)) cs) ∙ zeros-at (coderWords t) i
 
 decoder-zeros : (t : Table) (ds : List Call) (i : ℕ) → getD (decoderBefore (started (decoderWords t)) ds 0) i 0 ≡ 0
 decoder-zeros t ds i =
-    ap (λ (s : List ℕ). getD s i 0) (before-first decoderFault decoderNext (started (decoderWords t)) ds) ∙ started-word (decoderWords t) i
+    ap (λ (s : List ℕ). getD s i 0) (before-first decoderFault decoderNext (started (decoderWords t)) ds) ∙ zeros-at (decoderWords t) i
 
 pub parity : PARITY
 parity t cs tables r b low inside =

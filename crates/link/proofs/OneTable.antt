@@ -15,8 +15,8 @@ use lib.ListN.{length, getD, take}
 use Rattle.span.specs.declared.eliminate.Least.{Least}
 use Rattle.span.specs.declared.eliminate.Least.the-variants.{Missing}
 use Rattle.tables.specs.declared.table.Table.{Table}
+use Rattle.tables.specs.Table.{infoRows}
 use Rattle.decoder.specs.Step.{rawTerm}
-use Rattle.memory.specs.Memory.{infoRows}
 use Rattle.coder.specs.Coder.{coderNext}
 use Rattle.decoder.specs.Decoder.{decoderNext, decoderJoining, decoderRegister, decoderFound}
 use Rattle.link.specs.Runs.{Call, Sent, Taken, sentEntry, takenEntry, sentBy, takenBy, noneSent, noneTaken, sentAt, takenAt}

@@ -12,10 +12,9 @@ use lib.Seq.{length-take-le, getD-at}
 use Rattle.span.specs.Combination.{Below}
 use Rattle.tables.specs.declared.table.Table.{Table}
 use Rattle.tables.specs.Code.{Suitable}
-use Rattle.tables.specs.Table.{rowsOf, fit}
+use Rattle.tables.specs.Table.{rowsOf, fit, infoRows}
 use Rattle.reader.proofs.Laws.{accepted-suitable}
 use Rattle.maker.proofs.Laws.{made}
-use Rattle.memory.specs.Memory.{infoRows}
 use Rattle.link.specs.Recovery.{Origin}
 use Rattle.tables.proofs.Bounds.{Fitting, fit-facts}
 use Rattle.reader.proofs.Bounds.{parse-room}

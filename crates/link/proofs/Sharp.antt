@@ -13,8 +13,9 @@ use Rattle.reader.specs.declared.read.ReadAnswer.the-variants.{Accepted}
 use Rattle.tables.specs.declared.table.Table.{Table}
 use Rattle.tables.specs.Table.{sizesFit, rowsFit, fit}
 use Rattle.tables.specs.Refusal.{firstOf}
+use Rattle.tables.proofs.Fit.{zeros-at}
 use Rattle.reader.specs.Reading.{reading}
-use Rattle.link.proofs.TableExamples.{examples-hold}
+use Rattle.link.proofs.Examples.{examples-hold}
 use Rattle.decoder.specs.declared.decode.DecodeAnswer.{DecodeAnswer}
 use Rattle.decoder.specs.declared.decode.DecodeAnswer.the-variants.{NothingYet}
 use Rattle.memory.specs.Stream.{joining}
@@ -27,7 +28,6 @@ use Rattle.link.specs.Recovery.{Origin, Wrong, Stretch, Burst, Chosen, W
 use Rattle.link.specs.Computed.{Z, calls, delivers, differing}
 use Rattle.link.specs.Examples.{bytesOfZ}
 use Rattle.link.specs.Sharp.{filled, zerosSent, received, Shows, lateGuard, closeBursts, longBurst, SHARP-RUNS, RecoveryWith, BOUNDS, GUARD-SHARP, GAP-SHARP, LENGTH-SHARP}
-use Rattle.memory.proofs.Started.{started-word}
 use Rattle.link.proofs.Formed.{started-formed}
 use Rattle.link.proofs.Fade.{Sure}
 use Rattle.link.proofs.Recovery.{recovery}
@@ -112,13 +112,13 @@ module _ (pending : ℕ) (blocks wrong : List ℕ) (answers : List DecodeAnswer)
   info-at : (p : ℕ) → sentAt (zerosSent (length blocks)) p .info ≡ 0
   info-at p =
       sym (List·getD-map (λ (x : Sent). x .info) (zerosSent (length blocks)) (p - 1) noneSent)
-      ∙ ap (λ (l : List ℕ). getD l (p - 1) 0) (h .infos) ∙ started-word (length blocks) (p - 1)
+      ∙ ap (λ (l : List ℕ). getD l (p - 1) 0) (h .infos) ∙ zeros-at (length blocks) (p - 1)
 
   burst : (long a b : ℕ) → 1 ≤ a → a ≤ b → b < a + long → b ≤ length blocks → 0 < getD blocks (a - 1) 0 → 0 < getD blocks (b - 1) 0
       → Burst (Wrong (zerosSent (length blocks)) (received pending blocks)) long (length (received pending blocks)) (record { first = a; last = b })
   burst long a b from order short inside u v =
       burst-by places long a b from order short inside
-      (λ e. let z = started-word (length blocks) (a - 1) in omega arith) (λ e. let z = started-word (length blocks) (b - 1) in omega arith)
+      (λ e. let z = zeros-at (length blocks) (a - 1) in omega arith) (λ e. let z = zeros-at (length blocks) (b - 1) in omega arith)
 
   would-answer : (right long gap : Table → ℕ) → RecoveryWith right long gap → pending < 8 → (chosen : List Stretch)
       → Chosen (Wrong (zerosSent (length blocks)) (received pending blocks)) (long (Z 1)) (gap (Z 1)) (length (received pending blocks)) chosen

@@ -12,6 +12,5 @@ pub mod Massey
 pub mod Computed
 pub mod Sharp
 pub mod Witness
-pub mod TableExamples
 pub mod Examples
 pub mod StepExamples

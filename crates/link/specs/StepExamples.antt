@@ -1,5 +1,6 @@
 -- Steps that are easy to get wrong: what a call is handed, the numbers of its answer, and the memory after it. `proofs/StepExamples` computes them.
 --
+--   Side, Case             coder or decoder, and a line of the table
 --   outcome side t s b     numbers and memory after a coder's or a decoder's step
 --   takes, declines        a line of the table: a step that is taken, with its values and the memory after it; or a refusal, which writes nothing
 --   nothingYet             the values of a step that delivers nothing

@@ -5,12 +5,12 @@
 use mathlib.Core.Path.{_≡_, refl, ap, _∙_}
 use mathlib.Core.Bool.{Bool, true, false}
 use mathlib.Core.List.{_++_}
-use Prim.Native.Nat.{ℕ, zero, suc, _+_, _-_, _≤_}
+use Prim.Native.Nat.{ℕ, suc, _+_, _-_, _≤_}
 use native.Mathlib.Omega.{arith}
 use lib.ListN.{length, getD, replicate, length-append, length-replicate}
 use lib.Seq.{getD-append-add}
 use Rattle.tables.specs.Table.{zeroTable, sizesFit}
-use Rattle.tables.proofs.Fit.{sizes-of}
+use Rattle.tables.proofs.Fit.{sizes-of, zeros-at}
 use Rattle.maker.specs.declared.make.MakeAnswer.the-variants.{Made, OutOfRange}
 use Rattle.maker.specs.Made.{madeRows, madeTable, columns, making, pickMaking}
 use Rattle.maker.specs.Laws.{MADE-WHOLE}
@@ -37,18 +37,13 @@ making-room n m = go (sizesFit n 2 m) refl
 
 -- ---- the other rows
 
-blank : (c i : ℕ) → _≡_ {A = ℕ} (getD (replicate c 0) i 0) 0
-blank zero i = refl
-blank (suc c) zero = refl
-blank (suc c) (suc i) = blank c i
-
 made-blank : (n m i : ℕ) → 1 ≤ n → n ≤ suc i → getD (madeTable n m .rows) i 0 ≡ 0
 unfolding madeTable
 made-blank n m i from h =
     let rows = madeRows columns n (n - 1) in
     let size = made-length columns n (n - 1) in
     let e : i ≡ length rows + (i - (n - 1)) = omega arith in
-    ap (λ (k : ℕ). getD (rows ++ replicate (16 - n) 0) k 0) e ∙ getD-append-add rows (replicate (16 - n) 0) (i - (n - 1)) 0 ∙ blank (16 - n) (i - (n - 1))
+    ap (λ (k : ℕ). getD (rows ++ replicate (16 - n) 0) k 0) e ∙ getD-append-add rows (replicate (16 - n) 0) (i - (n - 1)) 0 ∙ zeros-at (16 - n) (i - (n - 1))
 
 making-blank : (n m i : ℕ) → making n m .table .symbols ≤ suc i → getD (making n m .table .rows) i 0 ≡ 0
 unfolding making madeTable
@@ -58,7 +53,7 @@ making-blank n m i = go (sizesFit n 2 m) refl
         → pickMaking b (record { answer = Made; table = madeTable n m }) (record { answer = OutOfRange; table = zeroTable }) .table .symbols ≤ suc i
         → getD (pickMaking b (record { answer = Made; table = madeTable n m }) (record { answer = OutOfRange; table = zeroTable }) .table .rows) i 0 ≡ 0
     go true q h = let z = sizes-of n 2 m q in made-blank n m i (omega arith) h
-    go false q h = blank 15 i
+    go false q h = zeros-at 15 i
 
 pub made-whole : MADE-WHOLE
 made-whole n m a = record { fits = made n m a .3; room = making-room n m; blank = making-blank n m }

@@ -1,4 +1,4 @@
--- The theorems that a layer above may use of `maker`, stated in `specs/`, each proved in the file that the right side names. Assumes nothing.
+-- The theorems that a crate above may use of `maker`, stated in `specs/`, each proved in the file that the right side names. Assumes nothing.
 use Rattle.maker.specs.Laws.{NESTED, NESTED-ROWS, FILLING, FORCED, UNIQUE, MADE, MADE-WHOLE, MADE-DEPTH, IS-MADE, NOT-MADE}
 use Rattle.maker.proofs.Triangle as Triangle
 use Rattle.maker.proofs.Filling as Filling

@@ -1,4 +1,4 @@
--- `Every`, `Bounds` and `Laws` are what a layer above sees; the other files are the crate's own, the lowest first.
+-- `Every`, `Bounds` and `Laws` are what a crate above sees; the other files are the crate's own, the lowest first.
 pub mod Every
 mod Linear
 mod Triangle

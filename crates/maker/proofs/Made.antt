@@ -16,13 +16,14 @@ use lib.ListN.{length, getD, take, replicate}
 use lib.Seq.{take-suc, take-at, length-take-le, getD-take, take-all}
 use Rattle.words.specs.Word.{_⊕_, odd, bit, digit, commonParity, shifted}
 use Rattle.span.specs.Combination.{combination, Below}
+use Rattle.span.proofs.Laws.{below-left}
 use Rattle.tables.specs.declared.table.Table.{Table}
 use Rattle.maker.specs.declared.make.MakeAnswer.the-variants.{Made, OutOfRange}
 use Rattle.tables.specs.Code.{image, Suitable}
 use Rattle.maker.specs.Laws.{FORCED, UNIQUE, NESTED, MADE, MADE-DEPTH, IS-MADE, NOT-MADE}
 use Rattle.tables.specs.Table.{table, zeroTable, rowsOf, sizesFit, rowsFit, fit}
 use Rattle.maker.specs.Made.{columns, upper, madeRow, madeRows, triangleRows, Triangle, madeTable, pickMaking, making}
-use Rattle.tables.proofs.Fit.{and-left, and-right, Sizes, sizes-of, sizes-fit-of, rows-fit-of, below-left}
+use Rattle.tables.proofs.Fit.{and-left, and-right, Sizes, sizes-of, sizes-fit-of, rows-fit-of}
 use Rattle.maker.proofs.Triangle.{made-length, triangular}
 use Rattle.maker.proofs.Every.{every, every-at}
 use Rattle.maker.proofs.Filling.{one-suitable, filling, filled}

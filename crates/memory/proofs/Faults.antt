@@ -3,6 +3,7 @@
 --   two-first, four-first    the chains of a start and of a step
 --   four-none, or-none       no refusal applies only if no test does
 --   picked, passed           a pick by a test that is decided
+--   refuses, takes           answer and memory of a call that is refused, and of one that is not
 --   start-fault              the chain of a start
 --   start-refuses, starts    a start that is refused, and one that is not
 use mathlib.Core.Path.{_≡_, refl, sym, ap, _∙_}
@@ -54,15 +55,24 @@ pub start-fault : (t : Table) (words : ℕ) (s : List ℕ) → startFault t word
 unfolding startFault
 start-fault t words s = two-first (not (fit t)) (not (eqb (length s) words))
 
+-- answer x and memory `next` where the fault is 0, otherwise the refusal and the memory before: as every start and step picks them
+module _ {X : Type 0} (refused : ℕ → X) (fault : ℕ) (x : X) (next before : List ℕ) where
+  pub refuses : (k : ℕ) → fault ≡ k → 0 < k
+      → (refused k ≡ elim (eqb fault 0) [ true ↦ x | false ↦ refused fault ]) × (before ≡ elim (eqb fault 0) [ true ↦ next | false ↦ before ])
+  refuses k e some =
+      let no : eqb fault 0 ≡ false = ne-eqb fault 0 (λ (z : fault ≡ 0). omega arith) in
+      (ap refused (sym e) ∙ passed (eqb fault 0) x (refused fault) no, passed (eqb fault 0) next before no)
+
+  pub takes : fault ≡ 0 → (x ≡ elim (eqb fault 0) [ true ↦ x | false ↦ refused fault ]) × (next ≡ elim (eqb fault 0) [ true ↦ next | false ↦ before ])
+  takes e =
+      let yes : eqb fault 0 ≡ true = eq-eqb fault 0 e in
+      (picked (eqb fault 0) x (refused fault) yes, picked (eqb fault 0) next before yes)
+
 pub start-refuses : (t : Table) (words : ℕ) (s : List ℕ) (k : ℕ) → startFault t words s ≡ k → 0 < k
     → (Refused k ≡ startAnswer t words s) × (s ≡ startMemory t words s)
 unfolding startAnswer startMemory
-start-refuses t words s k e some =
-    let no : eqb (startFault t words s) 0 ≡ false = ne-eqb (startFault t words s) 0 (λ (z : startFault t words s ≡ 0). omega arith) in
-    (ap Refused (sym e) ∙ passed (eqb (startFault t words s) 0) Started (Refused (startFault t words s)) no, passed (eqb (startFault t words s) 0) (started words) s no)
+start-refuses t words s = refuses Refused (startFault t words s) Started (started words) s
 
 pub starts : (t : Table) (words : ℕ) (s : List ℕ) → startFault t words s ≡ 0 → (Started ≡ startAnswer t words s) × (started words ≡ startMemory t words s)
 unfolding startAnswer startMemory
-starts t words s e =
-    let yes : eqb (startFault t words s) 0 ≡ true = eq-eqb (startFault t words s) 0 e in
-    (picked (eqb (startFault t words s) 0) Started (Refused (startFault t words s)) yes, picked (eqb (startFault t words s) 0) (started words) s yes)
+starts t words s = takes Refused (startFault t words s) Started (started words) s

@@ -5,7 +5,7 @@ use Prim.Native.Nat.{ℕ, _-_, _≤_}
 use Rattle.span.specs.Combination.{Below}
 use Rattle.tables.specs.declared.table.Table.{Table}
 use Rattle.tables.proofs.Bounds.{Fitting}
-use Rattle.memory.specs.Memory.{infoRows}
+use Rattle.tables.specs.Table.{infoRows}
 
 pub record Fits (n N : ℕ) (infos : List ℕ) : Type 0 where
   pub n-from : 2 ≤ n

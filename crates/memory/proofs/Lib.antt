@@ -2,5 +2,4 @@
 pub mod Parts
 pub mod Faults
 pub mod Fits
-pub mod Started
 pub mod Answers

@@ -1,15 +1,11 @@
 -- 01, "Coder and decoder memory": lengths of the two memories, and their first word.
 --
---   infoRows t                    rows 1 to n − 1
 --   coderWords t, decoderWords t  how many words the coder's memory has, and the decoder's
 --   turnOf s                      the turn
 use mathlib.Core.List.{List}
-use Prim.Native.Nat.{ℕ, _+_, _-_, _*_}
-use lib.ListN.{getD, take}
+use Prim.Native.Nat.{ℕ, _+_, _*_}
+use lib.ListN.{getD}
 use Rattle.tables.specs.declared.table.Table.{Table}
-
-abbrev pub infoRows : Table → List ℕ
-infoRows t = take (t .symbols - 1) (t .rows)
 
 -- "Coder: 1 + m words, the turn and then one pending word a stream"
 abbrev pub coderWords : Table → ℕ

@@ -1,4 +1,4 @@
--- The theorems that a layer above may use of `reader`, stated in `specs/`, each proved in the file that the right side names. Assumes nothing.
+-- The theorems that a crate above may use of `reader`, stated in `specs/`, each proved in the file that the right side names. Assumes nothing.
 use Rattle.reader.specs.Reading.{ACCEPTED-SUITABLE, SUITABLE-ACCEPTED, REFUSED-RANGE, REFUSED-NUMBERS, REFUSED-UNSUITABLE, UNSUITABLE-NUMBERS}
 use Rattle.reader.specs.Written.{PARSES-EXACTLY}
 use Rattle.reader.proofs.Reading as Reading

@@ -1,4 +1,4 @@
--- `Bounds` and `Laws` are what a layer above sees; the other files are the crate's own, the lowest first.
+-- `Bounds` and `Laws` are what a crate above sees; the other files are the crate's own, the lowest first.
 mod Format
 mod Progress
 mod Reading

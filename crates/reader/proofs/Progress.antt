@@ -15,7 +15,7 @@ use lib.Pow.{pow-pos}
 use lib.Seq.{getD-set-same, getD-set-other}
 use borrow.Author.Tests.{eqb-true, eqb-false, lt-ltb}
 use lib.Dec.{eqb}
-use Rattle.tables.proofs.Fit.{sizes-of}
+use Rattle.tables.proofs.Fit.{sizes-of, zeros-at}
 use Rattle.reader.specs.Format.{kind, size, rowWord, taken, fault, sized, rowed, begun, after, refused, parsed, parseFrom, parse}
 use Rattle.reader.specs.declared.read.Progress.{Progress}
 use Rattle.tables.specs.Table.{sizesFit, rowsFit, fit}
@@ -39,19 +39,14 @@ none-given zero i = refl
 none-given (suc c) zero = refl
 none-given (suc c) (suc i) = none-given c i
 
-no-rows : (c i : ℕ) → _≡_ {A = ℕ} (getD (replicate c 0) i 0) 0
-no-rows zero i = refl
-no-rows (suc c) zero = refl
-no-rows (suc c) (suc i) = no-rows c i
-
 pub never : {A : Type 0} → false ≡ true → A
 never e = let z : _≡_ {A = ℕ} 0 1 = cc in absurd (omega arith)
 
 pub good-begun : Good begun
 good-begun = record {
   ranges = inl (refl, refl);
-  below = λ i. rw (no-rows 15 i) (omega arith);
-  blank = λ i e. no-rows 15 i;
+  below = λ i. rw (zeros-at 15 i) (omega arith);
+  blank = λ i e. zeros-at 15 i;
   numbered = λ i e. never (sym (none-given 15 i) ∙ e);
   room = (refl, refl);
 }

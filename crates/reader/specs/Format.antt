@@ -6,11 +6,12 @@
 --   rowWord s              the row of a row record
 --   progress, begun        the table so far and the rows given; before the first record
 --   allGiven, taken        whether all rows were given, and whether a row number is none or was given
---   ended s .. followed s  a test for each of 1 to 9
+--   ended, unknown, cut, misplaced, sizesOut, misnumbered, tooLong, missing, followed   the tests of 1 to 9
 --   fault g s              the first of 1 to 9 that applies, or 0
 --   place k p              the place of refusal k at a record that begins at p
 --   sized, rowed, after    the progress after a sizes record, after a row record, and after either
---   parseFrom, parse bytes refused, with number and place, or the table
+--   Parse                  refused, with number and place, or a table
+--   parseFrom, parse bytes what bytes say
 use mathlib.Core.Bool.{Bool, true, false, cond, not, _&&_, _||_}
 use mathlib.Core.List.{List, [], _∷_}
 use Prim.Native.Nat.{ℕ, zero, suc, _+_, _-_, _*_, _^_}

@@ -1,6 +1,6 @@
 -- Bytes and what they say: the cases of the format that are easy to get wrong. `proofs/FormatExamples` computes them.
 --
---   says bytes o    a line of the table
+--   Case, says bytes o    a line of the table
 --   sizesZ, rowZ, rowLong, rowTop   records that the lines are made of
 --   formatCases     the table
 --   FORMAT-CASES    every line of it is right

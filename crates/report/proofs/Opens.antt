@@ -1,6 +1,6 @@
 -- The opening: after the header, and as a whole. Assumes nothing.
-use mathlib.Core.Path.{_≡_, refl, sym, _∙_}
-use mathlib.Core.Bool.{Bool, true, false, _&&_}
+use mathlib.Core.Path.{_≡_, refl, _∙_}
+use mathlib.Core.Bool.{true, false}
 use mathlib.Core.List.{List, [], _∷_}
 use Prim.Native.Nat.{ℕ, _+_, _*_, _≤_, _<_}
 use native.Mathlib.Omega.{arith}
@@ -18,7 +18,7 @@ use Rattle.memory.specs.Memory.{decoderWords}
 use Rattle.report.specs.declared.opening.Opened.{Opened}
 use Rattle.lines.specs.Text.{headerLine, refusedLine}
 use Rattle.lines.specs.Writing.{Wrote, longest, put, putEnd}
-use Rattle.report.specs.Opening.{Opening, openedMade, headed, opened, memoryWords, startedIn, openingRoom, openedWithin, Opens}
+use Rattle.report.specs.Opening.{openedMade, headed, opened, memoryWords, startedIn, openingRoom, openedWithin, Opens}
 use Rattle.lines.proofs.Written.{wrote-nothing, wrote-then}
 use Rattle.report.proofs.Room.{both}
 use Rattle.report.proofs.Answer.{put-wrote}

@@ -11,7 +11,7 @@ use native.Mathlib.Omega.{arith}
 use borrow.Author.Tests.{eq-eqb, ne-eqb, eqb-true, eqb-false}
 use lib.Count.{trailingZeros}
 use lib.Dec.{eqb}
-use lib.ListN.{length, getD, set, take, drop, length-append, length-set, take-append-drop, List·getD-append}
+use lib.ListN.{length, getD, set, take, drop, length-append, length-set, take-append-drop}
 use lib.Pow.{pow-mono}
 use lib.Seq.{getD-set-same, getD-set-other, getD-append-seam, append-snoc, take-suc, length-take-le}
 use Rattle.span.specs.declared.eliminate.Least.the-variants.{Found, Missing}
@@ -23,7 +23,7 @@ use Rattle.span.specs.Relation.{leastRelation, leastCoefficients, IsLeas
 use Rattle.span.specs.Basis.{basis, reducedBy, reducedTo, reduction, answer}
 use Rattle.span.specs.Elimination.{lowestOne, emptyBasis, grown, pickBasis, joined, extended, basisOf}
 use Rattle.words.proofs.Laws.{xor-twice, xor-lt, parity-pow, trailing-bit}
-use Rattle.span.proofs.Combination.{combination-lt}
+use Rattle.span.proofs.Combination.{combination-lt, below-left}
 use Rattle.span.proofs.Relation.{least-unique, least-coefficients, relation-found, relation-none}
 use Rattle.span.proofs.Elimination.{Reduces, start, pass, join, least-by}
 
@@ -120,9 +120,6 @@ module _ (ws : List ℕ) (b : Basis) (w : ℕ) (h : Built ws b) (room : length w
       go : (s : Bool) → eqb (reduction b w .rest) 0 ≡ s → Built (ws ++ (w ∷ [])) (pickBasis s b (grown (length ws) b (reduction b w)))
       go true e = joined-none (eqb-true (reduction b w .rest) 0 e)
       go false e = joined-some (eqb-false (reduction b w .rest) 0 e)
-
-below-left : (N : ℕ) (us vs : List ℕ) → Below N (us ++ vs) → Below N us
-below-left N us vs h i l = subst (λ (x : ℕ). x < 2 ^ N) (List·getD-append us vs 0 i l) (h i (rw (length-append us vs) (omega arith)))
 
 below-take : (N i : ℕ) (ws : List ℕ) → Below N ws → Below N (take i ws)
 below-take N i ws h = below-left N (take i ws) (drop i ws) (rw (take-append-drop i ws) h)

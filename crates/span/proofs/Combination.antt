@@ -7,7 +7,7 @@ use native.Mathlib.Nat.{div-one, div-eq-of-lt, zero-lt-suc}
 use native.Mathlib.Numerals.{add-one, one-add}
 use native.Mathlib.Omega.{arith}
 use lib.Pow.{pow-pos, shr-shr, mod-mod-pow, field}
-use lib.ListN.{length, getD, take, drop, length-take, take-append-drop}
+use lib.ListN.{length, getD, take, drop, length-append, length-take, take-append-drop, List·getD-append}
 use lib.Seq.{getD-append-seam, getD-take, length-take-le, take-all, take-take}
 use Rattle.words.specs.Word.{_⊕_, odd, bit, sel}
 use Rattle.span.specs.Combination.{combination, Below, counted}
@@ -127,3 +127,7 @@ counted-take n ws =
     let e = min (min n (length ws)) 32 in
     let l = counted-length n ws in
     sym (take-take e n ws (omega arith)) ∙ sym (take-take e 32 (take n ws) (omega arith)) ∙ take-all e (counted n ws) (omega arith)
+
+-- the words of a list are below a bound, and so those of its front
+pub below-left : (N : ℕ) (us vs : List ℕ) → Below N (us ++ vs) → Below N us
+below-left N us vs h i l = subst (λ (x : ℕ). x < 2 ^ N) (List·getD-append us vs 0 i l) (h i (rw (length-append us vs) (omega arith)))

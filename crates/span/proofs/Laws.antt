@@ -1,20 +1,17 @@
--- All that a layer above may use of `span`, and only this: each law with its statement, proved in the file that the right side names.
+-- All that a crate above may use of `span`, and only this: each law with its statement, proved in the file that the right side names.
 -- The theorems in capitals are stated in `specs/Laws`. Assumes nothing.
 --
 --   combination           linear, 0 at 0, split over append, carried by linear maps
 --   least relation        found: it is one and no smaller one is; missing: there is none. A basis answers with it
 --   dimension             independent words
 use mathlib.Core.Path.{_≡_}
-use mathlib.Core.Bool.{Bool, true, false, xor}
-use mathlib.Core.Logic.{_≢_}
 use mathlib.Core.List.{List, [], _∷_, _++_, map}
-use Prim.Native.Nat.{ℕ, suc, _+_, _*_, _/_, _%_, _^_, _≤_, _<_, min}
-use lib.Bits.{bitXor}
+use Prim.Native.Nat.{ℕ, _+_, _/_, _%_, _^_, _≤_, _<_, min}
 use lib.ListN.{length, getD, take}
 use Rattle.span.specs.declared.eliminate.Reduced.{Reduced}
 use Rattle.span.specs.declared.eliminate.Least.the-variants.{Found, Missing}
 use Rattle.span.specs.Basis.{answer}
-use Rattle.words.specs.Word.{_⊕_, odd, bit, sel, digit, commonParity, shifted}
+use Rattle.words.specs.Word.{_⊕_, bit, sel}
 use Rattle.span.specs.Combination.{combination, Below, counted}
 use Rattle.span.specs.Laws.{COMBINATION-LINEAR, LEAST-RELATION, LEAST-COEFFICIENTS, LEAST-UNIQUE, LEAST-RAISED, MEMBERSHIP, INDEPENDENCE, REDUCES, DIMENSION, SPANNING}
 use Rattle.span.proofs.Combination as Combination
@@ -53,6 +50,9 @@ combination-pow = Combination.combination-pow
 
 pub combination-lt : (N : ℕ) (ws : List ℕ) (c : ℕ) → Below N ws → combination ws c < 2 ^ N
 combination-lt = Combination.combination-lt
+
+pub below-left : (N : ℕ) (us vs : List ℕ) → Below N (us ++ vs) → Below N us
+below-left = Combination.below-left
 
 pub combination-map : (f : ℕ → ℕ) → f 0 ≡ 0 → ((a b : ℕ) → f (a ⊕ b) ≡ f a ⊕ f b) → (ws : List ℕ) (c : ℕ)
     → combination (map f ws) c ≡ f (combination ws c)

@@ -1,4 +1,4 @@
--- `Laws` is what a layer above sees; the files below it are the crate's own.
+-- `Laws` is what a crate above sees; the files below it are the crate's own.
 mod Combination
 mod Relation
 mod Elimination

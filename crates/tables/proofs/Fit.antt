@@ -1,12 +1,12 @@
 -- What a fit table's sizes and rows are, as facts. Assumes nothing.
-use mathlib.Core.Path.{_≡_, refl, ap₂, _∙_, subst}
+use mathlib.Core.Path.{_≡_, refl, ap₂, _∙_}
 use mathlib.Core.Bool.{Bool, true, false, _&&_, false≢true}
-use mathlib.Core.List.{List, [], _∷_, _++_}
-use Prim.Native.Nat.{ℕ, zero, suc, _+_, _-_, _^_, _≤_, _<_}
+use mathlib.Core.List.{List, [], _∷_}
+use Prim.Native.Nat.{ℕ, zero, suc, _+_, _-_, _^_, _≤_}
 use native.Mathlib.Omega.{arith}
 use borrow.Author.Tests.{le-leb, lt-ltb, leb-true, ltb-true}
 use lib.Dec.{leb, ltb}
-use lib.ListN.{length, take, length-append, List·getD-append}
+use lib.ListN.{length, getD, take, replicate, length-append}
 use lib.Seq.{length-take-le}
 use Rattle.span.specs.Combination.{Below}
 use Rattle.tables.specs.declared.table.Table.{Table}
@@ -63,9 +63,6 @@ rows-below N [] e i l = absurd (omega arith)
 rows-below N (w ∷ ws) e zero l = ltb-true w (2 ^ N) (and-left (ltb w (2 ^ N)) (rowsFit N ws) e)
 rows-below N (w ∷ ws) e (suc i) l = rows-below N ws (and-right (ltb w (2 ^ N)) (rowsFit N ws) e) i (omega arith)
 
-pub below-left : (N : ℕ) (us vs : List ℕ) → Below N (us ++ vs) → Below N us
-below-left N us vs h i l = subst (λ (x : ℕ). x < 2 ^ N) (List·getD-append us vs 0 i l) (h i (rw (length-append us vs) (omega arith)))
-
 pub fit-sizes : (t : Table) → fit t ≡ true → Sizes (t .symbols) (t .span) (t .depth)
 unfolding fit
 fit-sizes t e =
@@ -81,3 +78,9 @@ pub code-length : (n : ℕ) (rows : List ℕ) → 1 ≤ n → n - 1 ≤ length r
 code-length n rows h room =
     let size = length-take-le (n - 1) rows room in
     length-append (take (n - 1) rows) (1 ∷ []) ∙ (let e : length (take (n - 1) rows) + 1 ≡ n = omega arith in e)
+
+-- a list of zeros is 0 at every index
+pub zeros-at : (c i : ℕ) → _≡_ {A = ℕ} (getD (replicate c 0) i 0) 0
+zeros-at zero i = refl
+zeros-at (suc c) zero = refl
+zeros-at (suc c) (suc i) = zeros-at c i

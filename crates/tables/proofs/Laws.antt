@@ -1,4 +1,4 @@
--- The theorems that a layer above may use of `tables`, stated in `specs/`, each proved in the file that the right side names. Assumes nothing.
+-- The theorems that a crate above may use of `tables`, stated in `specs/`, each proved in the file that the right side names. Assumes nothing.
 use Rattle.tables.specs.Laws.{IMAGE, ALIKE, FIRST, FIRST-NONE, FIRST-RANGE, ZERO-UNFIT}
 use Rattle.tables.proofs.Fit as Fit
 use Rattle.tables.proofs.Clash as Clash

@@ -1,4 +1,4 @@
--- `Fit`, `Bounds`, `Laws` and `Lent` are what a layer above sees; the other files are the crate's own, the lowest first.
+-- `Fit`, `Bounds`, `Laws` and `Lent` are what a crate above sees; the other files are the crate's own, the lowest first.
 pub mod Fit
 mod Clash
 mod Refusal

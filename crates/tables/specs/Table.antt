@@ -3,6 +3,7 @@
 --
 --   table n N m rows   the one constructor
 --   zeroTable          the table beside every refusal
+--   infoRows t         rows 1 to n − 1, those of the information
 --   codeRows n rows    rows 1 to n of the code: those stored, and the parity's
 --   rowsOf t           the same of a table
 --   sizesFit n N m     n is 2 to 16, N is 2 to 64, m is 1 to 64
@@ -22,6 +23,9 @@ table n N m rows = record { symbols = n; span = N; depth = m; rows = rows }
 
 abbrev pub zeroTable : Table
 zeroTable = table 0 0 0 (replicate 15 0)
+
+abbrev pub infoRows : Table → List ℕ
+infoRows t = take (t .symbols - 1) (t .rows)
 
 -- 01, The code: "Row j (1 to n − 1) is a number below 2^N whose bit k is the coefficient of D^k in generator j. Row n is 1 always."
 abbrev pub codeRows : ℕ → List ℕ → List ℕ

@@ -10,12 +10,13 @@ use lib.ListN.{length, getD, set, length-set}
 use Rattle.words.specs.Word.{odd, digit}
 use Rattle.tables.specs.declared.table.Table.{Table}
 use Rattle.memory.specs.Stream.{joining}
-use Rattle.memory.specs.Memory.{infoRows, turnOf}
+use Rattle.memory.specs.Memory.{turnOf}
 use Rattle.coder.specs.Coder.{coderJoining, codedBlock, coderNext}
 use Rattle.words.proofs.Masks.{bit-shifted}
 use Rattle.memory.proofs.Parts.{mid-word, put-word}
 use Rattle.coder.proofs.Memory.{CoderTaken, coder-taken, coded-fits}
 use Rattle.tables.specs.Lent.{withRows}
+use Rattle.tables.specs.Table.{infoRows}
 use Rattle.coder.proofs.code.taken.Statement.{statement}
 use Rattle.coder.proofs.code.taken.Tie as tie
 

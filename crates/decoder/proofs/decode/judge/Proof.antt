@@ -8,8 +8,9 @@ use lib.ListN.{length}
 use lib.Pow.{pow-mono}
 use Rattle.words.proofs.Laws.{odd-of}
 use Rattle.tables.specs.Table.{codeRows}
+use Rattle.tables.proofs.Fit.{code-length}
 use Rattle.decoder.specs.Step.{found}
-use Rattle.decoder.proofs.Error.{code-size, zero-found, found-lt, found-some, judged-zero, judged-found, judged-doubtful, judged-held}
+use Rattle.decoder.proofs.Error.{zero-found, found-lt, found-some, judged-zero, judged-found, judged-doubtful, judged-held}
 use Rattle.decoder.proofs.decode.judge.Statement.{statement}
 use Rattle.decoder.proofs.decode.judge.Tie as tie
 
@@ -30,7 +31,7 @@ error-fits : (c : tie.After-known-told) → c .before .least .given .0 .0 < 2 ^ 
 error-fits c =
     let a = c .before .before .before .before .before .before .args in
     let R = codeRows (a .n) (a .rows .now) in
-    let size : length R ≡ a .n = code-size (a .n) (a .rows .now) (omega arith) (omega arith) in
+    let size : length R ≡ a .n = code-length (a .n) (a .rows .now) (omega arith) (omega arith) in
     let l = found-lt R (a .x) (c .before .least .given .0 .0) (sym (c .before .before .before .least-error .ensures) ∙ c .before .least .given .1) in
     let h : length R ≤ 16 = omega arith in
     let m = pow-mono h in

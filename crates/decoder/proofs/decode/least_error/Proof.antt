@@ -8,8 +8,9 @@ use borrow.Author.Needs.{needs}
 use lib.ListN.{length}
 use Rattle.span.specs.declared.eliminate.Least.the-variants.{Found}
 use Rattle.tables.specs.Table.{codeRows}
+use Rattle.tables.proofs.Fit.{code-length}
 use Rattle.words.proofs.Masks.{bit-shifted}
-use Rattle.decoder.proofs.Error.{code-size, error-found, error-missing}
+use Rattle.decoder.proofs.Error.{error-found, error-missing}
 use Rattle.decoder.proofs.decode.least_error.Statement.{statement}
 use Rattle.decoder.proofs.decode.least_error.Tie as tie
 
@@ -39,7 +40,7 @@ sub-t13 : tie.Need-sub-t13
 sub-t13 c =
     let a = c .before .before .before .before .before .before .before .args in
     let R = codeRows (a .n) (a .rows .now) in
-    let size : length R ≡ a .n = code-size (a .n) (a .rows .now) (omega arith) (omega arith) in
+    let size : length R ≡ a .n = code-length (a .n) (a .rows .now) (omega arith) (omega arith) in
     let one = one-at (a .n) (omega arith) in
     let f = error-found R (c .before .before .before .before .before .error-words .result) (a .n) (a .x) size (omega arith) (c .before .before .before .before .before .error-words .ensures) (c .before .relation .given .0 .0)
     (sym (c .before .before .before .least-relation .ensures) ∙ c .before .relation .given .1) in
@@ -49,7 +50,7 @@ returns : tie.Need-returns
 returns c =
     let a = c .before .before .before .before .before .before .before .args in
     let R = codeRows (a .n) (a .rows .now) in
-    let size : length R ≡ a .n = code-size (a .n) (a .rows .now) (omega arith) (omega arith) in
+    let size : length R ≡ a .n = code-length (a .n) (a .rows .now) (omega arith) (omega arith) in
     let f = error-found R (c .before .before .before .before .before .error-words .result) (a .n) (a .x) size (omega arith) (c .before .before .before .before .before .error-words .ensures) (c .before .relation .given .0 .0)
     (sym (c .before .before .before .least-relation .ensures) ∙ c .before .relation .given .1) in
     sym (f .1 ∙ ap (λ (y : ℕ). Found (c .before .relation .given .0 .0 - y)) (sym (one-at (a .n) (omega arith))))
@@ -61,7 +62,7 @@ returns-2 : tie.Need-returns-2
 returns-2 c =
     let a = c .before .before .before .before .before .before .args in
     let R = codeRows (a .n) (a .rows .now) in
-    let size : length R ≡ a .n = code-size (a .n) (a .rows .now) (omega arith) (omega arith) in
+    let size : length R ≡ a .n = code-length (a .n) (a .rows .now) (omega arith) (omega arith) in
     sym (error-missing R (c .before .before .before .before .error-words .result) (a .n) (a .x) size (omega arith) (c .before .before .before .before .error-words .ensures)
     (sym (c .before .before .least-relation .ensures) ∙ c .enum-told .given .1))
 

@@ -1,4 +1,4 @@
--- `export::coder::step`: the part of the numbers that is lent is the rows. Assumes nothing.
+-- `export::code::step`: the part of the numbers that is lent is the rows. Assumes nothing.
 use mathlib.Core.Path.{ap, _∙_}
 use native.Mathlib.Omega.{arith}
 use borrow.Author.Needs.{needs}

@@ -1,4 +1,4 @@
--- `export::decoder::burst_decode`: the step of the table of the numbers. Assumes nothing.
+-- `export::decode::burst_decode`: the step of the table of the numbers. Assumes nothing.
 use mathlib.Core.Path.{ap, _∙_}
 use borrow.Author.Needs.{needs}
 use lib.ListN.{drop}

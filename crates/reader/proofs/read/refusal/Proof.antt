@@ -1,4 +1,4 @@
--- `tables::read::refusal`: the answer beside the zero table; the place by whether the number is 9. Assumes nothing.
+-- `reader::read::refusal`: the answer beside the zero table; the place by whether the number is 9. Assumes nothing.
 use native.Mathlib.Omega.{arith}
 use borrow.Author.Needs.{needs}
 use borrow.Author.Tests.{eq-eqb, ne-eqb}

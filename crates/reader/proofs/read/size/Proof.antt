@@ -1,4 +1,4 @@
--- `tables::read::size`: the cases of the definition. Assumes nothing.
+-- `reader::read::size`: the cases of the definition. Assumes nothing.
 use native.Mathlib.Omega.{arith}
 use borrow.Author.Tests.{eq-eqb, ne-eqb}
 use Rattle.reader.specs.Format.{size}
