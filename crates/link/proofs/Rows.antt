@@ -7,6 +7,7 @@ use lib.Dec.{ltb, eqb}
 use lib.ListN.{take}
 use Rattle.tables.specs.declared.table.Table.{Table}
 use Rattle.tables.specs.Table.{table, fit}
+use Rattle.tables.proofs.Fit.{fit-same}
 use Rattle.memory.specs.declared.start.StartAnswer.the-variants.{Started, Refused as StartRefused}
 use Rattle.coder.specs.declared.code.CodeAnswer.the-variants.{Coded, Refused as CodeRefused}
 use Rattle.decoder.specs.declared.decode.DecodeAnswer.the-variants.{Delivery, NothingYet, Refused as DecodeRefused}
@@ -32,8 +33,7 @@ by-fault {X} f g x y k p q = picked (eqb f 0) (eqb g 0) x y (k f) (k g) (ap (λ 
 
 module _ (n N m : ℕ) (us ts : List ℕ) (e : take (n - 1) us ≡ take (n - 1) ts) where
   fits : fit (table n N m us) ≡ fit (table n N m ts)
-  unfolding fit
-  fits = rw e
+  fits = fit-same n N m us ts e
 
   start-faults : (k : ℕ) (s : List ℕ) → startFault (table n N m us) k s ≡ startFault (table n N m ts) k s
   unfolding startFault

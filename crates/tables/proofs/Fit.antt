@@ -10,7 +10,7 @@ use lib.ListN.{length, getD, take, replicate, length-append}
 use lib.Seq.{length-take-le}
 use Rattle.span.specs.Combination.{Below}
 use Rattle.tables.specs.declared.table.Table.{Table}
-use Rattle.tables.specs.Table.{codeRows, sizesFit, rowsFit, fit}
+use Rattle.tables.specs.Table.{table, codeRows, sizesFit, rowsFit, fit}
 use Rattle.tables.specs.Laws.{ZERO-UNFIT}
 
 pub and-left : (s t : Bool) → s && t ≡ true → s ≡ true
@@ -68,6 +68,11 @@ unfolding fit
 fit-sizes t e =
     sizes-of (t .symbols) (t .span) (t .depth)
     (and-left (sizesFit (t .symbols) (t .span) (t .depth)) (rowsFit (t .span) (take (t .symbols - 1) (t .rows))) e)
+
+-- 12 looks at rows 1 to n − 1 only
+pub fit-same : (n N m : ℕ) (us ts : List ℕ) → take (n - 1) us ≡ take (n - 1) ts → fit (table n N m us) ≡ fit (table n N m ts)
+unfolding fit
+fit-same n N m us ts e = rw e
 
 pub zero-unfit : ZERO-UNFIT
 unfolding fit sizesFit
