@@ -58,7 +58,6 @@ bytesOfZ = 1 ∷ 2 ∷ 4 ∷ 1 ∷ 2 ∷ 1 ∷ 10 ∷ 0 ∷ 0 ∷ 0 ∷ 0 ∷ 0 
 
 abbrev pub examples : List Example
 examples =
-    -- A coder of Z has 2 words and a decoder 7: turn, fill, pending word, syndrome word, and 3 delayed blocks.
     -- T1: Z, that is n = 2, N = 4, row 10
     accepts bytesOfZ (table 2 4 1 (10 ∷ replicate 14 0))
     -- T2 to T5
@@ -76,6 +75,7 @@ examples =
     ∷ makes 5 (976 ∷ 392 ∷ 772 ∷ 514 ∷ [])
     -- T9: n = 5, N = 10, rows 976, 904, 772, 514
     ∷ clashes ((1 ∷ 5 ∷ 10 ∷ 1 ∷ []) ++ row 1 208 3 ++ row 2 136 3 ++ row 3 4 3 ++ row 4 2 2 ++ (0 ∷ [])) 3 3 26
+    -- T10 to T12. A coder of Z has 2 words and a decoder 7: turn, fill, pending word, syndrome word, and 3 delayed blocks.
     -- T10: "Z codes 1, 1, 0, 0, 0 as 1, 3, 2, 2, 2."
     ∷ codes bytesOfZ (started 2) (1 ∷ 1 ∷ 0 ∷ 0 ∷ 0 ∷ []) (Coded 1 ∷ Coded 3 ∷ Coded 2 ∷ Coded 2 ∷ Coded 2 ∷ [])
     -- T11: "Z, started, receives 2, 2, 0, 0: three times nothing yet, then 0, doubtful."
