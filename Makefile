@@ -6,7 +6,7 @@
 ARCHIVE := target/staticlib/libexport.a
 
 run:
-	@rt check listing link
+	@rt check listing
 	@target/bin/listing < examples/listing/levels
 
 test:
@@ -14,10 +14,8 @@ test:
 
 staticlib: $(ARCHIVE)
 
-# `rt staticlib` proves anew each time, so it is called only if crates.txt, something below crates/ or `rt` is newer than the archive. Nothing that is
-# exported calls `link`, so its theorems, recovery among them, are asked for by name.
+# `rt staticlib` proves anew each time, so it is called only if crates.txt, something below crates/ or `rt` is newer than the archive.
 $(ARCHIVE): crates.txt $(shell find crates; command -v rt)
-	@rt check link
 	@rt staticlib export
 
 bench: staticlib

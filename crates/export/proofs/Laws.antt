@@ -7,23 +7,25 @@ use Prim.Native.Nat.{ℕ, _-_, _*_, _<_}
 use native.Mathlib.Omega.{arith}
 use lib.ListN.{getD, take}
 use Rattle.tables.specs.declared.table.Table.{Table}
-use Rattle.maker.specs.declared.make.MakeAnswer.{MakeAnswer}
-use Rattle.reader.specs.declared.read.ReadAnswer.{ReadAnswer}
-use Rattle.reader.specs.declared.read.ReadAnswer.the-variants.{Accepted, Refused, Unsuitable}
+use Rattle.tables.specs.declared.make.MakeAnswer.{MakeAnswer}
+use Rattle.tables.specs.declared.read.ReadAnswer.{ReadAnswer}
+use Rattle.tables.specs.declared.read.ReadAnswer.the-variants.{Accepted, Refused, Unsuitable}
 use Rattle.tables.specs.Code.{Clashes, Suitable}
 use Rattle.tables.specs.Table.{rowsOf, sizesFit, Whole}
-use Rattle.reader.specs.Format.{parse, refused, parsed}
-use Rattle.reader.specs.Reading.{numbers, Says}
-use Rattle.maker.specs.Made.{columns, triangleRows, making, madeNumbers}
-use Rattle.reader.proofs.Laws.{refused-range, parses-exactly}
-use Rattle.maker.proofs.Laws.{made, made-whole, is-made, not-made}
-use Rattle.memory.specs.Answers.{Answered}
-use Rattle.memory.proofs.Answers.{start-numbers}
-use Rattle.coder.proofs.Answers.{code-numbers}
-use Rattle.decoder.proofs.Answers.{decode-numbers}
-use Rattle.numbers.specs.Table.{numbersOf, givenBack}
-use Rattle.numbers.proofs.Laws.{given-back}
-use Rattle.records.specs.Answers.{numberOf, readingOf, codedOf, decodedOf}
+use Rattle.tables.specs.Format.{parse, refused, parsed}
+use Rattle.tables.specs.Reading.{numbers, Says}
+use Rattle.tables.specs.Made.{columns, triangleRows, making, madeNumbers}
+use Rattle.tables.proofs.Reading.{refused-range}
+use Rattle.tables.proofs.Written.{parses-exactly}
+use Rattle.tables.proofs.Made.{made, is-made, not-made}
+use Rattle.tables.proofs.MadeWhole.{made-whole}
+use Rattle.link.specs.Answers.{Answered}
+use Rattle.link.proofs.Answers.{start-numbers}
+use Rattle.link.proofs.CoderAnswers.{code-numbers}
+use Rattle.link.proofs.DecoderAnswers.{decode-numbers}
+use Rattle.export.specs.Table.{numbersOf, givenBack}
+use Rattle.export.proofs.TableLaws.{given-back}
+use Rattle.export.specs.Answers.{numberOf, readingOf, codedOf, decodedOf}
 use Rattle.export.specs.Laws.{READ-TOLD, MADE-TOLD, Told, START-TOLD, CODE-TOLD, DECODE-TOLD}
 
 said : (bytes : List ℕ) → ((i : ℕ) → getD bytes i 0 < 256) → (a : ReadAnswer) (u : Table) (before : List ℕ) → Says bytes (numbers a) u

@@ -1,3 +1,6 @@
 -- What the proofs of several functions use, and the laws.
+mod Copy
+mod TableLaws
+mod Answers
 mod Lent
-pub mod Laws
+mod Laws

@@ -15,17 +15,17 @@ use lib.ListN.{getD, take}
 use Rattle.tables.specs.declared.table.Table.{Table}
 use Rattle.tables.specs.Code.{Clashes, Suitable}
 use Rattle.tables.specs.Table.{rowsOf, sizesFit, Whole}
-use Rattle.reader.specs.Format.{parse, refused, parsed}
-use Rattle.maker.specs.Made.{columns, triangleRows, making, madeNumbers}
-use Rattle.memory.specs.Start.{startFault, started, startAnswer, startMemory}
-use Rattle.coder.specs.Coder.{coderFault, codedBlock, coderNext, codeAnswer, codeMemory}
-use Rattle.decoder.specs.Decoder.{decoderFault, decoderNext, decodeAnswer, decodeMemory}
-use Rattle.memory.specs.Answers.{startNumbers}
-use Rattle.coder.specs.Answers.{codeNumbers}
-use Rattle.decoder.specs.Answers.{decodeNumbers, decodeValues}
-use Rattle.numbers.specs.Table.{numbersOf, givenBack}
-use Rattle.records.specs.declared.reading.BurstReading.{BurstReading}
-use Rattle.records.specs.Answers.{numberOf, readingOf, codedOf, decodedOf}
+use Rattle.tables.specs.Format.{parse, refused, parsed}
+use Rattle.tables.specs.Made.{columns, triangleRows, making, madeNumbers}
+use Rattle.link.specs.Start.{startFault, started, startAnswer, startMemory}
+use Rattle.link.specs.Coder.{coderFault, codedBlock, coderNext, codeAnswer, codeMemory}
+use Rattle.link.specs.Decoder.{decoderFault, decoderNext, decodeAnswer, decodeMemory}
+use Rattle.link.specs.Answers.{startNumbers}
+use Rattle.link.specs.CoderAnswers.{codeNumbers}
+use Rattle.link.specs.DecoderAnswers.{decodeNumbers, decodeValues}
+use Rattle.export.specs.Table.{numbersOf, givenBack}
+use Rattle.export.specs.declared.reading.BurstReading.{BurstReading}
+use Rattle.export.specs.Answers.{numberOf, readingOf, codedOf, decodedOf}
 use Rattle.export.specs.Reading.{Reads}
 
 -- of any bytes, which are numbers below 256; `Whole`: the table is fit, and its rows past n − 1 are 0

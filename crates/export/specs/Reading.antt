@@ -4,11 +4,11 @@
 use mathlib.Core.Path.{_≡_}
 use mathlib.Core.List.{List}
 use Prim.Native.Nat.{ℕ}
-use Rattle.reader.specs.declared.read.Reading.{Reading}
-use Rattle.reader.specs.Reading.{numbers, Read}
-use Rattle.numbers.specs.Table.{givenBack}
-use Rattle.records.specs.declared.reading.BurstReading.{BurstReading}
-use Rattle.records.specs.Answers.{readingOf}
+use Rattle.tables.specs.declared.read.Reading.{Reading}
+use Rattle.tables.specs.Reading.{numbers, Read}
+use Rattle.export.specs.Table.{givenBack}
+use Rattle.export.specs.declared.reading.BurstReading.{BurstReading}
+use Rattle.export.specs.Answers.{readingOf}
 
 -- "Only the triple of refusal 10 is left free": there is a reading that is right of the bytes (`Read`), and these are its numbers and, if it is no
 -- refusal, its table's

@@ -1,17 +1,17 @@
 // A coder's step.
-use coder::code::CodeAnswer;
-use coder::code::code_lent;
-use numbers::table::sizes_of;
-use records::coded::BurstCoded;
-use records::coded::coded;
+use crate::coded::BurstCoded;
+use crate::coded::coded;
+use crate::table::sizes_of;
+use link::code::CodeAnswer;
+use link::code::code_lent;
 use tables::table::Table;
 ghost use mathlib.Core.Path.{_≡_};
 ghost use lib.ListN.{length, drop};
 ghost use Rattle.tables.specs.Lent.{withRows};
-ghost use Rattle.coder.specs.Coder.{codeAnswer, codeMemory};
-ghost use Rattle.coder.specs.Answers.{codeNumbers};
-ghost use Rattle.numbers.specs.Table.{tableOf};
-ghost use Rattle.records.specs.Answers.{codedOf};
+ghost use Rattle.link.specs.Coder.{codeAnswer, codeMemory};
+ghost use Rattle.link.specs.CoderAnswers.{codeNumbers};
+ghost use Rattle.export.specs.Table.{tableOf};
+ghost use Rattle.export.specs.Answers.{codedOf};
 
 // The rows are lent where they stand.
 fn step(t: Table, numbers: &[u64], words: &mut [u64], info: u16) -> CodeAnswer

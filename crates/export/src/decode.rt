@@ -1,17 +1,17 @@
 // A decoder's step.
-use decoder::decode::DecodeAnswer;
-use decoder::decode::decode_lent;
-use numbers::table::sizes_of;
-use records::decoded::BurstDecoded;
-use records::decoded::decoded;
+use crate::decoded::BurstDecoded;
+use crate::decoded::decoded;
+use crate::table::sizes_of;
+use link::decode::DecodeAnswer;
+use link::decode::decode_lent;
 use tables::table::Table;
 ghost use mathlib.Core.Path.{_≡_};
 ghost use lib.ListN.{length, drop};
 ghost use Rattle.tables.specs.Lent.{withRows};
-ghost use Rattle.decoder.specs.Decoder.{decodeAnswer, decodeMemory};
-ghost use Rattle.decoder.specs.Answers.{decodeNumbers};
-ghost use Rattle.numbers.specs.Table.{tableOf};
-ghost use Rattle.records.specs.Answers.{decodedOf};
+ghost use Rattle.link.specs.Decoder.{decodeAnswer, decodeMemory};
+ghost use Rattle.link.specs.DecoderAnswers.{decodeNumbers};
+ghost use Rattle.export.specs.Table.{tableOf};
+ghost use Rattle.export.specs.Answers.{decodedOf};
 
 // The rows are lent where they stand.
 fn step(t: Table, numbers: &[u64], words: &mut [u64], received: u16) -> DecodeAnswer

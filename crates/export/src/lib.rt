@@ -1,6 +1,12 @@
-// What C may call (include/burst.h): numbers in, numbers out, over the layers below, by `numbers` and `records`. Nothing is decided here.
+// What C may call (include/burst.h): numbers in, numbers out, over the layers below. Nothing is decided here.
 pub mod code;
+mod coded;
 pub mod decode;
+mod decoded;
 pub mod make;
+mod making;
 pub mod read;
+mod reading;
 pub mod start;
+mod starting;
+mod table;

@@ -1,11 +1,11 @@
 // Making a table.
-use maker::make::make;
-use numbers::table::give_back;
-use records::making::made;
+use crate::making::made;
+use crate::table::give_back;
+use tables::make::make;
 ghost use mathlib.Core.Path.{_≡_};
-ghost use Rattle.maker.specs.Made.{making, madeNumbers};
-ghost use Rattle.numbers.specs.Table.{givenBack};
-ghost use Rattle.records.specs.Answers.{numberOf};
+ghost use Rattle.tables.specs.Made.{making, madeNumbers};
+ghost use Rattle.export.specs.Table.{givenBack};
+ghost use Rattle.export.specs.Answers.{numberOf};
 
 #[no_mangle]
 pub extern "C" fn burst_make(n: u64, m: u64, table: &mut [u64; 18]) -> u64

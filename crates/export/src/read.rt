@@ -1,8 +1,8 @@
 // Reading a table.
-use numbers::table::give_back;
-use reader::read::read;
-use records::reading::BurstReading;
-use records::reading::reading;
+use crate::reading::BurstReading;
+use crate::reading::reading;
+use crate::table::give_back;
+use tables::read::read;
 ghost use Rattle.export.specs.Reading.{Reads};
 
 #[no_mangle]

@@ -1,14 +1,14 @@
 // Starting a memory.
-use memory::start::start_coder;
-use memory::start::start_decoder;
-use numbers::table::table_of;
-use records::starting::started;
+use crate::starting::started;
+use crate::table::table_of;
+use link::start::start_coder;
+use link::start::start_decoder;
 ghost use mathlib.Core.Path.{_≡_};
-ghost use Rattle.memory.specs.Start.{startAnswer, startMemory};
-ghost use Rattle.memory.specs.Memory.{coderWords, decoderWords};
-ghost use Rattle.memory.specs.Answers.{startNumbers};
-ghost use Rattle.numbers.specs.Table.{tableOf};
-ghost use Rattle.records.specs.Answers.{numberOf};
+ghost use Rattle.link.specs.Start.{startAnswer, startMemory};
+ghost use Rattle.link.specs.Memory.{coderWords, decoderWords};
+ghost use Rattle.link.specs.Answers.{startNumbers};
+ghost use Rattle.export.specs.Table.{tableOf};
+ghost use Rattle.export.specs.Answers.{numberOf};
 
 #[no_mangle]
 pub extern "C" fn burst_start_coder(table: &[u64; 18], words: &mut [u64]) -> u64

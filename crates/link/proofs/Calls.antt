@@ -7,12 +7,12 @@ use Prim.Native.Nat.{ℕ}
 use native.Mathlib.Omega.{arith}
 use lib.Dec.{ltb, eqb}
 use Rattle.tables.specs.declared.table.Table.{Table}
-use Rattle.coder.specs.declared.code.CodeAnswer.{CodeAnswer}
-use Rattle.coder.specs.declared.code.CodeAnswer.the-variants.{Coded, Refused as CodeRefused}
-use Rattle.decoder.specs.declared.decode.DecodeAnswer.{DecodeAnswer}
-use Rattle.decoder.specs.declared.decode.DecodeAnswer.the-variants.{Delivery, NothingYet, Refused as DecodeRefused}
-use Rattle.coder.specs.Coder.{coderFault, codedBlock, coderNext, codeAnswer, codeMemory}
-use Rattle.decoder.specs.Decoder.{fillOf, delayOf, decoderFault, decoderNext, delivered, delivery, decodeAnswer, decodeMemory}
+use Rattle.link.specs.declared.code.CodeAnswer.{CodeAnswer}
+use Rattle.link.specs.declared.code.CodeAnswer.the-variants.{Coded, Refused as CodeRefused}
+use Rattle.link.specs.declared.decode.DecodeAnswer.{DecodeAnswer}
+use Rattle.link.specs.declared.decode.DecodeAnswer.the-variants.{Delivery, NothingYet, Refused as DecodeRefused}
+use Rattle.link.specs.Coder.{coderFault, codedBlock, coderNext, codeAnswer, codeMemory}
+use Rattle.link.specs.Decoder.{fillOf, delayOf, decoderFault, decoderNext, delivered, delivery, decodeAnswer, decodeMemory}
 use Rattle.link.specs.Runs.{Sent, Taken, run, ran, sentBy, takenBy, sentEntry, takenEntry, coderAfter, decoderAfter, RUN-CODES, RUN-DECODES}
 
 pub run-codes : RUN-CODES

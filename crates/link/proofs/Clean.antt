@@ -10,10 +10,10 @@ use lib.ListN.{length}
 use Rattle.tables.specs.declared.table.Table.{Table}
 use Rattle.tables.proofs.Bounds.{fit-facts}
 use Rattle.tables.proofs.Fit.{zeros-at}
-use Rattle.memory.specs.Start.{started}
-use Rattle.memory.specs.Memory.{coderWords, turnOf, decoderWords}
-use Rattle.coder.specs.Coder.{pendingAt, coderFault, coderNext}
-use Rattle.decoder.specs.Decoder.{fillOf, delayOf, streamAt, pendingOf, syndromeOf, delayedOf, decoderFault, decoderNext}
+use Rattle.link.specs.Start.{started}
+use Rattle.link.specs.Memory.{coderWords, turnOf, decoderWords}
+use Rattle.link.specs.Coder.{pendingAt, coderFault, coderNext}
+use Rattle.link.specs.Decoder.{fillOf, delayOf, streamAt, pendingOf, syndromeOf, delayedOf, decoderFault, decoderNext}
 use Rattle.link.specs.Runs.{Call, Sent, Taken, sentBy, takenBy}
 use Rattle.link.specs.Recovery.{Wrong, Bursts, Recovered, Running}
 use Rattle.link.specs.Massey.{blockSent, blockTaken}

@@ -17,10 +17,10 @@ use borrow.Author.Tests.{lt-ltb, le-ltb}
 use lib.Dec.{leb, leb·zero, leb·suc-zero, leb·suc-suc}
 use lib.ListN.{length, getD}
 use lib.Pow.{pow-pos, pow-mono, shr-shr}
-use Rattle.words.specs.Word.{_⊕_, odd, bit, sel}
+use Rattle.span.specs.Word.{_⊕_, odd, bit, sel}
 use Rattle.span.specs.Combination.{combination}
-use Rattle.words.proofs.Laws.{xor-false-l, xor-comm-bool, xor-swap-bool, xor-zero-l, xor-zero-r, xor-lt, bit-odd, bit-zero, bit-suc, bit-xor, bit-none}
-use Rattle.span.proofs.Laws.{combination-zero, combination-append, combination-last, combination-low}
+use Rattle.span.proofs.Word.{xor-false-l, xor-comm-bool, xor-swap-bool, xor-zero-l, xor-zero-r, xor-lt, bit-odd, bit-zero, bit-suc, bit-xor, bit-none}
+use Rattle.span.proofs.Combination.{combination-zero, combination-append, combination-last, combination-low}
 use Rattle.link.specs.Massey.{sumOver, rowOf, symbol, ago, convolution, past, pastSum, HoldsPast}
 
 -- ---- exclusive or of two, and over a range

@@ -15,11 +15,11 @@ use native.Mathlib.Omega.{arith}
 use borrow.Author.Tests.{ltb-false}
 use lib.Dec.{ltb}
 use lib.ListN.{getD}
-use Rattle.decoder.specs.declared.decode.DecodeAnswer.{DecodeAnswer}
-use Rattle.memory.specs.Memory.{turnOf}
-use Rattle.decoder.specs.Decoder.{fillOf}
+use Rattle.link.specs.declared.decode.DecodeAnswer.{DecodeAnswer}
+use Rattle.link.specs.Memory.{turnOf}
+use Rattle.link.specs.Decoder.{fillOf}
 use Rattle.link.proofs.Interleaving.{place-first, place-next}
-use Rattle.decoder.proofs.Memory.{streamIn, delayedIn}
+use Rattle.link.proofs.Decoder.{streamIn, delayedIn}
 use Rattle.link.proofs.Turn.{DecoderRun, delayed-again, delayed-first}
 
 module _ {n N m : ℕ} {infos : List ℕ} {S : ℕ → List ℕ} {R : ℕ → ℕ} {A : ℕ → DecodeAnswer} {count : ℕ} (l : DecoderRun n N m infos S R A count) where

@@ -7,20 +7,20 @@ use native.Mathlib.Omega.{arith}
 use borrow.Author.Tests.{leb-true, ltb-true, eqb-true, eqb-false, not-true}
 use lib.Dec.{leb, ltb, eqb}
 use lib.ListN.{length, replicate}
-use Rattle.words.specs.Word.{_⊕_, odd, bit, shifted}
+use Rattle.span.specs.Word.{_⊕_, odd, bit, shifted}
 use Rattle.span.specs.Combination.{combination}
 use Rattle.span.specs.Relation.{leastFrom, leastCoefficients}
 use Rattle.tables.specs.Code.{image, shiftedImage, Clashes, Suitable}
 use Rattle.tables.specs.Table.{table, sizesFit, rowsFit, fit}
 use Rattle.tables.specs.Refusal.{firstOf}
 use Rattle.tables.proofs.Fit.{and-left, and-right}
-use Rattle.reader.specs.Format.{size, word, allGiven, taken, fault, place, sized, rowed, after, parseFrom, parse}
-use Rattle.reader.specs.Reading.{Says}
-use Rattle.maker.specs.Made.{columns, upper, madeRow, madeRows, madeTable, making}
-use Rattle.maker.proofs.Every.{every, every-at}
-use Rattle.memory.specs.Stream.{joining}
-use Rattle.coder.specs.Coder.{coderFault, coderJoining, codedBlock, coderNext, codeAnswer, codeMemory}
-use Rattle.decoder.specs.Decoder.{someAbove, decoderFault, decoderJoining, decoderRegister, decoderFound, partNext, decoderNext, delivered, delivery, decodeAnswer, decodeMemory}
+use Rattle.tables.specs.Format.{size, word, allGiven, taken, fault, place, sized, rowed, after, parseFrom, parse}
+use Rattle.tables.specs.Reading.{Says}
+use Rattle.tables.specs.Made.{columns, upper, madeRow, madeRows, madeTable, making}
+use Rattle.tables.proofs.Every.{every, every-at}
+use Rattle.link.specs.Stream.{joining}
+use Rattle.link.specs.Coder.{coderFault, coderJoining, codedBlock, coderNext, codeAnswer, codeMemory}
+use Rattle.link.specs.Decoder.{someAbove, decoderFault, decoderJoining, decoderRegister, decoderFound, partNext, decoderNext, delivered, delivery, decodeAnswer, decodeMemory}
 use Rattle.link.specs.Computed.{Z, answersBy}
 use Rattle.link.specs.Examples.{bytesOfZ, EXAMPLES}
 

@@ -16,24 +16,24 @@ use Prim.Native.Nat.{ℕ, suc, _+_, _-_, _*_, _/_, _%_, _^_, _≤_, _<_}
 use native.Mathlib.Nat.{zero-mod, add-mul, suc-mul, one-mul, mul-comm, mul-le-mul-right, mod-lt, div-add-mod', le-div-iff-mul-le, eq-zero-or-pos}
 use native.Mathlib.Omega.{arith}
 use lib.ListN.{length, getD}
-use Rattle.words.specs.Word.{_⊕_, odd, digit}
+use Rattle.span.specs.Word.{_⊕_, odd, digit}
 use Rattle.span.specs.Combination.{combination}
-use Rattle.words.proofs.Laws.{xor-zero-r, xor-lt, xor-mod, xor-self, xor-twice}
-use Rattle.decoder.specs.declared.decode.Mark.{Mark}
-use Rattle.decoder.specs.declared.decode.Mark.the-variants.{Doubtful}
-use Rattle.decoder.specs.declared.decode.DecodeAnswer.{DecodeAnswer}
-use Rattle.decoder.specs.declared.decode.DecodeAnswer.the-variants.{Delivery}
-use Rattle.memory.specs.Stream.{joining}
-use Rattle.decoder.specs.Step.{found, errorOf, keptOf, markOf}
-use Rattle.memory.specs.Memory.{turnOf}
-use Rattle.coder.specs.Coder.{pendingAt}
-use Rattle.decoder.specs.Decoder.{fillOf}
+use Rattle.span.proofs.Word.{xor-zero-r, xor-lt, xor-mod, xor-self, xor-twice}
+use Rattle.link.specs.declared.decode.Mark.{Mark}
+use Rattle.link.specs.declared.decode.Mark.the-variants.{Doubtful}
+use Rattle.link.specs.declared.decode.DecodeAnswer.{DecodeAnswer}
+use Rattle.link.specs.declared.decode.DecodeAnswer.the-variants.{Delivery}
+use Rattle.link.specs.Stream.{joining}
+use Rattle.link.specs.Step.{found, errorOf, keptOf, markOf}
+use Rattle.link.specs.Memory.{turnOf}
+use Rattle.link.specs.Coder.{pendingAt}
+use Rattle.link.specs.Decoder.{fillOf}
 use Rattle.link.proofs.Suitable.{Corrects}
 use Rattle.link.proofs.Step.{both-half, both-odd, coder-info}
-use Rattle.words.proofs.Masks.{topped-lt}
+use Rattle.span.proofs.Masks.{topped-lt}
 use Rattle.link.proofs.Sequence.{Stream, guard-clean, guard-syndrome, stream-judged}
 use Rattle.link.proofs.Interleaving.{place-first, place-next, place-earlier}
-use Rattle.decoder.proofs.Memory.{streamIn, pendingIn, syndromeIn, delayedIn, registerIn}
+use Rattle.link.proofs.Decoder.{streamIn, pendingIn, syndromeIn, delayedIn, registerIn}
 use Rattle.link.proofs.Turn.{CoderRun, DecoderRun, coder-again, coder-first, pending-again, pending-first, syndrome-again, syndrome-first}
 use Rattle.link.proofs.Delay.{fill-complete, oldest, oldest-first}
 

@@ -11,31 +11,31 @@ use borrow.Author.Tests.{eqb-true, eqb-false, ltb-true}
 use lib.Dec.{ltb, eqb}
 use lib.ListN.{length, getD, length-replicate}
 use lib.Pow.{pow-pos}
-use Rattle.words.specs.Word.{_⊕_, odd, bit}
+use Rattle.span.specs.Word.{_⊕_, odd, bit}
 use Rattle.span.specs.Combination.{combination}
-use Rattle.words.proofs.Laws.{xor-lt}
-use Rattle.span.proofs.Laws.{combination-lt}
+use Rattle.span.proofs.Word.{xor-lt}
+use Rattle.span.proofs.Combination.{combination-lt}
 use Rattle.tables.specs.declared.table.Table.{Table}
 use Rattle.tables.proofs.Bounds.{fit-facts}
-use Rattle.memory.specs.Stream.{joining, nextTurn}
-use Rattle.decoder.specs.Step.{found}
-use Rattle.memory.specs.Start.{started}
-use Rattle.memory.specs.Memory.{coderWords, turnOf, decoderWords}
-use Rattle.coder.specs.Coder.{pendingAt, coderFault, codedBlock, coderNext, CoderFormed}
-use Rattle.decoder.specs.Decoder.{fillOf, delayOf, decoderFault, decoderNext, delivery, DecoderFormed}
-use Rattle.decoder.specs.declared.decode.DecodeAnswer.{DecodeAnswer}
+use Rattle.link.specs.Stream.{joining, nextTurn}
+use Rattle.link.specs.Step.{found}
+use Rattle.link.specs.Start.{started}
+use Rattle.link.specs.Memory.{coderWords, turnOf, decoderWords}
+use Rattle.link.specs.Coder.{pendingAt, coderFault, codedBlock, coderNext, CoderFormed}
+use Rattle.link.specs.Decoder.{fillOf, delayOf, decoderFault, decoderNext, delivery, DecoderFormed}
+use Rattle.link.specs.declared.decode.DecodeAnswer.{DecodeAnswer}
 use Rattle.link.specs.Runs.{Sent, Taken, sentEntry, takenEntry, sentBy, takenBy, noneSent, noneTaken}
 use Rattle.link.specs.Recovery.{SameTable}
 use Rattle.link.specs.Formed.{STARTED-FORMED, FORMED-KEPT, FORMED-THROUGHOUT}
 use Rattle.link.proofs.Interleaving.{turn-next}
-use Rattle.words.proofs.Masks.{topped-lt}
+use Rattle.span.proofs.Masks.{topped-lt}
 use Rattle.tables.specs.Table.{infoRows}
 use Rattle.tables.proofs.Fit.{zeros-at}
 use Rattle.link.proofs.Sequence.{kept-lt}
 use Rattle.link.proofs.Runs.{ran-keeps}
-use Rattle.memory.proofs.Fits.{Fits}
-use Rattle.coder.proofs.Memory.{CoderStep, coder-step, coder-length}
-use Rattle.decoder.proofs.Memory.{streamIn, pendingIn, syndromeIn, registerIn, DecoderStep, decoder-step, decoder-length}
+use Rattle.link.proofs.Fits.{Fits}
+use Rattle.link.proofs.Coder.{CoderStep, coder-step, coder-length}
+use Rattle.link.proofs.Decoder.{streamIn, pendingIn, syndromeIn, registerIn, DecoderStep, decoder-step, decoder-length}
 use Rattle.link.proofs.OneTable.{same-step, from-one}
 
 -- ---- a start

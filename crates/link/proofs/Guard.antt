@@ -6,8 +6,8 @@ use native.Mathlib.Nat.{add-mul}
 use native.Mathlib.Omega.{arith}
 use lib.ListN.{length, getD}
 use Rattle.tables.specs.declared.table.Table.{Table}
-use Rattle.memory.specs.Memory.{turnOf}
-use Rattle.decoder.specs.Decoder.{syndromeOf}
+use Rattle.link.specs.Memory.{turnOf}
+use Rattle.link.specs.Decoder.{syndromeOf}
 use Rattle.link.specs.Runs.{Call, sentBy, takenBy}
 use Rattle.link.specs.Recovery.{Right, DecoderTables}
 use Rattle.link.specs.Guard.{syndromeEntry, syndromesBy, syndromeAt, GUARD}

@@ -12,7 +12,7 @@ use native.Mathlib.Nat.{add-zero, zero-add, zero-mul, suc-mul, mul-le-mul-right,
 use native.Mathlib.Omega.{arith}
 use borrow.Author.Tests.{eqb-true, eqb-false}
 use lib.Dec.{eqb}
-use Rattle.memory.specs.Stream.{nextTurn}
+use Rattle.link.specs.Stream.{nextTurn}
 
 -- ---- the places of a stream
 

@@ -1,4 +1,21 @@
--- Why coder and decoder together have the properties that 01 asks for; the lowest file first.
+-- The laws of coder and decoder, and why they together have the properties that 01 asks for; the lowest file first. A crate above sees those that
+-- are public.
+mod Parts
+mod Faults
+mod Fits
+pub mod Answers
+mod CoderFaults
+mod CoderLent
+mod Coder
+pub mod CoderAnswers
+mod Error
+mod Marks
+mod DecoderFaults
+mod DecoderLent
+pub mod Decoder
+mod Room
+mod LentPart
+pub mod DecoderAnswers
 mod Suitable
 mod Origin
 mod Step

@@ -15,30 +15,30 @@ use lib.ListN.{length, getD, length-append, length-take}
 use lib.Seq.{length-take-le}
 use Rattle.span.specs.declared.eliminate.Least.{Least}
 use Rattle.span.specs.declared.eliminate.Least.the-variants.{Found, Missing}
-use Rattle.words.specs.Word.{_⊕_, odd, bit, digit}
+use Rattle.span.specs.Word.{_⊕_, odd, bit, digit}
 use Rattle.span.specs.Combination.{combination}
-use Rattle.words.proofs.Laws.{xor-false-r}
-use Rattle.span.proofs.Laws.{combination-lt}
+use Rattle.span.proofs.Word.{xor-false-r}
+use Rattle.span.proofs.Combination.{combination-lt}
 use Rattle.tables.specs.declared.table.Table.{Table}
 use Rattle.tables.specs.Table.{rowsOf, infoRows}
 use Rattle.tables.proofs.Fit.{zeros-at}
-use Rattle.decoder.specs.declared.decode.DecodeAnswer.{DecodeAnswer}
-use Rattle.decoder.specs.declared.decode.DecodeAnswer.the-variants.{Delivery}
-use Rattle.memory.specs.Stream.{joining}
-use Rattle.decoder.specs.Step.{information, errorOf, keptOf, markOf}
-use Rattle.memory.specs.Start.{started}
-use Rattle.memory.specs.Memory.{coderWords, turnOf, decoderWords}
-use Rattle.coder.specs.Coder.{pendingAt, coderFault, coderNext}
-use Rattle.decoder.specs.Decoder.{fillOf, delayOf, pendingOf, decoderFault, decoderNext}
+use Rattle.link.specs.declared.decode.DecodeAnswer.{DecodeAnswer}
+use Rattle.link.specs.declared.decode.DecodeAnswer.the-variants.{Delivery}
+use Rattle.link.specs.Stream.{joining}
+use Rattle.link.specs.Step.{information, errorOf, keptOf, markOf}
+use Rattle.link.specs.Start.{started}
+use Rattle.link.specs.Memory.{coderWords, turnOf, decoderWords}
+use Rattle.link.specs.Coder.{pendingAt, coderFault, coderNext}
+use Rattle.link.specs.Decoder.{fillOf, delayOf, pendingOf, decoderFault, decoderNext}
 use Rattle.link.specs.Runs.{Call, sentBy, takenBy, takenAt}
 use Rattle.link.specs.Massey.{convolution, HoldsPast, stream, infoSent, blockSent, blockTaken, rawAt, registerAt, foundAt, PARITY, SYNDROME, SYNDROME-ERRORS, REGISTER, PENDING, PENDING-RECEIVED, DELIVERY, WAITING}
 use Rattle.link.proofs.Origin.{below-snoc}
 use Rattle.link.proofs.Step.{topped-low, topped-bit, joined-half, joined-odd, coder-half, coder-even}
 use Rattle.link.proofs.Interleaving.{place-first, place-next, place-earlier}
 use Rattle.link.proofs.Runs.{coderBefore, decoderBefore, before-first, sent-place, taken-place}
-use Rattle.memory.proofs.Fits.{Fits}
-use Rattle.coder.proofs.Memory.{CoderStep}
-use Rattle.decoder.proofs.Memory.{Verdict, streamIn, pendingIn, syndromeIn, delayedIn}
+use Rattle.link.proofs.Fits.{Fits}
+use Rattle.link.proofs.Coder.{CoderStep}
+use Rattle.link.proofs.Decoder.{Verdict, streamIn, pendingIn, syndromeIn, delayedIn}
 use Rattle.link.proofs.OneTable.{coded, taken-table, decoded, verdict}
 use Rattle.link.proofs.Turn.{CoderRun, DecoderRun, coder-again, coder-first, pending-again, pending-first, syndrome-again, syndrome-first}
 use Rattle.link.proofs.Delay.{fill-complete, fill-waits, oldest}

@@ -16,15 +16,15 @@ use Rattle.span.specs.declared.eliminate.Least.{Least}
 use Rattle.span.specs.declared.eliminate.Least.the-variants.{Missing}
 use Rattle.tables.specs.declared.table.Table.{Table}
 use Rattle.tables.specs.Table.{infoRows}
-use Rattle.decoder.specs.Step.{rawTerm}
-use Rattle.coder.specs.Coder.{coderNext}
-use Rattle.decoder.specs.Decoder.{decoderNext, decoderJoining, decoderRegister, decoderFound}
+use Rattle.link.specs.Step.{rawTerm}
+use Rattle.link.specs.Coder.{coderNext}
+use Rattle.link.specs.Decoder.{decoderNext, decoderJoining, decoderRegister, decoderFound}
 use Rattle.link.specs.Runs.{Call, Sent, Taken, sentEntry, takenEntry, sentBy, takenBy, noneSent, noneTaken, sentAt, takenAt}
 use Rattle.link.specs.Recovery.{SameTable, CoderTables, DecoderTables}
 use Rattle.link.specs.Massey.{infoSent, blockSent, blockTaken, rawAt, registerAt, foundAt}
 use Rattle.link.proofs.Runs.{coderBefore, decoderBefore, sent-place, taken-place}
-use Rattle.coder.proofs.Memory.{CoderStep, coder-step}
-use Rattle.decoder.proofs.Memory.{DecoderStep, decoder-step, Verdict, decoder-verdict}
+use Rattle.link.proofs.Coder.{CoderStep, coder-step}
+use Rattle.link.proofs.Decoder.{DecoderStep, decoder-step, Verdict, decoder-verdict}
 use Rattle.link.proofs.Turn.{CoderRun, DecoderRun}
 
 -- a step under a table is one under any that is the same, of equal entries and equal memories after it

@@ -13,12 +13,12 @@ use Rattle.span.specs.Combination.{Below}
 use Rattle.tables.specs.declared.table.Table.{Table}
 use Rattle.tables.specs.Code.{Suitable}
 use Rattle.tables.specs.Table.{rowsOf, fit, infoRows}
-use Rattle.reader.proofs.Laws.{accepted-suitable}
-use Rattle.maker.proofs.Laws.{made}
+use Rattle.tables.proofs.Reading.{accepted-suitable}
+use Rattle.tables.proofs.Made.{made}
 use Rattle.link.specs.Recovery.{Origin}
 use Rattle.tables.proofs.Bounds.{Fitting, fit-facts}
-use Rattle.reader.proofs.Bounds.{parse-room}
-use Rattle.maker.proofs.Bounds.{making-room}
+use Rattle.tables.proofs.ParsedRoom.{parse-room}
+use Rattle.tables.proofs.MadeWhole.{making-room}
 use Rattle.link.proofs.Suitable.{Corrects, suitable-corrects}
 
 record Known (t : Table) : Type 0 where

@@ -7,11 +7,11 @@ use mathlib.Core.Path.{_≡_, sym, _∙_}
 use mathlib.Core.List.{List}
 use Prim.Native.Nat.{ℕ, _*_}
 use Rattle.tables.specs.declared.table.Table.{Table}
-use Rattle.decoder.specs.declared.decode.Delivered.{Delivered}
-use Rattle.decoder.specs.declared.decode.DecodeAnswer.{DecodeAnswer}
-use Rattle.decoder.specs.declared.decode.DecodeAnswer.the-variants.{Delivery}
-use Rattle.coder.specs.Coder.{CoderFormed}
-use Rattle.decoder.specs.Decoder.{delayOf, DecoderFormed}
+use Rattle.link.specs.declared.decode.Delivered.{Delivered}
+use Rattle.link.specs.declared.decode.DecodeAnswer.{DecodeAnswer}
+use Rattle.link.specs.declared.decode.DecodeAnswer.the-variants.{Delivery}
+use Rattle.link.specs.Coder.{CoderFormed}
+use Rattle.link.specs.Decoder.{delayOf, DecoderFormed}
 use Rattle.link.specs.Runs.{Call, coderAfter, decoderAfter}
 use Rattle.link.specs.Recovery.{Fades}
 use Rattle.link.specs.Premises.{Guarded, BurstsOf, PREMISES, RECOVERY-LATER, DOUBTFUL}

@@ -12,8 +12,8 @@ use native.Mathlib.Omega.{arith}
 use lib.ListN.{length}
 use Rattle.tables.specs.declared.table.Table.{Table}
 use Rattle.tables.specs.Table.{infoRows}
-use Rattle.decoder.specs.declared.decode.DecodeAnswer.{DecodeAnswer}
-use Rattle.decoder.specs.Decoder.{delayOf}
+use Rattle.link.specs.declared.decode.DecodeAnswer.{DecodeAnswer}
+use Rattle.link.specs.Decoder.{delayOf}
 use Rattle.link.specs.Runs.{Call, Sent, Taken, sentBy, takenBy, sentAt, takenAt}
 use Rattle.link.specs.Recovery.{Wrong, Fades, Recovered, RECOVERY, Running, Separated, RECOVERY-ANY-MEMORY}
 use Rattle.link.specs.Massey.{infoSent, blockSent, blockTaken}

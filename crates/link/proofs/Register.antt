@@ -12,10 +12,10 @@ use native.Mathlib.Omega.{arith}
 use borrow.Author.Tests.{lt-leb, le-leb}
 use lib.Dec.{leb, leb·zero, leb·suc-zero, leb·suc-suc}
 use lib.Pow.{pow-pos}
-use Rattle.words.specs.Word.{bit, digit}
-use Rattle.words.proofs.Laws.{bit-suc, bit-low, bit-none}
+use Rattle.span.specs.Word.{bit, digit}
+use Rattle.span.proofs.Word.{bit-suc, bit-low, bit-none}
 use Rattle.link.proofs.Step.{topped-low, topped-bit}
-use Rattle.words.proofs.Masks.{topped-lt}
+use Rattle.span.proofs.Masks.{topped-lt}
 
 leb-add : (c k i : ℕ) → leb k i ≡ leb (c + k) (c + i)
 leb-add c k i = go (decLt i k)

@@ -8,12 +8,12 @@ use lib.ListN.{take}
 use Rattle.tables.specs.declared.table.Table.{Table}
 use Rattle.tables.specs.Table.{table, fit}
 use Rattle.tables.proofs.Fit.{fit-same}
-use Rattle.memory.specs.declared.start.StartAnswer.the-variants.{Started, Refused as StartRefused}
-use Rattle.coder.specs.declared.code.CodeAnswer.the-variants.{Coded, Refused as CodeRefused}
-use Rattle.decoder.specs.declared.decode.DecodeAnswer.the-variants.{Delivery, NothingYet, Refused as DecodeRefused}
-use Rattle.memory.specs.Start.{startFault, started, startAnswer, startMemory}
-use Rattle.coder.specs.Coder.{coderFault, coderJoining, codedBlock, coderNext, codeAnswer, codeMemory}
-use Rattle.decoder.specs.Decoder.{fillOf, delayOf, decoderFault, partNext, decoderNext, delivered, delivery, decodeAnswer, decodeMemory}
+use Rattle.link.specs.declared.start.StartAnswer.the-variants.{Started, Refused as StartRefused}
+use Rattle.link.specs.declared.code.CodeAnswer.the-variants.{Coded, Refused as CodeRefused}
+use Rattle.link.specs.declared.decode.DecodeAnswer.the-variants.{Delivery, NothingYet, Refused as DecodeRefused}
+use Rattle.link.specs.Start.{startFault, started, startAnswer, startMemory}
+use Rattle.link.specs.Coder.{coderFault, coderJoining, codedBlock, coderNext, codeAnswer, codeMemory}
+use Rattle.link.specs.Decoder.{fillOf, delayOf, decoderFault, partNext, decoderNext, delivered, delivery, decodeAnswer, decodeMemory}
 use Rattle.link.specs.Recovery.{SameTable}
 use Rattle.link.specs.Rows.{UNUSED-ROWS}
 

@@ -15,8 +15,8 @@ use borrow.Author.Tests.{eqb-true}
 use lib.Dec.{eqb}
 use lib.ListN.{length, getD}
 use Rattle.tables.specs.declared.table.Table.{Table}
-use Rattle.coder.specs.Coder.{coderFault, coderNext}
-use Rattle.decoder.specs.Decoder.{decoderFault, decoderNext}
+use Rattle.link.specs.Coder.{coderFault, coderNext}
+use Rattle.link.specs.Decoder.{decoderFault, decoderNext}
 use Rattle.link.specs.Runs.{Call, run, sentEntry, takenEntry, sentBy, takenBy, ran, RUN-APPEND}
 
 module _ (fault : Table → List ℕ → ℕ → ℕ) (next : Table → List ℕ → ℕ → List ℕ) where

@@ -6,23 +6,23 @@ use mathlib.Core.List.{List, [], _∷_, map}
 use Prim.Native.Nat.{ℕ, _+_, _-_, _*_, _≤_, _<_}
 use native.Mathlib.Omega.{arith}
 use lib.ListN.{length, getD, replicate, length-replicate, List·getD-map}
-use Rattle.words.specs.Word.{_⊕_, odd, bit}
+use Rattle.span.specs.Word.{_⊕_, odd, bit}
 use Rattle.span.specs.Combination.{combination}
 use Rattle.span.specs.Relation.{leastFrom, leastCoefficients}
-use Rattle.reader.specs.declared.read.ReadAnswer.the-variants.{Accepted}
+use Rattle.tables.specs.declared.read.ReadAnswer.the-variants.{Accepted}
 use Rattle.tables.specs.declared.table.Table.{Table}
 use Rattle.tables.specs.Table.{sizesFit, rowsFit, fit}
 use Rattle.tables.specs.Refusal.{firstOf}
 use Rattle.tables.proofs.Fit.{zeros-at}
-use Rattle.reader.specs.Reading.{reading}
+use Rattle.tables.specs.Reading.{reading}
 use Rattle.link.proofs.Examples.{examples-hold}
-use Rattle.decoder.specs.declared.decode.DecodeAnswer.{DecodeAnswer}
-use Rattle.decoder.specs.declared.decode.DecodeAnswer.the-variants.{NothingYet}
-use Rattle.memory.specs.Stream.{joining}
-use Rattle.memory.specs.Start.{started}
-use Rattle.memory.specs.Memory.{coderWords}
-use Rattle.coder.specs.Coder.{coderFault, coderJoining, codedBlock, coderNext, CoderFormed}
-use Rattle.decoder.specs.Decoder.{delayOf, pendingOf, syndromeOf, delayedOf, someAbove, decoderFault, decoderJoining, decoderRegister, decoderFound, partNext, decoderNext, delivered, delivery, DecoderFormed}
+use Rattle.link.specs.declared.decode.DecodeAnswer.{DecodeAnswer}
+use Rattle.link.specs.declared.decode.DecodeAnswer.the-variants.{NothingYet}
+use Rattle.link.specs.Stream.{joining}
+use Rattle.link.specs.Start.{started}
+use Rattle.link.specs.Memory.{coderWords}
+use Rattle.link.specs.Coder.{coderFault, coderJoining, codedBlock, coderNext, CoderFormed}
+use Rattle.link.specs.Decoder.{delayOf, pendingOf, syndromeOf, delayedOf, someAbove, decoderFault, decoderJoining, decoderRegister, decoderFound, partNext, decoderNext, delivered, delivery, DecoderFormed}
 use Rattle.link.specs.Runs.{Call, Sent, Taken, run, noneSent, noneTaken, sentAt, takenAt}
 use Rattle.link.specs.Recovery.{Origin, Wrong, Stretch, Burst, Chosen, Within}
 use Rattle.link.specs.Computed.{Z, calls, delivers, differing}

@@ -15,14 +15,14 @@ use lib.ListN.{length}
 use lib.Pow.{pow-add, high, low, mod-pow-add, shr-shr}
 use Rattle.span.specs.declared.eliminate.Least.{Least}
 use Rattle.span.specs.declared.eliminate.Least.the-variants.{Found, Missing}
-use Rattle.words.specs.Word.{_⊕_, odd, bit, sel, digit, shifted}
+use Rattle.span.specs.Word.{_⊕_, odd, bit, sel, digit, shifted}
 use Rattle.span.specs.Combination.{combination}
 use Rattle.span.specs.Relation.{leastCoefficients}
-use Rattle.words.proofs.Laws.{xor-self-bool, xor-assoc, xor-swap, xor-zero-r, xor-half, odd-xor, odd-digit, odd-mod, odd-of, xor-false-r, bit-odd, shifted-mod, shifted-inside}
-use Rattle.span.proofs.Laws.{combination-last, combination-low, combination-xor}
-use Rattle.decoder.specs.declared.decode.Mark.the-variants.{Clean, Corrected, Doubtful, Held}
-use Rattle.memory.specs.Stream.{joining}
-use Rattle.decoder.specs.Step.{found, errorOf, keptOf, markOf}
+use Rattle.span.proofs.Word.{xor-self-bool, xor-assoc, xor-swap, xor-zero-r, xor-half, odd-xor, odd-digit, odd-mod, odd-of, xor-false-r, bit-odd, shifted-mod, shifted-inside}
+use Rattle.span.proofs.Combination.{combination-last, combination-low, combination-xor}
+use Rattle.link.specs.declared.decode.Mark.the-variants.{Clean, Corrected, Doubtful, Held}
+use Rattle.link.specs.Stream.{joining}
+use Rattle.link.specs.Step.{found, errorOf, keptOf, markOf}
 use Rattle.link.proofs.Suitable.{Corrects}
 
 digit-half : (s : Bool) → digit s / 2 ≡ 0

@@ -8,11 +8,11 @@ use borrow.Author.Tests.{eqb-true}
 use lib.Dec.{eqb}
 use lib.ListN.{length, getD, take, drop, length-take, length-drop}
 use lib.Seq.{getD-take, getD-drop, ext-getD}
-use Rattle.coder.specs.Coder.{pendingAt, coderFault, coderNext, codeMemory}
-use Rattle.decoder.specs.Decoder.{streamAt, decoderFault, decoderNext, decodeMemory}
+use Rattle.link.specs.Coder.{pendingAt, coderFault, coderNext, codeMemory}
+use Rattle.link.specs.Decoder.{streamAt, decoderFault, decoderNext, decodeMemory}
 use Rattle.link.specs.Streams.{partOf, OTHER-STREAMS}
-use Rattle.coder.proofs.Memory.{coder-step, coder-length}
-use Rattle.decoder.proofs.Memory.{decoder-step, decoder-length}
+use Rattle.link.proofs.Coder.{coder-step, coder-length}
+use Rattle.link.proofs.Decoder.{decoder-step, decoder-length}
 
 -- what holds of the memory before, and after a step that is taken, holds after every step
 after-any : (P : List ℕ → Type 0) (fault : ℕ) (next before : List ℕ) → P before → (fault ≡ 0 → P next)

@@ -9,13 +9,14 @@ use lib.ListN.{length}
 use lib.Pow.{pow-pos}
 use Rattle.span.specs.declared.eliminate.Least.{Least}
 use Rattle.span.specs.declared.eliminate.Least.the-variants.{Found, Missing}
-use Rattle.words.specs.Word.{_⊕_, shifted}
+use Rattle.span.specs.Word.{_⊕_, shifted}
 use Rattle.span.specs.Combination.{combination, Below}
 use Rattle.span.specs.Relation.{leastCoefficients, IsLeast}
-use Rattle.words.proofs.Laws.{xor-eq, xor-self, xor-lt, shifted-zero}
-use Rattle.span.proofs.Laws.{combination-zero, combination-xor, combination-lt, least-coefficients}
+use Rattle.span.proofs.Word.{xor-eq, xor-self, xor-lt, shifted-zero}
+use Rattle.span.proofs.Combination.{combination-zero, combination-xor, combination-lt}
+use Rattle.span.proofs.Relation.{least-coefficients}
 use Rattle.tables.specs.Code.{Suitable}
-use Rattle.tables.proofs.Laws.{alike}
+use Rattle.tables.proofs.Clash.{alike}
 
 -- The rows of a code of n symbols and span w + 1: those of the information, and the parity's, 1.
 pub record Corrects (n w : ℕ) (rows : List ℕ) : Type 0 where

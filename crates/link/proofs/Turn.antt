@@ -13,14 +13,14 @@ use Prim.Native.Nat.{ℕ, suc, _+_, _-_, _/_, _%_, _^_, _<_}
 use native.Mathlib.Nat.{add-zero, add-assoc}
 use native.Mathlib.Omega.{arith}
 use lib.ListN.{getD}
-use Rattle.decoder.specs.declared.decode.DecodeAnswer.{DecodeAnswer}
-use Rattle.memory.specs.Stream.{joining}
-use Rattle.decoder.specs.Step.{found, keptOf}
-use Rattle.memory.specs.Memory.{turnOf}
-use Rattle.coder.specs.Coder.{pendingAt}
+use Rattle.link.specs.declared.decode.DecodeAnswer.{DecodeAnswer}
+use Rattle.link.specs.Stream.{joining}
+use Rattle.link.specs.Step.{found, keptOf}
+use Rattle.link.specs.Memory.{turnOf}
+use Rattle.link.specs.Coder.{pendingAt}
 use Rattle.link.proofs.Interleaving.{Turns, word-again, word-first}
-use Rattle.coder.proofs.Memory.{CoderStep}
-use Rattle.decoder.proofs.Memory.{DecoderStep, streamIn, pendingIn, syndromeIn, delayedIn, registerIn}
+use Rattle.link.proofs.Coder.{CoderStep}
+use Rattle.link.proofs.Decoder.{DecoderStep, streamIn, pendingIn, syndromeIn, delayedIn, registerIn}
 
 -- the first `count` steps of a coder, and of a decoder, on the memories before each place
 pub record CoderRun (n N m : ℕ) (infos : List ℕ) (M : ℕ → List ℕ) (B C : ℕ → ℕ) (count : ℕ) : Type 0 where

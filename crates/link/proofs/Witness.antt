@@ -6,15 +6,15 @@ use mathlib.Core.List.{List, [], _∷_, map}
 use Prim.Native.Nat.{ℕ, _<_}
 use native.Mathlib.Omega.{arith}
 use lib.ListN.{length, replicate}
-use Rattle.words.specs.Word.{_⊕_, odd, bit}
+use Rattle.span.specs.Word.{_⊕_, odd, bit}
 use Rattle.span.specs.Combination.{combination}
 use Rattle.span.specs.Relation.{leastFrom, leastCoefficients}
 use Rattle.tables.specs.Table.{sizesFit, rowsFit, fit}
 use Rattle.tables.specs.Refusal.{firstOf}
-use Rattle.maker.specs.Made.{columns, upper, madeRow, madeRows, madeTable, making}
-use Rattle.memory.specs.Stream.{joining}
-use Rattle.coder.specs.Coder.{pendingAt, coderFault, coderJoining, codedBlock, coderNext, codeMemory, CoderFormed}
-use Rattle.decoder.specs.Decoder.{pendingOf, syndromeOf, delayedOf, someAbove, decoderFault, decoderJoining, decoderRegister, decoderFound, partNext, decoderNext, decodeMemory, delivered, delivery, DecoderFormed}
+use Rattle.tables.specs.Made.{columns, upper, madeRow, madeRows, madeTable, making}
+use Rattle.link.specs.Stream.{joining}
+use Rattle.link.specs.Coder.{pendingAt, coderFault, coderJoining, codedBlock, coderNext, codeMemory, CoderFormed}
+use Rattle.link.specs.Decoder.{pendingOf, syndromeOf, delayedOf, someAbove, decoderFault, decoderJoining, decoderRegister, decoderFound, partNext, decoderNext, decodeMemory, delivered, delivery, DecoderFormed}
 use Rattle.link.specs.Runs.{Sent, Taken, run, sentBy, takenBy}
 use Rattle.link.specs.Recovery.{Origin, Wrong, Stretch, Chosen, Within}
 use Rattle.link.specs.Computed.{answersBy, differing}

@@ -13,13 +13,13 @@ use Prim.Native.Nat.{ℕ, _+_, _-_, _/_, _%_, _≤_, _<_}
 use lib.ListN.{length}
 use Rattle.tables.specs.declared.table.Table.{Table}
 use Rattle.tables.specs.Table.{fit}
-use Rattle.decoder.specs.declared.decode.Mark.{Mark}
-use Rattle.decoder.specs.declared.decode.Mark.the-variants.{Doubtful}
-use Rattle.decoder.specs.declared.decode.DecodeAnswer.the-variants.{Delivery, NothingYet}
-use Rattle.memory.specs.Start.{started}
-use Rattle.memory.specs.Memory.{coderWords, turnOf, decoderWords}
-use Rattle.coder.specs.Coder.{pendingAt}
-use Rattle.decoder.specs.Decoder.{delayOf, pendingOf, syndromeOf, delayedOf}
+use Rattle.link.specs.declared.decode.Mark.{Mark}
+use Rattle.link.specs.declared.decode.Mark.the-variants.{Doubtful}
+use Rattle.link.specs.declared.decode.DecodeAnswer.the-variants.{Delivery, NothingYet}
+use Rattle.link.specs.Start.{started}
+use Rattle.link.specs.Memory.{coderWords, turnOf, decoderWords}
+use Rattle.link.specs.Coder.{pendingAt}
+use Rattle.link.specs.Decoder.{delayOf, pendingOf, syndromeOf, delayedOf}
 use Rattle.link.specs.Runs.{Call, Taken, sentBy, takenBy, takenAt}
 use Rattle.link.specs.Recovery.{Wrong, Bursts, Recovered, Running}
 

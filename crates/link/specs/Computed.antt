@@ -15,9 +15,9 @@ use lib.Dec.{eqb}
 use lib.ListN.{length, replicate}
 use Rattle.tables.specs.declared.table.Table.{Table}
 use Rattle.tables.specs.Table.{table}
-use Rattle.decoder.specs.declared.decode.Mark.{Mark}
-use Rattle.decoder.specs.declared.decode.DecodeAnswer.{DecodeAnswer}
-use Rattle.decoder.specs.declared.decode.DecodeAnswer.the-variants.{Delivery}
+use Rattle.link.specs.declared.decode.Mark.{Mark}
+use Rattle.link.specs.declared.decode.DecodeAnswer.{DecodeAnswer}
+use Rattle.link.specs.declared.decode.DecodeAnswer.the-variants.{Delivery}
 use Rattle.link.specs.Runs.{Call, Sent, Taken}
 
 -- n, N, m and the rows that count

@@ -12,17 +12,17 @@ use Prim.Native.Nat.{ℕ, _-_, _*_}
 use lib.ListN.{replicate}
 use Rattle.tables.specs.declared.table.Table.{Table}
 use Rattle.tables.specs.Table.{table, zeroTable}
-use Rattle.reader.specs.Reading.{Says}
-use Rattle.maker.specs.declared.make.MakeAnswer.the-variants.{Made}
-use Rattle.maker.specs.Made.{making}
-use Rattle.memory.specs.Start.{started}
-use Rattle.coder.specs.declared.code.CodeAnswer.{CodeAnswer}
-use Rattle.coder.specs.declared.code.CodeAnswer.the-variants.{Coded}
-use Rattle.coder.specs.Coder.{codeAnswer, codeMemory}
-use Rattle.decoder.specs.declared.decode.Mark.the-variants.{Clean, Held, Corrected, Doubtful}
-use Rattle.decoder.specs.declared.decode.DecodeAnswer.{DecodeAnswer}
-use Rattle.decoder.specs.declared.decode.DecodeAnswer.the-variants.{NothingYet}
-use Rattle.decoder.specs.Decoder.{decodeAnswer, decodeMemory}
+use Rattle.tables.specs.Reading.{Says}
+use Rattle.tables.specs.declared.make.MakeAnswer.the-variants.{Made}
+use Rattle.tables.specs.Made.{making}
+use Rattle.link.specs.Start.{started}
+use Rattle.link.specs.declared.code.CodeAnswer.{CodeAnswer}
+use Rattle.link.specs.declared.code.CodeAnswer.the-variants.{Coded}
+use Rattle.link.specs.Coder.{codeAnswer, codeMemory}
+use Rattle.link.specs.declared.decode.Mark.the-variants.{Clean, Held, Corrected, Doubtful}
+use Rattle.link.specs.declared.decode.DecodeAnswer.{DecodeAnswer}
+use Rattle.link.specs.declared.decode.DecodeAnswer.the-variants.{NothingYet}
+use Rattle.link.specs.Decoder.{decodeAnswer, decodeMemory}
 use Rattle.link.specs.Computed.{calls, answersBy, delivers}
 
 -- of reading, the bytes; of making, n; of steps, the bytes of the table, the first memory and the blocks handed to the calls; and what is answered

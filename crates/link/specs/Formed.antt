@@ -9,10 +9,10 @@ use mathlib.Core.List.{List}
 use Prim.Native.Nat.{ℕ}
 use Rattle.tables.specs.declared.table.Table.{Table}
 use Rattle.tables.specs.Table.{fit}
-use Rattle.memory.specs.Start.{started}
-use Rattle.memory.specs.Memory.{coderWords, decoderWords}
-use Rattle.coder.specs.Coder.{coderFault, coderNext, CoderFormed}
-use Rattle.decoder.specs.Decoder.{decoderFault, decoderNext, DecoderFormed}
+use Rattle.link.specs.Start.{started}
+use Rattle.link.specs.Memory.{coderWords, decoderWords}
+use Rattle.link.specs.Coder.{coderFault, coderNext, CoderFormed}
+use Rattle.link.specs.Decoder.{decoderFault, decoderNext, DecoderFormed}
 use Rattle.link.specs.Runs.{Call, coderAfter, decoderAfter}
 use Rattle.link.specs.Recovery.{SameTable, CoderTables, DecoderTables}
 

@@ -7,8 +7,8 @@ use Prim.Native.Nat.{ℕ, _+_, _-_, _*_, _^_, _≤_, _<_}
 use mathlib.Core.List.{List}
 use lib.ListN.{length, getD}
 use Rattle.tables.specs.declared.table.Table.{Table}
-use Rattle.memory.specs.Memory.{turnOf}
-use Rattle.decoder.specs.Decoder.{syndromeOf, decoderFault, decoderNext}
+use Rattle.link.specs.Memory.{turnOf}
+use Rattle.link.specs.Decoder.{syndromeOf, decoderFault, decoderNext}
 use Rattle.link.specs.Runs.{Call, run, sentBy, takenBy}
 use Rattle.link.specs.Recovery.{Right, Running}
 

@@ -1,5 +1,14 @@
--- `link`: coder and decoder together: streams apart, runs of their steps, recovery after a fade, well-formed memories, the guard, the clean start,
--- Massey's code, runs that are computed, and the examples.
+-- `link`: coder and decoder on lent memory, and what they are together.
+pub mod Memory
+pub mod Stream
+pub mod Start
+pub mod Answers
+pub mod Coder
+pub mod CoderAnswers
+pub mod Step
+pub mod Marks
+pub mod Decoder
+pub mod DecoderAnswers
 pub mod Streams
 pub mod Runs
 pub mod Recovery

@@ -28,15 +28,15 @@ use lib.Dec.{leb, ltb}
 use lib.ListN.{length, getD}
 use Rattle.span.specs.declared.eliminate.Least.{Least}
 use Rattle.span.specs.declared.eliminate.Least.the-variants.{Found, Missing}
-use Rattle.words.specs.Word.{_⊕_, bit}
+use Rattle.span.specs.Word.{_⊕_, bit}
 use Rattle.tables.specs.declared.table.Table.{Table}
 use Rattle.tables.specs.Table.{rowsOf, infoRows}
-use Rattle.decoder.specs.declared.decode.DecodeAnswer.the-variants.{Delivery, NothingYet}
-use Rattle.decoder.specs.Step.{information, parity, rawTerm, errorOf, markOf}
-use Rattle.memory.specs.Start.{started}
-use Rattle.memory.specs.Memory.{coderWords, turnOf, decoderWords}
-use Rattle.coder.specs.Coder.{pendingAt, coderFault, coderNext}
-use Rattle.decoder.specs.Decoder.{fillOf, delayOf, pendingOf, decoderFault, decoderNext, decoderJoining, decoderRegister, decoderFound}
+use Rattle.link.specs.declared.decode.DecodeAnswer.the-variants.{Delivery, NothingYet}
+use Rattle.link.specs.Step.{information, parity, rawTerm, errorOf, markOf}
+use Rattle.link.specs.Start.{started}
+use Rattle.link.specs.Memory.{coderWords, turnOf, decoderWords}
+use Rattle.link.specs.Coder.{pendingAt, coderFault, coderNext}
+use Rattle.link.specs.Decoder.{fillOf, delayOf, pendingOf, decoderFault, decoderNext, decoderJoining, decoderRegister, decoderFound}
 use Rattle.link.specs.Runs.{Call, Sent, Taken, run, sentBy, takenBy, sentAt, takenAt}
 use Rattle.link.specs.Recovery.{CoderTables, DecoderTables}
 

@@ -11,10 +11,10 @@ use mathlib.Core.List.{List}
 use Prim.Native.Nat.{ℕ, _*_, _≤_, _<_}
 use lib.ListN.{length}
 use Rattle.tables.specs.declared.table.Table.{Table}
-use Rattle.decoder.specs.declared.decode.Mark.the-variants.{Doubtful}
-use Rattle.decoder.specs.declared.decode.DecodeAnswer.the-variants.{Delivery}
-use Rattle.coder.specs.Coder.{CoderFormed}
-use Rattle.decoder.specs.Decoder.{delayOf, DecoderFormed}
+use Rattle.link.specs.declared.decode.Mark.the-variants.{Doubtful}
+use Rattle.link.specs.declared.decode.DecodeAnswer.the-variants.{Delivery}
+use Rattle.link.specs.Coder.{CoderFormed}
+use Rattle.link.specs.Decoder.{delayOf, DecoderFormed}
 use Rattle.link.specs.Runs.{Call, sentBy, takenBy, takenAt, coderAfter, decoderAfter}
 use Rattle.link.specs.Recovery.{Right, Wrong, Bursts, Fades, Recovered, CoderTables, DecoderTables, Running}
 

@@ -23,16 +23,16 @@ use mathlib.Core.List.{List, [], _∷_}
 use Prim.Native.Nat.{ℕ, _+_, _-_, _*_, _≤_, _<_}
 use lib.ListN.{length, take}
 use Rattle.tables.specs.declared.table.Table.{Table}
-use Rattle.reader.specs.declared.read.Reading.{Reading}
-use Rattle.reader.specs.declared.read.ReadAnswer.the-variants.{Accepted}
-use Rattle.maker.specs.declared.make.MakeAnswer.the-variants.{Made}
-use Rattle.reader.specs.Reading.{Read}
-use Rattle.maker.specs.Made.{making}
-use Rattle.decoder.specs.declared.decode.Mark.{Mark}
-use Rattle.decoder.specs.declared.decode.Mark.the-variants.{Doubtful}
-use Rattle.decoder.specs.declared.decode.DecodeAnswer.the-variants.{Delivery}
-use Rattle.coder.specs.Coder.{CoderFormed}
-use Rattle.decoder.specs.Decoder.{delayOf, DecoderFormed}
+use Rattle.tables.specs.declared.read.Reading.{Reading}
+use Rattle.tables.specs.declared.read.ReadAnswer.the-variants.{Accepted}
+use Rattle.tables.specs.declared.make.MakeAnswer.the-variants.{Made}
+use Rattle.tables.specs.Reading.{Read}
+use Rattle.tables.specs.Made.{making}
+use Rattle.link.specs.declared.decode.Mark.{Mark}
+use Rattle.link.specs.declared.decode.Mark.the-variants.{Doubtful}
+use Rattle.link.specs.declared.decode.DecodeAnswer.the-variants.{Delivery}
+use Rattle.link.specs.Coder.{CoderFormed}
+use Rattle.link.specs.Decoder.{delayOf, DecoderFormed}
 use Rattle.link.specs.Runs.{Call, Sent, Taken, sentBy, takenBy, sentAt, takenAt}
 
 pub record SameTable (u t : Table) : Type 0 where

@@ -5,9 +5,9 @@ use mathlib.Core.Path.{_≡_}
 use mathlib.Core.List.{List}
 use Prim.Native.Nat.{ℕ}
 use Rattle.tables.specs.declared.table.Table.{Table}
-use Rattle.memory.specs.Start.{startAnswer, startMemory}
-use Rattle.coder.specs.Coder.{codeAnswer, codeMemory}
-use Rattle.decoder.specs.Decoder.{decodeAnswer, decodeMemory}
+use Rattle.link.specs.Start.{startAnswer, startMemory}
+use Rattle.link.specs.Coder.{codeAnswer, codeMemory}
+use Rattle.link.specs.Decoder.{decodeAnswer, decodeMemory}
 use Rattle.link.specs.Recovery.{SameTable}
 
 abbrev pub UNUSED-ROWS : Type 0

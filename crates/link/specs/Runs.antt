@@ -19,11 +19,11 @@ use lib.Dec.{eqb}
 use lib.ListN.{getD}
 use Rattle.tables.specs.declared.table.Table.{Table}
 use Rattle.tables.specs.Table.{zeroTable}
-use Rattle.decoder.specs.declared.decode.DecodeAnswer.{DecodeAnswer}
-use Rattle.decoder.specs.declared.decode.DecodeAnswer.the-variants.{NothingYet, Refused as DecodeRefused}
-use Rattle.coder.specs.declared.code.CodeAnswer.the-variants.{Coded, Refused as CodeRefused}
-use Rattle.coder.specs.Coder.{coderFault, codedBlock, coderNext, codeAnswer, codeMemory}
-use Rattle.decoder.specs.Decoder.{decoderFault, delivery, decoderNext, decodeAnswer, decodeMemory}
+use Rattle.link.specs.declared.decode.DecodeAnswer.{DecodeAnswer}
+use Rattle.link.specs.declared.decode.DecodeAnswer.the-variants.{NothingYet, Refused as DecodeRefused}
+use Rattle.link.specs.declared.code.CodeAnswer.the-variants.{Coded, Refused as CodeRefused}
+use Rattle.link.specs.Coder.{coderFault, codedBlock, coderNext, codeAnswer, codeMemory}
+use Rattle.link.specs.Decoder.{decoderFault, delivery, decoderNext, decodeAnswer, decodeMemory}
 
 pub record Call : Type 0 where
   pub table : Table

@@ -17,12 +17,12 @@ use mathlib.Core.List.{List, [], _∷_, _++_}
 use Prim.Native.Nat.{ℕ, _+_, _-_, _*_, _≤_, _<_}
 use lib.ListN.{length, replicate}
 use Rattle.tables.specs.declared.table.Table.{Table}
-use Rattle.decoder.specs.declared.decode.Mark.the-variants.{Clean, Doubtful, Held}
-use Rattle.decoder.specs.declared.decode.DecodeAnswer.{DecodeAnswer}
-use Rattle.memory.specs.Start.{started}
-use Rattle.memory.specs.Memory.{coderWords}
-use Rattle.coder.specs.Coder.{CoderFormed}
-use Rattle.decoder.specs.Decoder.{delayOf, DecoderFormed}
+use Rattle.link.specs.declared.decode.Mark.the-variants.{Clean, Doubtful, Held}
+use Rattle.link.specs.declared.decode.DecodeAnswer.{DecodeAnswer}
+use Rattle.link.specs.Start.{started}
+use Rattle.link.specs.Memory.{coderWords}
+use Rattle.link.specs.Coder.{CoderFormed}
+use Rattle.link.specs.Decoder.{delayOf, DecoderFormed}
 use Rattle.link.specs.Runs.{Call, Sent, Taken, sentBy, takenBy}
 use Rattle.link.specs.Recovery.{Recovered}
 use Rattle.link.specs.Premises.{Guarded, BurstsOf}

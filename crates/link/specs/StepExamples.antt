@@ -12,10 +12,10 @@ use Prim.Native.Nat.{ℕ, _-_, _^_}
 use lib.ListN.{replicate}
 use Rattle.tables.specs.declared.table.Table.{Table}
 use Rattle.tables.specs.Table.{zeroTable}
-use Rattle.coder.specs.Coder.{codeAnswer, codeMemory}
-use Rattle.decoder.specs.Decoder.{decodeAnswer, decodeMemory}
-use Rattle.coder.specs.Answers.{codeNumbers}
-use Rattle.decoder.specs.Answers.{decodeNumbers}
+use Rattle.link.specs.Coder.{codeAnswer, codeMemory}
+use Rattle.link.specs.Decoder.{decodeAnswer, decodeMemory}
+use Rattle.link.specs.CoderAnswers.{codeNumbers}
+use Rattle.link.specs.DecoderAnswers.{decodeNumbers}
 use Rattle.link.specs.Computed.{code, Z}
 
 pub data Side : Type 0 where

@@ -9,9 +9,9 @@ use mathlib.Core.List.{List}
 use Prim.Native.Nat.{ℕ, _+_, _<_}
 use lib.ListN.{length, take, drop}
 use Rattle.tables.specs.declared.table.Table.{Table}
-use Rattle.memory.specs.Memory.{turnOf}
-use Rattle.coder.specs.Coder.{pendingAt, codeMemory}
-use Rattle.decoder.specs.Decoder.{streamAt, decodeMemory}
+use Rattle.link.specs.Memory.{turnOf}
+use Rattle.link.specs.Coder.{pendingAt, codeMemory}
+use Rattle.link.specs.Decoder.{streamAt, decodeMemory}
 
 -- "for each stream its pending word (from received information), its syndrome word, and N − 1 delayed information blocks"
 abbrev pub partOf : Table → List ℕ → ℕ → List ℕ

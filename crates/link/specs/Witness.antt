@@ -16,12 +16,12 @@ use Prim.Native.Nat.{ℕ, _≤_, _<_}
 use lib.ListN.{replicate}
 use Rattle.tables.specs.declared.table.Table.{Table}
 use Rattle.tables.specs.Table.{zeroTable}
-use Rattle.decoder.specs.declared.decode.Mark.the-variants.{Clean, Corrected, Doubtful, Held}
-use Rattle.decoder.specs.declared.decode.DecodeAnswer.the-variants.{NothingYet}
+use Rattle.link.specs.declared.decode.Mark.the-variants.{Clean, Corrected, Doubtful, Held}
+use Rattle.link.specs.declared.decode.DecodeAnswer.the-variants.{NothingYet}
 use Rattle.link.specs.Runs.{Call, sentBy, takenBy}
 use Rattle.link.specs.Recovery.{Fades, Recovered}
-use Rattle.coder.specs.Coder.{coderFault, codeMemory}
-use Rattle.decoder.specs.Decoder.{decoderFault, decodeMemory}
+use Rattle.link.specs.Coder.{coderFault, codeMemory}
+use Rattle.link.specs.Decoder.{decoderFault, decodeMemory}
 use Rattle.link.specs.Computed.{code, Z, calls, answersBy, sentBlocks, takenBlocks, answersOf, delivers, differing}
 
 -- that it is made is the first of the premises

@@ -1,1 +1,5 @@
-// What coder and decoder are together: theorems alone, on runs of their steps. The functions are those of `coder` and `decoder`.
+// The coder and the decoder on lent memory.
+pub mod code;
+pub mod decode;
+pub mod start;
+mod stream;

@@ -6,13 +6,13 @@ use Prim.Native.Nat.{ℕ, _+_, _≤_}
 use native.Mathlib.Omega.{arith}
 use borrow.Author.Tests.{le-leb}
 use lib.ListN.{length}
-use Rattle.decoder.specs.declared.decode.Delivered.{Delivered}
-use Rattle.decoder.specs.declared.decode.DecodeAnswer.{DecodeAnswer}
-use Rattle.decoder.specs.declared.decode.DecodeAnswer.the-variants.{Delivery, NothingYet, Refused}
-use Rattle.lines.specs.Text.{lineOf, refusedLine}
-use Rattle.lines.specs.Writing.{Wrote, longest, put, putEnd}
+use Rattle.link.specs.declared.decode.Delivered.{Delivered}
+use Rattle.link.specs.declared.decode.DecodeAnswer.{DecodeAnswer}
+use Rattle.link.specs.declared.decode.DecodeAnswer.the-variants.{Delivery, NothingYet, Refused}
+use Rattle.report.specs.Text.{lineOf, refusedLine}
+use Rattle.report.specs.Writing.{Wrote, longest, put, putEnd}
 use Rattle.report.specs.Listing.{Printed}
-use Rattle.lines.proofs.Written.{wrote-nothing}
+use Rattle.report.proofs.Written.{wrote-nothing}
 
 -- with room, what is put is written
 pub put-wrote : {out r : List ℕ} {at e : ℕ} (bs : List ℕ) → at + longest ≤ length out → e ≡ putEnd out at bs → r ≡ put out at bs → Wrote out at bs r e

@@ -5,10 +5,10 @@ use mathlib.Core.List.{List, [], _∷_, _++_, append-assoc}
 use Prim.Native.Nat.{ℕ, _+_}
 use native.Mathlib.Omega.{arith}
 use Rattle.tables.specs.declared.table.Table.{Table}
-use Rattle.decoder.specs.declared.decode.DecodeAnswer.{DecodeAnswer}
-use Rattle.decoder.specs.declared.decode.DecodeAnswer.the-variants.{Delivery, NothingYet, Refused}
-use Rattle.decoder.specs.Decoder.{decodeAnswer, decodeMemory}
-use Rattle.lines.specs.Text.{lineOf}
+use Rattle.link.specs.declared.decode.DecodeAnswer.{DecodeAnswer}
+use Rattle.link.specs.declared.decode.DecodeAnswer.the-variants.{Delivery, NothingYet, Refused}
+use Rattle.link.specs.Decoder.{decodeAnswer, decodeMemory}
+use Rattle.report.specs.Text.{lineOf}
 use Rattle.report.specs.Listing.{Listed, prefixed, blockOf, listedAfter, listed, continued, PARTS}
 
 -- what is printed before it does not change how a listing goes on

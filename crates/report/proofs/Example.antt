@@ -1,15 +1,15 @@
 -- 01's example of the listing program, computed. Assumes nothing.
 use mathlib.Core.Path.{refl}
 use mathlib.Core.Bool.{xor}
-use Rattle.words.specs.Word.{_⊕_, odd, bit}
+use Rattle.span.specs.Word.{_⊕_, odd, bit}
 use Rattle.span.specs.Combination.{combination}
 use Rattle.span.specs.Relation.{leastFrom, leastCoefficients}
 use Rattle.tables.specs.Table.{sizesFit, rowsFit, fit}
 use Rattle.tables.specs.Refusal.{firstOf}
-use Rattle.maker.specs.Made.{columns, upper, madeRow, madeRows, madeTable, making}
-use Rattle.memory.specs.Stream.{joining}
-use Rattle.decoder.specs.Decoder.{someAbove, decoderFault, decoderJoining, decoderRegister, decoderFound, partNext, decoderNext, delivered, delivery, decodeAnswer, decodeMemory}
-use Rattle.lines.specs.Text.{decimalWithin, decimalOf, lineOf, refusedLine}
+use Rattle.tables.specs.Made.{columns, upper, madeRow, madeRows, madeTable, making}
+use Rattle.link.specs.Stream.{joining}
+use Rattle.link.specs.Decoder.{someAbove, decoderFault, decoderJoining, decoderRegister, decoderFound, partNext, decoderNext, delivered, delivery, decodeAnswer, decodeMemory}
+use Rattle.report.specs.Text.{decimalWithin, decimalOf, lineOf, refusedLine}
 use Rattle.report.specs.Listing.{listed, listing, EXAMPLE}
 
 pub example : EXAMPLE

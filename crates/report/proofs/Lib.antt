@@ -1,4 +1,7 @@
--- Answers printed, listing in parts, the opening, the whole listing and the example. Lowest first.
+-- Digits and lines, then answers printed, listing in parts, the opening, the whole listing and the example. Lowest first.
+mod Digits
+mod Written
+mod Longest
 mod Answer
 mod Continued
 mod Loop

@@ -8,13 +8,13 @@ use native.Mathlib.Numerals.{add-one}
 use lib.ListN.{length, getD, drop, drop-of-length-le}
 use lib.Seq.{drop-cons}
 use Rattle.tables.specs.declared.table.Table.{Table}
-use Rattle.decoder.specs.declared.decode.DecodeAnswer.{DecodeAnswer}
-use Rattle.decoder.specs.Decoder.{decodeAnswer, decodeMemory}
-use Rattle.decoder.specs.declared.decode.DecodeAnswer.the-variants.{Delivery, NothingYet, Refused}
-use Rattle.lines.specs.Text.{oddLine}
-use Rattle.lines.specs.Writing.{Wrote, longest}
+use Rattle.link.specs.declared.decode.DecodeAnswer.{DecodeAnswer}
+use Rattle.link.specs.Decoder.{decodeAnswer, decodeMemory}
+use Rattle.link.specs.declared.decode.DecodeAnswer.the-variants.{Delivery, NothingYet, Refused}
+use Rattle.report.specs.Text.{oddLine}
+use Rattle.report.specs.Writing.{Wrote, longest}
 use Rattle.report.specs.Listing.{Listed, prefixed, blockOf, answerText, answerNumber, answerStops, Printed, listedAfter, listed, Lists}
-use Rattle.lines.proofs.Written.{wrote-nothing, wrote-then}
+use Rattle.report.proofs.Written.{wrote-nothing, wrote-then}
 
 -- block i of some bytes
 abbrev pub blockAt : List ℕ → ℕ → ℕ

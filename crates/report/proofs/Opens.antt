@@ -8,18 +8,18 @@ use borrow.Author.Tests.{leb-true}
 use lib.Dec.{leb}
 use lib.ListN.{length, getD}
 use Rattle.tables.specs.declared.table.Table.{Table}
-use Rattle.maker.specs.declared.make.MakeAnswer.{MakeAnswer}
-use Rattle.maker.specs.declared.make.MakeAnswer.the-variants.{Made, OutOfRange}
+use Rattle.tables.specs.declared.make.MakeAnswer.{MakeAnswer}
+use Rattle.tables.specs.declared.make.MakeAnswer.the-variants.{Made, OutOfRange}
 use Rattle.tables.specs.Table.{zeroTable, fit}
-use Rattle.maker.specs.Made.{making}
+use Rattle.tables.specs.Made.{making}
 use Rattle.tables.proofs.Bounds.{fit-facts}
-use Rattle.maker.proofs.Laws.{made}
-use Rattle.memory.specs.Memory.{decoderWords}
+use Rattle.tables.proofs.Made.{made}
+use Rattle.link.specs.Memory.{decoderWords}
 use Rattle.report.specs.declared.opening.Opened.{Opened}
-use Rattle.lines.specs.Text.{headerLine, refusedLine}
-use Rattle.lines.specs.Writing.{Wrote, longest, put, putEnd}
+use Rattle.report.specs.Text.{headerLine, refusedLine}
+use Rattle.report.specs.Writing.{Wrote, longest, put, putEnd}
 use Rattle.report.specs.Opening.{openedMade, headed, opened, memoryWords, startedIn, openingRoom, openedWithin, Opens}
-use Rattle.lines.proofs.Written.{wrote-nothing, wrote-then}
+use Rattle.report.proofs.Written.{wrote-nothing, wrote-then}
 use Rattle.report.proofs.Room.{both}
 use Rattle.report.proofs.Answer.{put-wrote}
 

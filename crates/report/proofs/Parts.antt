@@ -7,10 +7,10 @@ use Prim.Native.Nat.{ℕ, _%_, _<_}
 use native.Mathlib.Omega.{arith}
 use lib.ListN.{length}
 use Rattle.tables.specs.declared.table.Table.{Table}
-use Rattle.maker.specs.declared.make.MakeAnswer.{MakeAnswer}
-use Rattle.maker.specs.declared.make.MakeAnswer.the-variants.{Made, OutOfRange}
-use Rattle.maker.specs.Made.{making}
-use Rattle.lines.specs.Text.{headerLine, refusedLine}
+use Rattle.tables.specs.declared.make.MakeAnswer.{MakeAnswer}
+use Rattle.tables.specs.declared.make.MakeAnswer.the-variants.{Made, OutOfRange}
+use Rattle.tables.specs.Made.{making}
+use Rattle.report.specs.Text.{headerLine, refusedLine}
 use Rattle.report.specs.Listing.{Listed, prefixed, madeListing, listed, listing, continued}
 use Rattle.report.specs.Opening.{openedMade, headed, opened, joined, wholeBlocks, partsListed, nothingListed, afterOpening, LISTING, openingRoom, PROGRAM-ROOM}
 use Rattle.report.proofs.Room.{part-room, listed-there}

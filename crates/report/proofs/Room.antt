@@ -8,9 +8,9 @@ use borrow.Author.Tests.{le-leb, lt-leb, leb-true, leb-false}
 use lib.Dec.{leb}
 use lib.ListN.{length}
 use Rattle.tables.specs.declared.table.Table.{Table}
-use Rattle.lines.specs.Writing.{longest}
+use Rattle.report.specs.Writing.{longest}
 use Rattle.report.specs.Listing.{partRoom, partListed, listed, Lists}
-use Rattle.lines.proofs.Written.{wrote-nothing}
+use Rattle.report.proofs.Written.{wrote-nothing}
 
 pub room-divided : (n room : ℕ) → leb n (room / 43) ≡ leb (longest * n) room
 room-divided n room = go (leb n (room / 43)) refl

@@ -1,3 +1,5 @@
--- `report`: what the listing program prints of an input, and of its opening and its parts.
+-- `report`: the lines of the listing program, and what it prints of an input, of its opening and its parts.
+pub mod Text
+pub mod Writing
 pub mod Listing
 pub mod Opening

@@ -23,16 +23,16 @@ use Prim.Native.Nat.{ℕ, _+_, _*_, _/_, _%_, _^_, _≤_}
 use lib.Dec.{leb}
 use lib.ListN.{length, getD}
 use Rattle.tables.specs.declared.table.Table.{Table}
-use Rattle.maker.specs.declared.make.MakeAnswer.{MakeAnswer}
-use Rattle.maker.specs.declared.make.MakeAnswer.the-variants.{Made, OutOfRange}
-use Rattle.maker.specs.Made.{making, madeNumbers}
-use Rattle.decoder.specs.declared.decode.DecodeAnswer.{DecodeAnswer}
-use Rattle.decoder.specs.declared.decode.DecodeAnswer.the-variants.{Delivery, NothingYet, Refused}
-use Rattle.memory.specs.Start.{started}
-use Rattle.memory.specs.Memory.{decoderWords}
-use Rattle.decoder.specs.Decoder.{decodeAnswer, decodeMemory}
-use Rattle.lines.specs.Text.{headerLine, lineOf, refusedLine, oddLine}
-use Rattle.lines.specs.Writing.{Wrote, longest}
+use Rattle.tables.specs.declared.make.MakeAnswer.{MakeAnswer}
+use Rattle.tables.specs.declared.make.MakeAnswer.the-variants.{Made, OutOfRange}
+use Rattle.tables.specs.Made.{making, madeNumbers}
+use Rattle.link.specs.declared.decode.DecodeAnswer.{DecodeAnswer}
+use Rattle.link.specs.declared.decode.DecodeAnswer.the-variants.{Delivery, NothingYet, Refused}
+use Rattle.link.specs.Start.{started}
+use Rattle.link.specs.Memory.{decoderWords}
+use Rattle.link.specs.Decoder.{decodeAnswer, decodeMemory}
+use Rattle.report.specs.Text.{headerLine, lineOf, refusedLine, oddLine}
+use Rattle.report.specs.Writing.{Wrote, longest}
 
 pub record Listed : Type 0 where
   pub text : List ℕ

@@ -26,15 +26,15 @@ use Prim.Native.Nat.{ℕ, _+_, _*_, _%_, _^_, _≤_, _<_}
 use lib.Dec.{leb}
 use lib.ListN.{length, getD, drop}
 use Rattle.tables.specs.declared.table.Table.{Table}
-use Rattle.maker.specs.declared.make.MakeAnswer.{MakeAnswer}
-use Rattle.maker.specs.declared.make.MakeAnswer.the-variants.{Made, OutOfRange}
+use Rattle.tables.specs.declared.make.MakeAnswer.{MakeAnswer}
+use Rattle.tables.specs.declared.make.MakeAnswer.the-variants.{Made, OutOfRange}
 use Rattle.tables.specs.Table.{zeroTable}
-use Rattle.maker.specs.Made.{making, madeNumbers}
-use Rattle.memory.specs.Start.{started}
-use Rattle.memory.specs.Memory.{decoderWords}
+use Rattle.tables.specs.Made.{making, madeNumbers}
+use Rattle.link.specs.Start.{started}
+use Rattle.link.specs.Memory.{decoderWords}
 use Rattle.report.specs.declared.opening.Opened.{Opened}
-use Rattle.lines.specs.Text.{headerLine, refusedLine}
-use Rattle.lines.specs.Writing.{Wrote, longest}
+use Rattle.report.specs.Text.{headerLine, refusedLine}
+use Rattle.report.specs.Writing.{Wrote, longest}
 use Rattle.report.specs.Listing.{Listed, listed, continued, listing, partListed}
 
 pub record Opening : Type 0 where

@@ -1,9 +1,9 @@
 // The opening of the listing program: the header, the made table of its first two bytes, and the decoder started.
-use lines::text::header;
-use lines::text::refusal;
-use maker::make::MakeAnswer;
-use maker::make::make;
-use memory::start::start_decoder;
+use crate::text::header;
+use crate::text::refusal;
+use link::start::start_decoder;
+use tables::make::MakeAnswer;
+use tables::make::make;
 use tables::table::Table;
 use tables::table::zero_table;
 ghost use mathlib.Core.Path.{_≡_};
@@ -11,9 +11,9 @@ ghost use mathlib.Core.Bool.{true, false};
 ghost use Prim.Native.Nat.{_+_, _≤_};
 ghost use lib.ListN.{length};
 ghost use Rattle.tables.specs.Table.{zeroTable, fit};
-ghost use Rattle.maker.specs.Made.{making};
-ghost use Rattle.memory.specs.Memory.{decoderWords};
-ghost use Rattle.lines.specs.Writing.{longest};
+ghost use Rattle.tables.specs.Made.{making};
+ghost use Rattle.link.specs.Memory.{decoderWords};
+ghost use Rattle.report.specs.Writing.{longest};
 ghost use Rattle.report.specs.Opening.{openingRoom, memoryWords, startedIn, openedMade, openedWithin, Opens};
 
 // The table, the words of its decoder, the count of bytes written, the number of the next delivery, and whether the program stopped.

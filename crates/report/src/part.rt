@@ -1,14 +1,14 @@
 // The loop of the listing program: received blocks are decoded, and their lines written.
-use decoder::decode::DecodeAnswer;
-use decoder::decode::decode;
-use lines::text::line;
-use lines::text::odd_byte;
-use lines::text::refusal;
+use crate::text::line;
+use crate::text::odd_byte;
+use crate::text::refusal;
+use link::decode::DecodeAnswer;
+use link::decode::decode;
 use tables::table::Table;
 ghost use mathlib.Core.Path.{_≡_};
 ghost use Prim.Native.Nat.{_+_, _*_, _/_, _≤_, _<_, _^_};
 ghost use lib.ListN.{length, getD};
-ghost use Rattle.lines.specs.Writing.{longest};
+ghost use Rattle.report.specs.Writing.{longest};
 ghost use Rattle.report.specs.Listing.{blockOf, Printed, listed, partRoom, partListed, Lists};
 
 // How far a listing came: the count of bytes written, the number of the next delivery, and whether it stopped.

@@ -17,12 +17,13 @@ use lib.Seq.{getD-set-same, getD-set-other, getD-append-seam, append-snoc, take-
 use Rattle.span.specs.declared.eliminate.Least.the-variants.{Found, Missing}
 use Rattle.span.specs.declared.eliminate.Basis.{Basis}
 use Rattle.span.specs.declared.eliminate.Reduced.{Reduced}
-use Rattle.words.specs.Word.{_⊕_, commonParity}
+use Rattle.span.specs.Word.{_⊕_, commonParity}
 use Rattle.span.specs.Combination.{combination, Below}
 use Rattle.span.specs.Relation.{leastRelation, leastCoefficients, IsLeast}
 use Rattle.span.specs.Basis.{basis, reducedBy, reducedTo, reduction, answer}
 use Rattle.span.specs.Elimination.{lowestOne, emptyBasis, grown, pickBasis, joined, extended, basisOf}
-use Rattle.words.proofs.Laws.{xor-twice, xor-lt, parity-pow, trailing-bit}
+use Rattle.span.specs.Laws.{REDUCES}
+use Rattle.span.proofs.Word.{xor-twice, xor-lt, parity-pow, trailing-bit}
 use Rattle.span.proofs.Combination.{combination-lt, below-left}
 use Rattle.span.proofs.Relation.{least-unique, least-coefficients, relation-found, relation-none}
 use Rattle.span.proofs.Elimination.{Reduces, start, pass, join, least-by}
@@ -139,9 +140,9 @@ pub built : (ws : List ℕ) → length ws ≤ 32 → Below 64 ws → Built ws (b
 unfolding basisOf
 built ws = built-from [] ws emptyBasis built-none
 
-pub basis-least : (ws : List ℕ) → length ws ≤ 32 → Below 64 ws → (x : ℕ) → answer (reduction (basisOf ws) x) ≡ leastCoefficients ws x
+pub reduces : REDUCES
 unfolding answer
-basis-least ws room bound x =
+reduces ws room bound x =
     least-unique (λ (c : ℕ). combination ws c ≡ x) 0 (2 ^ length ws) (answer (reduction (basisOf ws) x)) (leastCoefficients ws x)
     (least-by ws (λ y. reduction (basisOf ws) y .rest) (λ y. reduction (basisOf ws) y .coefficients) (built ws room bound .reduces) x)
     (least-coefficients ws x)
@@ -193,7 +194,7 @@ module _ (ws : List ℕ) (room : length ws ≤ 32) (bound : Below 64 ws) (i : �
 
   turn-answer : answer (reduction b (getD ws i 0)) ≡ leastCoefficients (take i ws) (getD ws i 0)
   turn-answer =
-      rw so-far (basis-least (take i ws) (rw size-taken (omega arith)) (below-take 64 i ws bound) (getD ws i 0))
+      rw so-far (reduces (take i ws) (rw size-taken (omega arith)) (below-take 64 i ws bound) (getD ws i 0))
 
   module _ (f : ℕ) (none : IsLeast (λ (c : ℕ). combination ws c ≡ 0) (2 ^ f) (2 ^ i) Missing) where
     pub turn-found : f ≤ i → reduction b (getD ws i 0) .rest ≡ 0

@@ -9,16 +9,17 @@ use native.Mathlib.Omega.{arith}
 use lib.Pow.{pow-pos, shr-shr, mod-mod-pow, field}
 use lib.ListN.{length, getD, take, drop, length-append, length-take, take-append-drop, List·getD-append}
 use lib.Seq.{getD-append-seam, getD-take, length-take-le, take-all, take-take}
-use Rattle.words.specs.Word.{_⊕_, odd, bit, sel}
+use Rattle.span.specs.Word.{_⊕_, odd, bit, sel}
 use Rattle.span.specs.Combination.{combination, Below, counted}
-use Rattle.words.proofs.Laws.{xor-zero-l, xor-zero-r, xor-assoc, xor-swap, xor-lt, xor-half, odd-of, odd-mod, odd-xor, sel-xor, sel-lt, bit-none, xor-comm, pow-add-xor}
+use Rattle.span.specs.Laws.{COMBINATION-LINEAR}
+use Rattle.span.proofs.Word.{xor-zero-l, xor-zero-r, xor-assoc, xor-swap, xor-lt, xor-half, odd-of, odd-mod, odd-xor, sel-xor, sel-lt, bit-none, xor-comm, pow-add-xor}
 
 pub combination-zero : (ws : List ℕ) → combination ws 0 ≡ 0
 unfolding combination odd
 combination-zero [] = refl
 combination-zero (w ∷ ws) = xor-zero-l (combination ws 0) ∙ combination-zero ws
 
-pub combination-xor : (ws : List ℕ) (c d : ℕ) → combination ws (c ⊕ d) ≡ combination ws c ⊕ combination ws d
+pub combination-xor : COMBINATION-LINEAR
 unfolding combination
 combination-xor [] c d = sym (xor-zero-l 0)
 combination-xor (w ∷ ws) c d =

@@ -14,10 +14,11 @@ use lib.ListN.{length}
 use lib.Pow.{pow-lt}
 use Rattle.span.specs.declared.eliminate.Least.{Least}
 use Rattle.span.specs.declared.eliminate.Least.the-variants.{Found, Missing}
-use Rattle.words.specs.Word.{_⊕_}
+use Rattle.span.specs.Word.{_⊕_}
 use Rattle.span.specs.Combination.{combination, Member, Independent, Below}
+use Rattle.span.specs.Laws.{DIMENSION, SPANNING}
 use Rattle.span.specs.Relation.{leastCoefficients, IsLeast}
-use Rattle.words.proofs.Laws.{xor-eq, xor-self, xor-lt}
+use Rattle.span.proofs.Word.{xor-eq, xor-self, xor-lt}
 use Rattle.span.proofs.Combination.{combination-xor, combination-lt}
 use Rattle.span.proofs.Relation.{least-coefficients}
 
@@ -86,8 +87,8 @@ module _ (N : ℕ) (ws : List ℕ) (bound : Below N ws) (independent : Independe
       xor-eq c d (independent (c ⊕ d) (xor-lt (length ws) c d hc hd)
       (combination-xor ws c d ∙ ap (λ (x : ℕ). combination ws c ⊕ x) (sym e) ∙ xor-self (combination ws c)))
 
-  pub dimension : length ws ≤ N
-  dimension = go (decLe (length ws) N)
+  within : length ws ≤ N
+  within = go (decLe (length ws) N)
     where
       go : Dec (length ws ≤ N) → length ws ≤ N
       go (yes h) = h
@@ -96,10 +97,16 @@ module _ (N : ℕ) (ws : List ℕ) (bound : Below N ws) (independent : Independe
           let q = pigeonhole (2 ^ N) (2 ^ length ws) (combination ws) into different in
           absurd (omega arith)
 
-  pub spanning : length ws ≡ N → (y : ℕ) → y < 2 ^ N → Member ws y
-  spanning e y h = go (leastCoefficients ws y) (least-coefficients ws y)
+  all-spanned : length ws ≡ N → (y : ℕ) → y < 2 ^ N → Member ws y
+  all-spanned e y h = go (leastCoefficients ws y) (least-coefficients ws y)
     where
       go : (r : Least) → IsLeast (λ (c : ℕ). combination ws c ≡ y) 0 (2 ^ length ws) r → Member ws y
       go (Found c) l = (c, l .1, l .2)
       go Missing l =
           absurd (onto (2 ^ length ws) (combination ws) (rw (← e) at into) different y (rw e h) (λ x u p. l x zero-le u p))
+
+pub dimension : DIMENSION
+dimension = within
+
+pub spanning : SPANNING
+spanning = all-spanned

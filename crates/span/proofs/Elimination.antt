@@ -18,11 +18,11 @@ use lib.ListN.{length, length-append}
 use lib.Seq.{getD-append-seam}
 use lib.Pow.{pow-pos, pow-mono, pow-lt}
 use Rattle.span.specs.declared.eliminate.Least.the-variants.{Found, Missing}
-use Rattle.words.specs.Word.{_⊕_, bit, sel, commonParity}
+use Rattle.span.specs.Word.{_⊕_, bit, sel, commonParity}
 use Rattle.span.specs.Combination.{combination}
 use Rattle.span.specs.Relation.{IsLeast}
 use Rattle.span.specs.Basis.{pickLeast}
-use Rattle.words.proofs.Laws.{xor-zero-l, xor-zero-r, xor-self, xor-assoc, xor-comm, xor-swap, xor-eq, xor-lt, sel-xor, sel-lt, bit-xor, bit-none, bit-pow-other, xor-false-l, parity-xor, parity-zero-l, xor-less}
+use Rattle.span.proofs.Word.{xor-zero-l, xor-zero-r, xor-self, xor-assoc, xor-comm, xor-swap, xor-eq, xor-lt, sel-xor, sel-lt, bit-xor, bit-none, bit-pow-other, xor-false-l, parity-xor, parity-zero-l, xor-less}
 use Rattle.span.proofs.Combination.{combination-zero, combination-xor, combination-last, combination-below, combination-pow}
 use Rattle.span.proofs.Relation.{lowered}
 

@@ -1,7 +1,8 @@
--- `Laws` is what a crate above sees; the files below it are the crate's own.
-mod Combination
-mod Relation
+-- The laws of the crate, the lowest file first; a crate above sees those that are public.
+pub mod Word
+pub mod Masks
+pub mod Combination
+pub mod Relation
 mod Elimination
-mod Basis
-mod Dimension
-pub mod Laws
+pub mod Basis
+pub mod Dimension

@@ -16,10 +16,11 @@ use lib.Pow.{pow-mono}
 use lib.Seq.{take-suc, length-take-le}
 use Rattle.span.specs.declared.eliminate.Least.{Least}
 use Rattle.span.specs.declared.eliminate.Least.the-variants.{Found, Missing}
-use Rattle.words.specs.Word.{_⊕_}
+use Rattle.span.specs.Word.{_⊕_}
 use Rattle.span.specs.Combination.{combination, Member, Relation, Independent}
 use Rattle.span.specs.Relation.{leastFrom, leastRelation, leastCoefficients, raised, IsLeast}
-use Rattle.words.proofs.Laws.{xor-comm, xor-eq, xor-self, pow-add-xor}
+use Rattle.span.specs.Laws.{LEAST-RELATION, LEAST-COEFFICIENTS, LEAST-UNIQUE, LEAST-RAISED, MEMBERSHIP, INDEPENDENCE}
+use Rattle.span.proofs.Word.{xor-comm, xor-eq, xor-self, pow-add-xor}
 use Rattle.span.proofs.Combination.{combination-above, combination-take}
 
 above : (P : ℕ → Type 0) (a d : ℕ) → (P a → ⊥) → a ≤ d → P d → suc a ≤ d
@@ -42,26 +43,25 @@ module _ (p : ℕ → Bool) (P : ℕ → Type 0) (sound : (c : ℕ) → p c ≡ 
   least-from zero a b e = λ d l u q. omega arith
   least-from (suc n) a b e = least-here n a b (omega arith) (p a) refl (least-from n (suc a) b (omega arith))
 
-module _ (ws : List ℕ) where
-  pub least-relation : (f : ℕ) → IsLeast (λ (c : ℕ). combination ws c ≡ 0) (2 ^ f) (2 ^ length ws) (leastRelation ws f)
-  unfolding leastRelation
-  least-relation f =
-      least-from (λ c. eqb (combination ws c) 0) (λ (c : ℕ). combination ws c ≡ 0) (λ c. eqb-true (combination ws c) 0)
-      (λ c. eq-eqb (combination ws c) 0) (2 ^ length ws - 2 ^ f) (2 ^ f) (2 ^ length ws) refl
+pub least-relation : LEAST-RELATION
+unfolding leastRelation
+least-relation ws f =
+    least-from (λ c. eqb (combination ws c) 0) (λ (c : ℕ). combination ws c ≡ 0) (λ c. eqb-true (combination ws c) 0)
+    (λ c. eq-eqb (combination ws c) 0) (2 ^ length ws - 2 ^ f) (2 ^ f) (2 ^ length ws) refl
 
-  pub least-coefficients : (x : ℕ) → IsLeast (λ (c : ℕ). combination ws c ≡ x) 0 (2 ^ length ws) (leastCoefficients ws x)
-  unfolding leastCoefficients
-  least-coefficients x =
-      least-from (λ c. eqb (combination ws c) x) (λ (c : ℕ). combination ws c ≡ x) (λ c. eqb-true (combination ws c) x)
-      (λ c. eq-eqb (combination ws c) x) (2 ^ length ws) 0 (2 ^ length ws) (omega arith)
+pub least-coefficients : LEAST-COEFFICIENTS
+unfolding leastCoefficients
+least-coefficients ws x =
+    least-from (λ c. eqb (combination ws c) x) (λ (c : ℕ). combination ws c ≡ x) (λ c. eqb-true (combination ws c) x)
+    (λ c. eq-eqb (combination ws c) x) (2 ^ length ws) 0 (2 ^ length ws) (omega arith)
 
-pub least-unique : (P : ℕ → Type 0) (a b : ℕ) (r s : Least) → IsLeast P a b r → IsLeast P a b s → r ≡ s
+pub least-unique : LEAST-UNIQUE
 least-unique P a b (Found c) (Found d) h k = ap Found (le-antisymm (h .3 d (k .0) (k .1) (k .2)) (k .3 c (h .0) (h .1) (h .2)))
 least-unique P a b (Found c) Missing h k = absurd (k c (h .0) (h .1) (h .2))
 least-unique P a b Missing (Found d) h k = absurd (h d (k .0) (k .1) (k .2))
 least-unique P a b Missing Missing h k = refl
 
-pub membership : (ws : List ℕ) (x : ℕ) → Member ws x ↔ (leastCoefficients ws x ≡ Missing → ⊥)
+pub membership : MEMBERSHIP
 membership ws x = (λ m e. refuted m (subst Least-of e (least-coefficients ws x)), λ ne. go (leastCoefficients ws x) refl (least-coefficients ws x) ne)
   where
     Least-of : Least → Type 0
@@ -74,7 +74,7 @@ membership ws x = (λ m e. refuted m (subst Least-of e (least-coefficients ws x)
     go (Found c) e l ne = (c, l .1, l .2)
     go Missing e l ne = absurd (ne e)
 
-pub independence : (ws : List ℕ) → Independent ws ↔ (leastRelation ws 0 ≡ Missing)
+pub independence : INDEPENDENCE
 independence ws = (
   λ free. least-unique (Relation ws) 1 (2 ^ length ws) (leastRelation ws 0) Missing (least-relation ws 0)
       (λ d l u e. let z = free d u e in omega arith),
@@ -111,11 +111,14 @@ module _ (ws : List ℕ) (x : ℕ) where
   )
   raised-least Missing h = λ d l u e. let t = lowered d l u e in h (d - 2 ^ length ws) zero-le (t .0) (t .1)
 
-  pub least-raised : leastRelation (ws ++ (x ∷ [])) (length ws) ≡ raised (length ws) (leastCoefficients ws x)
-  least-raised =
+  raised-is : leastRelation (ws ++ (x ∷ [])) (length ws) ≡ raised (length ws) (leastCoefficients ws x)
+  raised-is =
       least-unique (λ (c : ℕ). combination (ws ++ (x ∷ [])) c ≡ 0) (2 ^ length ws) (2 ^ length (ws ++ (x ∷ [])))
       (leastRelation (ws ++ (x ∷ [])) (length ws)) (raised (length ws) (leastCoefficients ws x))
       (least-relation (ws ++ (x ∷ [])) (length ws)) (raised-least (leastCoefficients ws x) (least-coefficients ws x))
+
+pub least-raised : LEAST-RAISED
+least-raised = raised-is
 
 -- ---- the search word by word
 

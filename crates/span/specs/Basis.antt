@@ -15,7 +15,7 @@ use Rattle.span.specs.declared.eliminate.Basis.{Basis}
 use Rattle.span.specs.declared.eliminate.Reduced.{Reduced}
 use Rattle.span.specs.declared.eliminate.Least.{Least}
 use Rattle.span.specs.declared.eliminate.Least.the-variants.{Found, Missing}
-use Rattle.words.specs.Word.{_⊕_, sel, commonParity}
+use Rattle.span.specs.Word.{_⊕_, sel, commonParity}
 
 abbrev pub basis : ℕ → List ℕ → List ℕ → List ℕ → Basis
 basis n vs hs qs = record { size = n; vectors = vs; checks = hs; coefficients = qs }

@@ -10,7 +10,7 @@ use mathlib.Core.Path.{_≡_}
 use mathlib.Core.List.{List, [], _∷_}
 use Prim.Native.Nat.{ℕ, _/_, _^_, _<_}
 use lib.ListN.{length, getD, take}
-use Rattle.words.specs.Word.{_⊕_, odd, sel}
+use Rattle.span.specs.Word.{_⊕_, odd, sel}
 
 -- 000, eq. 6, and 01, The code: "the image of e is the exclusive or of the rows of its ones". Bits of c past the last word select nothing.
 unfoldable pub combination : List ℕ → ℕ → ℕ

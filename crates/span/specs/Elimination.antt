@@ -16,7 +16,7 @@ use lib.Dec.{eqb}
 use lib.ListN.{set, replicate}
 use Rattle.span.specs.declared.eliminate.Basis.{Basis}
 use Rattle.span.specs.declared.eliminate.Reduced.{Reduced}
-use Rattle.words.specs.Word.{_⊕_}
+use Rattle.span.specs.Word.{_⊕_}
 use Rattle.span.specs.Basis.{basis, reduction}
 
 unfoldable pub lowestOne : ℕ → ℕ

@@ -1,5 +1,8 @@
--- What the crate proves of its definitions: the theorems that a reader checks against the papers. `proofs/Laws` has a proof of each.
+-- What the crate proves of its definitions: the theorems that a reader checks against the papers. The file of `proofs/` that is named for the
+-- definitions has the proof.
 --
+--   COMMON-ONES          the exclusive or over the places is the parity of the count of common ones
+--   SHIFTED-LINEAR       shifting is linear
 --   COMBINATION-LINEAR   combination is linear in the coefficients
 --   LEAST-RELATION       what the search for a relation finds is one, and no smaller one is; where it finds none, there is none
 --   LEAST-COEFFICIENTS   the same of the coefficients of a target
@@ -14,14 +17,23 @@ use mathlib.Core.Path.{_≡_}
 use mathlib.Core.Logic.{_↔_}
 use mathlib.Core.List.{List, [], _∷_, _++_}
 use Prim.Native.Nat.{ℕ, _^_, _≤_, _<_}
+use lib.Bits.{bitAnd}
+use lib.Count.{ones}
 use lib.ListN.{length}
 use Rattle.span.specs.declared.eliminate.Least.{Least}
 use Rattle.span.specs.declared.eliminate.Least.the-variants.{Missing}
-use Rattle.words.specs.Word.{_⊕_}
+use Rattle.span.specs.Word.{_⊕_, odd, commonParity, shifted}
 use Rattle.span.specs.Combination.{combination, Member, Relation, Independent, Below}
 use Rattle.span.specs.Relation.{leastRelation, leastCoefficients, raised, IsLeast}
 use Rattle.span.specs.Basis.{reduction, answer}
 use Rattle.span.specs.Elimination.{basisOf}
+
+-- 01, The code: "A sum of this kind is odd exactly if the count of common ones is odd."
+abbrev pub COMMON-ONES : Type 0
+COMMON-ONES = (k a b : ℕ) → a < 2 ^ k → commonParity k a b ≡ odd (ones (bitAnd a b))
+
+abbrev pub SHIFTED-LINEAR : Type 0
+SHIFTED-LINEAR = (N l a b : ℕ) → shifted N l (a ⊕ b) ≡ shifted N l a ⊕ shifted N l b
 
 abbrev pub COMBINATION-LINEAR : Type 0
 COMBINATION-LINEAR = (ws : List ℕ) (c d : ℕ) → combination ws (c ⊕ d) ≡ combination ws c ⊕ combination ws d

@@ -1,4 +1,5 @@
--- `span`: combinations of words, and the least relation among them.
+-- `span`: words over GF(2), their combinations, and the least relation among them.
+pub mod Word
 pub mod Combination
 pub mod Relation
 pub mod Basis

@@ -1,6 +1,6 @@
 // Combinations of words by a coefficient number.
-use words::bits::select;
-use words::bound::at_most;
+use crate::bits::select;
+use crate::bound::min;
 ghost use mathlib.Core.Path.{_≡_};
 ghost use lib.ListN.{take};
 ghost use Rattle.span.specs.Combination.{combination};
@@ -9,7 +9,7 @@ ghost use Rattle.span.specs.Combination.{combination};
 pub fn combination(words: &[u64], count: usize, coefficients: u64) -> u64
     ensures { λ r. ⌜ r ≡ combination (take count (now (words .entry))) coefficients ⌝ }
 {
-    let end = at_most(count, words.len());
+    let end = min(count, words.len());
     let mut sum: u64 = 0;
     let mut left = coefficients;
     let mut i = 0;

@@ -1,7 +1,7 @@
 // Elimination over GF(2): a basis by value, and the least relation among words.
-use words::bits::common_parity;
-use words::bits::select;
-use words::bound::at_most;
+use crate::bits::common_parity;
+use crate::bits::select;
+use crate::bound::min;
 ghost use mathlib.Core.Path.{_≡_};
 ghost use Prim.Native.Nat.{_<_, _≤_, _^_};
 ghost use lib.ListN.{length, take};
@@ -48,7 +48,7 @@ pub fn reduce_by<'a>(
 ) -> Reduced
     ensures { λ r. ⌜ r ≡ reduction (basis size (now (vectors .entry)) (now (checks .entry)) (now (coefficients .entry))) x ⌝ }
 {
-    let end = at_most(size, 32);
+    let end = min(size, 32);
     let mut rest = x;
     let mut taken: u64 = 0;
     let mut i = 0;
@@ -62,13 +62,6 @@ pub fn reduce_by<'a>(
         rest,
         coefficients: taken,
     }
-}
-
-// The same of a basis by value, malformed ones included.
-pub fn reduce(b: Basis, x: u64) -> Reduced
-    ensures { λ r. ⌜ r ≡ reduction b x ⌝ }
-{
-    reduce_by(b.size, &b.vectors, &b.checks, &b.coefficients, x)
 }
 
 fn one_at(place: usize) -> u64
@@ -129,7 +122,7 @@ fn eliminate(words: &[u64], end: usize, f: usize) -> Eliminated
 pub fn basis_of(words: &[u64], count: usize) -> Basis
     ensures { λ r. ⌜ r ≡ basisOf (counted count (now (words .entry))) ⌝ }
 {
-    let end = at_most(at_most(count, words.len()), 32);
+    let end = min(min(count, words.len()), 32);
     eliminate(words, end, end).basis
 }
 
@@ -137,5 +130,5 @@ pub fn basis_of(words: &[u64], count: usize) -> Basis
 pub fn least_relation(words: &[u64], count: usize, f: usize) -> Least
     ensures { λ r. ⌜ r ≡ leastRelation (counted count (now (words .entry))) f ⌝ }
 {
-    eliminate(words, at_most(at_most(count, words.len()), 32), f).found
+    eliminate(words, min(min(count, words.len()), 32), f).found
 }

@@ -1,3 +1,5 @@
-// Combinations of words over GF(2), and the least relation among them.
+// Words over GF(2), their combinations, and the least relation among them.
+pub mod bits;
+pub mod bound;
 pub mod combine;
 pub mod eliminate;

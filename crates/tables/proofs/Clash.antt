@@ -11,11 +11,12 @@ use lib.ListN.{length, take, length-append, length-map}
 use lib.Seq.{take-all}
 use lib.Pow.{pow-pos, pow-add, shr-lt, split, high, low}
 use Rattle.span.specs.declared.eliminate.Least.the-variants.{Found, Missing}
-use Rattle.words.specs.Word.{_⊕_, shifted}
+use Rattle.span.specs.Word.{_⊕_, shifted}
 use Rattle.span.specs.Combination.{combination, Relation, counted}
 use Rattle.span.specs.Relation.{leastRelation, IsLeast}
-use Rattle.words.proofs.Laws.{xor-eq, xor-self, shifted-zero, shifted-xor}
-use Rattle.span.proofs.Laws.{combination-append, combination-map, combination-low, combination-pow, combination-xor, least-relation}
+use Rattle.span.proofs.Word.{xor-eq, xor-self, shifted-zero, shifted-xor}
+use Rattle.span.proofs.Combination.{combination-append, combination-map, combination-low, combination-pow, combination-xor}
+use Rattle.span.proofs.Relation.{least-relation}
 use Rattle.tables.specs.Code.{image, shiftedImage, Clashes}
 use Rattle.tables.specs.Laws.{IMAGE, ALIKE}
 

@@ -10,7 +10,7 @@ use lib.Dec.{eqb}
 use lib.ListN.{length}
 use Rattle.tables.specs.declared.table.Table.{Table}
 use Rattle.tables.specs.Table.{zeroTable, fit}
-use Rattle.tables.proofs.Laws.{zero-unfit}
+use Rattle.tables.proofs.Fit.{zero-unfit}
 use Rattle.tables.specs.Lent.{withRows, lent, LENT}
 
 lent-fifteen : (t : Table) (rows : List ℕ) → length rows ≡ 15 → lent t rows ≡ withRows t rows

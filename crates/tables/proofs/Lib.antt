@@ -1,7 +1,18 @@
--- `Fit`, `Bounds`, `Laws` and `Lent` are what a crate above sees; the other files are the crate's own, the lowest first.
+-- The laws of the crate, the lowest file first; a crate above sees those that are public.
 pub mod Fit
-mod Clash
-mod Refusal
+pub mod Clash
+pub mod Refusal
 pub mod Bounds
-pub mod Laws
 pub mod Lent
+mod Format
+mod Progress
+pub mod Reading
+pub mod Written
+mod FormatExamples
+pub mod ParsedRoom
+pub mod Every
+mod Linear
+pub mod Triangle
+pub mod Filling
+pub mod Made
+pub mod MadeWhole

@@ -12,7 +12,7 @@ use mathlib.Core.Logic.{_≢_}
 use mathlib.Core.List.{List}
 use Prim.Native.Nat.{ℕ, _-_, _^_, _≤_, _<_}
 use lib.ListN.{length}
-use Rattle.words.specs.Word.{shifted}
+use Rattle.span.specs.Word.{shifted}
 use Rattle.span.specs.Combination.{combination}
 
 -- "A code has n symbols (bits) in a block, n − 1 of them information, .. Symbol j has weight 2^(j−1) in a block's number; symbol n is the parity."

@@ -12,7 +12,7 @@ use mathlib.Core.Logic.{_≢_}
 use mathlib.Core.List.{List, [], _∷_}
 use Prim.Native.Nat.{ℕ, suc, _+_, _-_, _^_, _≤_, _<_}
 use lib.ListN.{length, getD}
-use Rattle.words.specs.Word.{_⊕_, shifted}
+use Rattle.span.specs.Word.{_⊕_, shifted}
 use Rattle.span.specs.Combination.{combination}
 use Rattle.tables.specs.Code.{weight, image, Suitable}
 use Rattle.tables.specs.Table.{zeroTable, fit}

@@ -1,15 +1,15 @@
 // Judging any table value: unfit, a clash that shows it unsuitable, or sound.
 use crate::table::Table;
 use crate::table::is_fit;
+use span::bits::mask;
+use span::bits::shift;
 use span::eliminate::Least;
 use span::eliminate::least_relation;
-use words::bits::mask;
-use words::bits::shift;
 ghost use mathlib.Core.Path.{_≡_};
 ghost use mathlib.Core.List.{_++_, map};
 ghost use Prim.Native.Nat.{_+_, _-_, _≤_, _<_};
 ghost use lib.ListN.{length, getD, take};
-ghost use Rattle.words.specs.Word.{shifted};
+ghost use Rattle.span.specs.Word.{shifted};
 ghost use Rattle.tables.specs.Table.{codeRows};
 ghost use Rattle.tables.specs.Judging.{Judged, Searched};
 
@@ -65,7 +65,7 @@ fn search(rows: &[u64], n: usize, span: usize) -> Judgement
     Judgement::Sound
 }
 
-pub fn judge(t: Table) -> Judgement
+pub(crate) fn judge(t: Table) -> Judgement
     ensures { λ r. ⌜ Judged t r ⌝ }
 {
     // The rows alone are lent: less is copied than of a lent table.

@@ -1,3 +1,5 @@
-// Tables of the code, and judging them.
-pub mod judge;
+// Tables of the code: fitness, judging, reading and making.
+mod judge;
+pub mod make;
+pub mod read;
 pub mod table;

@@ -1,6 +1,6 @@
 // The table by value, and when it is fit. Row j stands at rows[j − 1]; row n, the parity's, is 1 always and is not stored.
-use words::bits::mask;
-use words::bound::at_most;
+use span::bits::mask;
+use span::bound::min;
 ghost use mathlib.Core.Path.{_≡_};
 ghost use Rattle.tables.specs.Table.{table, zeroTable, sizesFit, fit};
 ghost use Rattle.tables.specs.Lent.{lent};
@@ -25,7 +25,7 @@ pub fn zero_table() -> Table
 }
 
 // Whether n, N and m are in range.
-pub fn sizes_fit(symbols: usize, span: usize, depth: usize) -> bool
+pub(crate) fn sizes_fit(symbols: usize, span: usize, depth: usize) -> bool
     ensures { λ r. ⌜ r ≡ sizesFit symbols span depth ⌝ }
 {
     (2 <= symbols) & (symbols <= 16) & (2 <= span) & (span <= 64) & (1 <= depth) & (depth <= 64)
@@ -40,7 +40,7 @@ pub fn is_fit(symbols: usize, span: usize, depth: usize, rows: &[u64]) -> bool
         return false;
     }
     let most = mask(span);
-    let end = at_most(symbols - 1, rows.len());
+    let end = min(symbols - 1, rows.len());
     let mut fit = true;
     let mut i = 0;
     while i < end {

@@ -3,12 +3,12 @@ use mathlib.Core.Path.{ap, _∙_}
 use borrow.Author.Needs.{needs}
 use lib.ListN.{drop}
 use Rattle.tables.specs.declared.table.Table.{Table}
-use Rattle.coder.specs.declared.code.CodeAnswer.{CodeAnswer}
-use Rattle.coder.specs.Coder.{codeAnswer, codeMemory}
-use Rattle.coder.specs.Answers.{codeNumbers}
-use Rattle.records.specs.Answers.{codedOf}
+use Rattle.link.specs.declared.code.CodeAnswer.{CodeAnswer}
+use Rattle.link.specs.Coder.{codeAnswer, codeMemory}
+use Rattle.link.specs.CoderAnswers.{codeNumbers}
+use Rattle.export.specs.Answers.{codedOf}
 use Rattle.tables.specs.Lent.{withRows}
-use Rattle.numbers.proofs.Laws.{table-parts}
+use Rattle.export.proofs.TableLaws.{table-parts}
 use Rattle.export.proofs.code.burst_code.Statement.{statement}
 use Rattle.export.proofs.code.burst_code.Tie as tie
 

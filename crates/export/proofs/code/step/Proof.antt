@@ -3,7 +3,7 @@ use mathlib.Core.Path.{ap, _∙_}
 use native.Mathlib.Omega.{arith}
 use borrow.Author.Needs.{needs}
 use Rattle.tables.specs.declared.table.Table.{Table}
-use Rattle.coder.specs.Coder.{codeAnswer, codeMemory}
+use Rattle.link.specs.Coder.{codeAnswer, codeMemory}
 use Rattle.export.proofs.Lent.{rows-lent}
 use Rattle.export.proofs.code.step.Statement.{statement}
 use Rattle.export.proofs.code.step.Tie as tie

@@ -3,12 +3,12 @@ use mathlib.Core.Path.{ap, _∙_}
 use borrow.Author.Needs.{needs}
 use lib.ListN.{drop}
 use Rattle.tables.specs.declared.table.Table.{Table}
-use Rattle.decoder.specs.declared.decode.DecodeAnswer.{DecodeAnswer}
-use Rattle.decoder.specs.Decoder.{decodeAnswer, decodeMemory}
-use Rattle.decoder.specs.Answers.{decodeNumbers}
-use Rattle.records.specs.Answers.{decodedOf}
+use Rattle.link.specs.declared.decode.DecodeAnswer.{DecodeAnswer}
+use Rattle.link.specs.Decoder.{decodeAnswer, decodeMemory}
+use Rattle.link.specs.DecoderAnswers.{decodeNumbers}
+use Rattle.export.specs.Answers.{decodedOf}
 use Rattle.tables.specs.Lent.{withRows}
-use Rattle.numbers.proofs.Laws.{table-parts}
+use Rattle.export.proofs.TableLaws.{table-parts}
 use Rattle.export.proofs.decode.burst_decode.Statement.{statement}
 use Rattle.export.proofs.decode.burst_decode.Tie as tie
 

@@ -3,7 +3,7 @@ use mathlib.Core.Path.{ap, _∙_}
 use native.Mathlib.Omega.{arith}
 use borrow.Author.Needs.{needs}
 use Rattle.tables.specs.declared.table.Table.{Table}
-use Rattle.decoder.specs.Decoder.{decodeAnswer, decodeMemory}
+use Rattle.link.specs.Decoder.{decodeAnswer, decodeMemory}
 use Rattle.export.proofs.Lent.{rows-lent}
 use Rattle.export.proofs.decode.step.Statement.{statement}
 use Rattle.export.proofs.decode.step.Tie as tie

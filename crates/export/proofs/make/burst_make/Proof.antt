@@ -2,10 +2,10 @@
 use mathlib.Core.Path.{ap, ap₂, _∙_}
 use Prim.Native.Nat.{ℕ}
 use borrow.Author.Needs.{needs}
-use Rattle.maker.specs.declared.make.Making.{Making}
-use Rattle.maker.specs.Made.{madeNumbers}
-use Rattle.numbers.specs.Table.{givenBack}
-use Rattle.records.specs.Answers.{numberOf}
+use Rattle.tables.specs.declared.make.Making.{Making}
+use Rattle.tables.specs.Made.{madeNumbers}
+use Rattle.export.specs.Table.{givenBack}
+use Rattle.export.specs.Answers.{numberOf}
 use Rattle.export.proofs.make.burst_make.Statement.{statement}
 use Rattle.export.proofs.make.burst_make.Tie as tie
 

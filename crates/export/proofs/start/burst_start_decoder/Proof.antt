@@ -2,11 +2,11 @@
 use mathlib.Core.Path.{ap, _∙_}
 use borrow.Author.Needs.{needs}
 use Rattle.tables.specs.declared.table.Table.{Table}
-use Rattle.memory.specs.declared.start.StartAnswer.{StartAnswer}
-use Rattle.memory.specs.Start.{startAnswer, startMemory}
-use Rattle.memory.specs.Memory.{decoderWords}
-use Rattle.memory.specs.Answers.{startNumbers}
-use Rattle.records.specs.Answers.{numberOf}
+use Rattle.link.specs.declared.start.StartAnswer.{StartAnswer}
+use Rattle.link.specs.Start.{startAnswer, startMemory}
+use Rattle.link.specs.Memory.{decoderWords}
+use Rattle.link.specs.Answers.{startNumbers}
+use Rattle.export.specs.Answers.{numberOf}
 use Rattle.export.proofs.start.burst_start_decoder.Statement.{statement}
 use Rattle.export.proofs.start.burst_start_decoder.Tie as tie
 

@@ -1,9 +1,9 @@
 -- `report::opening::after_header`: a made table is fit, and no larger than N = 32; otherwise the refusal. Assumes nothing.
 use mathlib.Core.Path.{_≡_, sym, ap, _∙_}
 use borrow.Author.Needs.{needs}
-use Rattle.maker.specs.declared.make.Making.{Making}
-use Rattle.maker.specs.declared.make.MakeAnswer.the-variants.{Made}
-use Rattle.maker.specs.Made.{making}
+use Rattle.tables.specs.declared.make.Making.{Making}
+use Rattle.tables.specs.declared.make.MakeAnswer.the-variants.{Made}
+use Rattle.tables.specs.Made.{making}
 use Rattle.report.proofs.Opens.{made-fits, opens-made, opens-refused}
 use Rattle.report.proofs.opening.after_header.Statement.{statement}
 use Rattle.report.proofs.opening.after_header.Tie as tie

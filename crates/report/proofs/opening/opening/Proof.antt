@@ -5,8 +5,8 @@ use native.Mathlib.Omega.{arith}
 use borrow.Author.Tests.{not-true, not-false}
 use borrow.Author.Needs.{needs}
 use lib.ListN.{length}
-use Rattle.lines.specs.Text.{headerLine}
-use Rattle.lines.specs.Writing.{Wrote}
+use Rattle.report.specs.Text.{headerLine}
+use Rattle.report.specs.Writing.{Wrote}
 use Rattle.report.specs.Opening.{openingRoom}
 use Rattle.report.proofs.Answer.{put-wrote}
 use Rattle.report.proofs.Opens.{room-there, opens-nowhere, opens-short, opens-sizes}

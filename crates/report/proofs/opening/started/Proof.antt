@@ -8,8 +8,8 @@ use borrow.Rule.Slice.PartMut.{midOf, mid-len, post-is}
 use borrow.Author.Needs.{needs}
 use lib.ListN.{length}
 use Rattle.tables.proofs.Bounds.{fit-facts}
-use Rattle.memory.specs.Memory.{decoderWords}
-use Rattle.memory.proofs.Answers.{starts-whole}
+use Rattle.link.specs.Memory.{decoderWords}
+use Rattle.link.proofs.Answers.{starts-whole}
 use Rattle.report.proofs.opening.started.Statement.{statement}
 use Rattle.report.proofs.opening.started.Tie as tie
 

@@ -1,6 +1,6 @@
 -- `report::part::answer_line`: answer by answer. Assumes nothing.
 use native.Mathlib.Omega.{arith}
-use Rattle.lines.proofs.Longest.{longest-line}
+use Rattle.report.proofs.Longest.{longest-line}
 use Rattle.report.proofs.Answer.{printed-delivery, printed-nothing, printed-refusal}
 use borrow.Author.Needs.{needs}
 use Rattle.report.proofs.part.answer_line.Statement.{statement}

@@ -4,10 +4,10 @@ use Prim.Native.Nat.{ℕ, _+_, _-_, _*_, _/_, _^_, _≤_, _<_}
 use native.Mathlib.Omega.{arith}
 use borrow.Author.Needs.{needs}
 use lib.ListN.{length, getD}
-use Rattle.decoder.specs.declared.decode.DecodeAnswer.{DecodeAnswer}
-use Rattle.decoder.specs.Decoder.{decodeAnswer, decodeMemory}
-use Rattle.lines.specs.Text.{oddLine}
-use Rattle.lines.specs.Writing.{longest}
+use Rattle.link.specs.declared.decode.DecodeAnswer.{DecodeAnswer}
+use Rattle.link.specs.Decoder.{decodeAnswer, decodeMemory}
+use Rattle.report.specs.Text.{oddLine}
+use Rattle.report.specs.Writing.{longest}
 use Rattle.report.specs.Listing.{blockOf, Printed}
 use Rattle.report.proofs.Answer.{put-wrote}
 use Rattle.report.proofs.Loop.{Going, going-start, going-next, going-stops, going-odd, going-even}

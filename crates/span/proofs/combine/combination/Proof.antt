@@ -7,9 +7,9 @@ use borrow.Author.Needs.{needs}
 use mathlib.Core.List.{List}
 use lib.ListN.{length, take, drop, getD, length-take, drop-of-length-le}
 use lib.Seq.{drop-cons, getD-take}
-use Rattle.words.specs.Word.{_⊕_, odd, sel}
+use Rattle.span.specs.Word.{_⊕_, odd, sel}
 use Rattle.span.specs.Combination.{combination}
-use Rattle.words.proofs.Laws.{xor-zero-l, xor-zero-r, xor-assoc}
+use Rattle.span.proofs.Word.{xor-zero-l, xor-zero-r, xor-assoc}
 use Rattle.span.proofs.combine.combination.Statement.{statement}
 use Rattle.span.proofs.combine.combination.Tie as tie
 
@@ -32,8 +32,8 @@ one-more ws count i sum left v total h e s =
     ∙ ap (λ (x : ℕ). sum ⊕ x) (rw (s, add-one i, rest, word))
     ∙ e
 
-at-most-requires : tie.Need-at-most-requires Inv-loop μ-loop
-at-most-requires c κs = search needs
+min-requires : tie.Need-min-requires Inv-loop μ-loop
+min-requires c κs = search needs
 
 loop-holds : tie.Need-loop-holds Inv-loop μ-loop
 loop-holds c = (search needs, xor-zero-l _)
@@ -78,7 +78,7 @@ combination-spec =
     (tie.spec
     Inv-loop
     μ-loop
-    at-most-requires
+    min-requires
     loop-holds
     mul-select
     shared-slice-read-select

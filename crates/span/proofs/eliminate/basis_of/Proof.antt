@@ -11,11 +11,11 @@ use Rattle.span.proofs.Combination.{counted-take}
 use Rattle.span.proofs.eliminate.basis_of.Statement.{statement}
 use Rattle.span.proofs.eliminate.basis_of.Tie as tie
 
-at-most-requires : tie.Need-at-most-requires
-at-most-requires c κs = search needs
+min-requires : tie.Need-min-requires
+min-requires c κs = search needs
 
-at-most-requires-2 : tie.Need-at-most-requires-2
-at-most-requires-2 c κs = search needs
+min-requires-2 : tie.Need-min-requires-2
+min-requires-2 c κs = search needs
 
 eliminate-requires : tie.Need-eliminate-requires
 eliminate-requires c κs = search needs
@@ -23,7 +23,7 @@ eliminate-requires c κs = search needs
 returns : tie.Need-returns
 returns c =
     let a = c .before .before .before .before .before .args in
-    let end = c .before .before .at-most2 .result in
+    let end = c .before .before .min2 .result in
     let end-is : end ≡ min (min (a .count) (length (a .words .now))) 32 = omega arith in
     let ws = take end (a .words .now) in
     let fits : end ≤ length (a .words .now) = omega arith in
@@ -32,4 +32,4 @@ returns c =
     ∙ ap basisOf (ap (λ (e : ℕ). take e (a .words .now)) end-is ∙ counted-take (a .count) (a .words .now))
 
 pub basis-of-spec : {M : Type 1} → statement M
-basis-of-spec = tie.close (tie.spec at-most-requires at-most-requires-2 eliminate-requires returns)
+basis-of-spec = tie.close (tie.spec min-requires min-requires-2 eliminate-requires returns)

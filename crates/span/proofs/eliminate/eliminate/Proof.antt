@@ -15,7 +15,7 @@ use Rattle.span.specs.Elimination.{basisOf, joined, extended}
 use Rattle.span.specs.declared.eliminate.Basis.{Basis}
 use Rattle.span.specs.declared.eliminate.Reduced.{Reduced}
 use Rattle.span.specs.declared.eliminate.Least.the-variants.{Found, Missing}
-use Rattle.words.specs.Word.{_⊕_}
+use Rattle.span.specs.Word.{_⊕_}
 use Rattle.span.proofs.Relation.{relation-missing}
 use Rattle.span.proofs.Basis.{joined-passed, joined-stored, turn-basis, turn-found, turn-none}
 use borrow.Author.Needs.{needs}

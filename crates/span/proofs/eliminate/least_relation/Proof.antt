@@ -10,11 +10,11 @@ use Rattle.span.proofs.Combination.{counted-take}
 use Rattle.span.proofs.eliminate.least_relation.Statement.{statement}
 use Rattle.span.proofs.eliminate.least_relation.Tie as tie
 
-at-most-requires : tie.Need-at-most-requires
-at-most-requires c κs = search needs
+min-requires : tie.Need-min-requires
+min-requires c κs = search needs
 
-at-most-requires-2 : tie.Need-at-most-requires-2
-at-most-requires-2 c κs = search needs
+min-requires-2 : tie.Need-min-requires-2
+min-requires-2 c κs = search needs
 
 eliminate-requires : tie.Need-eliminate-requires
 eliminate-requires c κs = search needs
@@ -22,11 +22,11 @@ eliminate-requires c κs = search needs
 returns : tie.Need-returns
 returns c =
     let a = c .before .before .before .before .args in
-    let end : c .before .at-most2 .result ≡ min (min (a .count) (length (a .words .now))) 32 = omega arith in
+    let end : c .before .min2 .result ≡ min (min (a .count) (length (a .words .now))) 32 = omega arith in
     c .eliminate .ensures .0
     ∙ ap (λ (ws : List ℕ). leastRelation ws (a .f))
     (ap (λ (e : ℕ). take e (a .words .now)) end ∙ counted-take (a .count) (a .words .now))
 
 pub least-relation-spec : {M : Type 1} → statement M
 least-relation-spec =
-    tie.close (tie.spec at-most-requires at-most-requires-2 eliminate-requires returns)
+    tie.close (tie.spec min-requires min-requires-2 eliminate-requires returns)

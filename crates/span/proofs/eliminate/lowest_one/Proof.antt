@@ -3,7 +3,7 @@ use Prim.Native.Nat.{ℕ, _^_, _<_}
 use native.Mathlib.Omega.{arith}
 use lib.Count.{trailingZeros}
 use Rattle.span.specs.Elimination.{lowestOne}
-use Rattle.words.proofs.Laws.{trailing-bit}
+use Rattle.span.proofs.Word.{trailing-bit}
 use Rattle.span.proofs.eliminate.lowest_one.Statement.{statement}
 use Rattle.span.proofs.eliminate.lowest_one.Tie as tie
 

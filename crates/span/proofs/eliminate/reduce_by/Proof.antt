@@ -7,9 +7,9 @@ use borrow.Author.Needs.{needs}
 use lib.ListN.{getD}
 use Rattle.span.specs.declared.eliminate.Basis.{Basis}
 use Rattle.span.specs.declared.eliminate.Reduced.{Reduced}
-use Rattle.words.specs.Word.{_⊕_, odd, sel, digit, commonParity}
+use Rattle.span.specs.Word.{_⊕_, odd, sel, digit, commonParity}
 use Rattle.span.specs.Basis.{basis, reducedBy, reducedTo, reduction}
-use Rattle.words.proofs.Laws.{odd-digit}
+use Rattle.span.proofs.Word.{odd-digit}
 use Rattle.span.proofs.eliminate.reduce_by.Statement.{statement}
 use Rattle.span.proofs.eliminate.reduce_by.Tie as tie
 
@@ -31,8 +31,8 @@ one-more b i x rest coefficients on v q e on-is v-is q-is =
     let on-odd : odd on ≡ s = ap odd on-is ∙ odd-digit s in
     rw (add-one i, ← e, v-is, q-is, on-odd)
 
-at-most-requires : tie.Need-at-most-requires Inv-loop μ-loop
-at-most-requires c κs = search needs
+min-requires : tie.Need-min-requires Inv-loop μ-loop
+min-requires c κs = search needs
 
 loop-holds : tie.Need-loop-holds Inv-loop μ-loop
 unfolding reducedTo
@@ -96,7 +96,7 @@ reduce-by-spec =
     (tie.spec
     Inv-loop
     μ-loop
-    at-most-requires
+    min-requires
     loop-holds
     mul-common-parity
     element-copy-out-common-parity

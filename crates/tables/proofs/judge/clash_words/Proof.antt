@@ -8,8 +8,8 @@ use native.Mathlib.Omega.{arith}
 use borrow.Author.Needs.{needs}
 use lib.ListN.{length, getD, set, take, length-append, length-map, length-set, List·getD-append, List·getD-map}
 use lib.Seq.{ext-getD, getD-take, getD-append-add, getD-set-same, getD-set-other, length-take-le}
-use Rattle.words.specs.Word.{shifted}
-use Rattle.words.proofs.Laws.{shifted-zero}
+use Rattle.span.specs.Word.{shifted}
+use Rattle.span.proofs.Word.{shifted-zero}
 use Rattle.tables.specs.Table.{codeRows}
 use Rattle.tables.proofs.Fit.{code-length}
 use Rattle.tables.proofs.judge.clash_words.Statement.{statement}

@@ -64,14 +64,14 @@ sizes c = sym (c .before .sizes-fit .ensures) ∙ not-false _ (c .if1 .left)
 mask-requires : tie.Need-mask-requires Inv-loop μ-loop
 mask-requires c κs = search needs
 
-sub-at-most : tie.Need-sub-at-most Inv-loop μ-loop
-sub-at-most c =
+sub-min : tie.Need-sub-min Inv-loop μ-loop
+sub-min c =
     let a = c .before .before .before .before .args in
     let z = sizes-of (a .symbols) (a .span) (a .depth) (sizes (c .before)) in
     omega arith
 
-at-most-requires : tie.Need-at-most-requires Inv-loop μ-loop
-at-most-requires c κs = search needs
+min-requires : tie.Need-min-requires Inv-loop μ-loop
+min-requires c κs = search needs
 
 loop-holds : tie.Need-loop-holds Inv-loop μ-loop
 unfolding rowsFit
@@ -122,8 +122,8 @@ is-fit-spec =
     sizes-fit-requires
     returns
     mask-requires
-    sub-at-most
-    at-most-requires
+    sub-min
+    min-requires
     loop-holds
     mul-fit
     shared-slice-read-fit

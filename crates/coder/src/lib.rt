@@ -1,2 +1,0 @@
-// The coder on lent memory.
-pub mod code;

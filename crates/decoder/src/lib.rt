@@ -1,2 +1,0 @@
-// The decoder on lent memory.
-pub mod decode;

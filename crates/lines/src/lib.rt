@@ -1,2 +1,0 @@
-// The lines of the listing program, as bytes.
-pub mod text;

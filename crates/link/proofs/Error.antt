@@ -1,0 +1,93 @@
+-- The least error block of a register, as the code finds it: by the least relation that ends in the register. Assumes nothing.
+--
+--   error-found, error-missing   from the relation among rows and register
+--   zero-found                   the register 0 is the image of 0
+--   found-lt, found-some         an error block that was found is below 2^n, and not 0 unless the register is
+--   judged-zero .. judged-held   error, word that stays, and mark in the four cases of a register
+use mathlib.Core.Path.{_≡_, refl, sym, ap, _∙_, subst}
+use mathlib.Core.Bool.{Bool, true, false}
+use mathlib.Core.Logic.{_≢_}
+use mathlib.Core.List.{List, [], _∷_, _++_}
+use Prim.Native.Nat.{ℕ, _+_, _-_, _/_, _^_, _≤_, _<_, zero-le}
+use native.Mathlib.Omega.{arith}
+use borrow.Author.Tests.{ne-eqb}
+use lib.ListN.{length, take, length-append}
+use lib.Pow.{pow-pos}
+use lib.Seq.{take-all}
+use Rattle.span.specs.declared.eliminate.Least.{Least}
+use Rattle.span.specs.declared.eliminate.Least.the-variants.{Found, Missing}
+use Rattle.span.specs.Word.{odd}
+use Rattle.span.specs.Combination.{combination, counted}
+use Rattle.span.specs.Relation.{leastRelation, leastCoefficients, raised, IsLeast}
+use Rattle.span.proofs.Combination.{combination-zero}
+use Rattle.span.proofs.Relation.{least-coefficients, least-unique, least-raised}
+use Rattle.link.specs.declared.decode.Mark.{Mark}
+use Rattle.link.specs.declared.decode.Mark.the-variants.{Clean, Corrected, Doubtful, Held}
+use Rattle.link.specs.Step.{errorOf, keptOf, markOf}
+
+-- the words that count are the rows and the register
+ended : (rows words : List ℕ) (n x : ℕ) → length rows ≡ n → n ≤ 16 → take (n + 1) words ≡ rows ++ (x ∷ [])
+    → leastRelation (counted (n + 1) words) n ≡ raised n (leastCoefficients rows x)
+ended rows words n x size few e =
+    let long : length (rows ++ (x ∷ [])) ≤ 32 = (let l = length-append rows (x ∷ []) in omega arith) in
+    ap (λ (ws : List ℕ). leastRelation (take 32 ws) n) e ∙ ap (λ (ws : List ℕ). leastRelation ws n) (take-all 32 (rows ++ (x ∷ [])) long)
+    ∙ ap (leastRelation (rows ++ (x ∷ []))) (sym size) ∙ least-raised rows x ∙ ap (λ (k : ℕ). raised k (leastCoefficients rows x)) size
+
+raised-found : (k c : ℕ) (f : Least) → raised k f ≡ Found c → (2 ^ k ≤ c) × (f ≡ Found (c - 2 ^ k))
+raised-found k c (Found d) e =
+    let same : 2 ^ k + d ≡ c = cc in
+    let rest : d ≡ c - 2 ^ k = omega arith in
+    (omega arith, ap Found rest)
+raised-found k c Missing e = let z : _≡_ {A = ℕ} 0 1 = cc in absurd (omega arith)
+
+raised-missing : (k : ℕ) (f : Least) → raised k f ≡ Missing → f ≡ Missing
+raised-missing k (Found d) e = let z : _≡_ {A = ℕ} 0 1 = cc in absurd (omega arith)
+raised-missing k Missing e = refl
+
+module _ (rows words : List ℕ) (n x : ℕ) (size : length rows ≡ n) (few : n ≤ 16) (e : take (n + 1) words ≡ rows ++ (x ∷ [])) where
+  pub error-found : (c : ℕ) → leastRelation (counted (n + 1) words) n ≡ Found c → (2 ^ n ≤ c) × (leastCoefficients rows x ≡ Found (c - 2 ^ n))
+  error-found c h = raised-found n c (leastCoefficients rows x) (sym (ended rows words n x size few e) ∙ h)
+
+  pub error-missing : leastRelation (counted (n + 1) words) n ≡ Missing → leastCoefficients rows x ≡ Missing
+  error-missing h = raised-missing n (leastCoefficients rows x) (sym (ended rows words n x size few e) ∙ h)
+
+pub zero-found : (rows : List ℕ) → leastCoefficients rows 0 ≡ Found 0
+zero-found rows =
+    least-unique (λ (c : ℕ). combination rows c ≡ 0) 0 (2 ^ length rows) (leastCoefficients rows 0) (Found 0) (least-coefficients rows 0)
+    (zero-le, pow-pos (length rows), combination-zero rows, λ d a b q. zero-le)
+
+module _ (rows : List ℕ) (x e : ℕ) (h : leastCoefficients rows x ≡ Found e) where
+  is-least : IsLeast (λ (c : ℕ). combination rows c ≡ x) 0 (2 ^ length rows) (Found e)
+  is-least = subst (IsLeast (λ (c : ℕ). combination rows c ≡ x) 0 (2 ^ length rows)) h (least-coefficients rows x)
+
+  pub found-lt : e < 2 ^ length rows
+  found-lt = is-least .1
+
+  pub found-some : x ≢ 0 → e ≢ 0
+  found-some some z = some (sym (is-least .2) ∙ ap (combination rows) z ∙ combination-zero rows)
+
+-- ---- error, word that stays, and mark
+
+abbrev Judged : Least → ℕ → ℕ → ℕ → Mark → Type 0
+Judged f x error kept mark = (error ≡ errorOf f) × ((kept ≡ keptOf f x) × (mark ≡ markOf f x))
+
+pub judged-zero : (f : Least) (x : ℕ) → f ≡ Found 0 → Judged f x 0 0 Clean
+judged-zero f x e = subst (λ (g : Least). Judged g x 0 0 Clean) (sym e) (refl, (refl, refl))
+
+pub judged-found : (f : Least) (x e : ℕ) → f ≡ Found e → e ≢ 0 → Judged f x e 0 (Corrected e)
+judged-found f x e h some =
+    subst (λ (g : Least). Judged g x e 0 (Corrected e)) (sym h) (refl, (refl, ap corrected (sym (ne-eqb e 0 some))))
+  where
+    corrected : Bool → Mark
+    corrected b = elim b [ true ↦ Clean | false ↦ Corrected e ]
+
+missing-mark : Bool → Mark
+missing-mark b = elim b [ true ↦ Doubtful | false ↦ Held ]
+
+pub judged-doubtful : (f : Least) (x : ℕ) → f ≡ Missing → odd x ≡ true → Judged f x 0 (x / 2) Doubtful
+unfolding missing-mark
+judged-doubtful f x e o = subst (λ (g : Least). Judged g x 0 (x / 2) Doubtful) (sym e) (refl, (refl, ap missing-mark (sym o)))
+
+pub judged-held : (f : Least) (x : ℕ) → f ≡ Missing → odd x ≡ false → Judged f x 0 (x / 2) Held
+unfolding missing-mark
+judged-held f x e o = subst (λ (g : Least). Judged g x 0 (x / 2) Held) (sym e) (refl, (refl, ap missing-mark (sym o)))

@@ -1,0 +1,66 @@
+-- `coder::code::code_lent`: a refusal, or a step that is taken, which has fifteen rows. Assumes nothing.
+use mathlib.Core.Path.{_≡_, sym, ap, _∙_}
+use native.Mathlib.Omega.{arith}
+use borrow.Author.Needs.{needs}
+use lib.ListN.{length}
+use Rattle.tables.specs.declared.table.Table.{Table}
+use Rattle.tables.specs.Lent.{withRows, lent}
+use Rattle.link.specs.Coder.{coderFault, codeAnswer, codeMemory}
+use Rattle.link.specs.declared.code.CodeAnswer.the-variants.{Coded, Refused}
+use Rattle.link.proofs.CoderFaults.{code-refuses, codes}
+use Rattle.link.proofs.CoderLent.{code-lent-taken}
+use Rattle.link.proofs.CoderAnswers.{code-told}
+use Rattle.link.proofs.Coder.{coded-fits}
+use Rattle.link.proofs.code.code_lent.Statement.{statement}
+use Rattle.link.proofs.code.code_lent.Tie as tie
+
+-- no refusal applies: the table is that of the fifteen rows
+taken-whole : (c : tie.Else1)
+    → let a = c .before .before .before .before .before .args in
+    (lent (a .t) (a .rows .now) ≡ withRows (a .t) (a .rows .now)) × (length (a .rows .now) ≡ 15)
+    × (coderFault (withRows (a .t) (a .rows .now)) (a .state .now) (a .info) ≡ 0)
+taken-whole c =
+    let a = c .before .before .before .before .before .args in
+    let z = sym (c .before .fault .ensures) ∙ c .if1 .left in
+    let k = code-lent-taken (a .t) (a .rows .now) (a .state .now) (a .info) z in
+    (k .0, k .1, ap (λ (u : Table). coderFault u (a .state .now) (a .info)) (sym (k .0)) ∙ z)
+
+fault-requires : tie.Need-fault-requires
+fault-requires c κs = search needs
+
+same-length : tie.Need-same-length
+same-length c = search needs
+
+returns : tie.Need-returns
+returns c =
+    let a = c .before .before .before .before .before .args in
+    let u = lent (a .t) (a .rows .now) in
+    let e = code-refuses u (a .state .now) (a .info) (c .before .fault .result) (sym (c .before .fault .ensures)) (omega arith) in
+    code-told u (a .state .now) (a .info) (Refused (c .before .fault .result)) (a .state .now) (e .0) (e .1)
+
+taken-requires : tie.Need-taken-requires
+taken-requires c κs = taken-whole (c .before) .2
+
+cast-t13 : tie.Need-cast-t13
+cast-t13 c =
+    let a = c .before .before .before .before .before .before .before .before .before .args in
+    let k = taken-whole (c .before .before .before .before) in
+    record { fits = rw (c .before .before .taken .ensures .0) (coded-fits (withRows (a .t) (a .rows .now)) (a .state .now) (a .info) (k .2)) }
+
+same-length-2 : tie.Need-same-length-2
+same-length-2 c = search needs
+
+returns-2 : tie.Need-returns-2
+returns-2 c =
+    let a = c .before .before .before .before .before .before .before .before .before .args in
+    let s = a .state .now in
+    let k = taken-whole (c .before .before .before .before) in
+    let e = codes (withRows (a .t) (a .rows .now)) s (a .info) (k .2) in
+    code-told (lent (a .t) (a .rows .now)) s (a .info) (Coded (c .before .before .taken .result)) (c .before .before .taken .last .1 .1 .0)
+    (ap Coded (c .before .before .taken .ensures .0) ∙ e .0 ∙ ap (λ (u : Table). codeAnswer u s (a .info)) (sym (k .0)))
+    (c .before .before .taken .ensures .1 ∙ e .1 ∙ ap (λ (u : Table). codeMemory u s (a .info)) (sym (k .0)))
+
+pub code-lent-spec : {M : Type 1} → statement M
+code-lent-spec =
+    tie.close
+    (tie.spec fault-requires same-length returns taken-requires cast-t13 same-length-2 returns-2)

@@ -1,0 +1,22 @@
+-- `decoder::decode::decode`: the table is that with its own rows lent. Assumes nothing.
+use mathlib.Core.Path.{_≡_}
+use borrow.Author.Needs.{needs}
+use lib.ListN.{length}
+use Rattle.tables.proofs.Lent.{lent-rows}
+use Rattle.link.proofs.decode.decode.Statement.{statement}
+use Rattle.link.proofs.decode.decode.Tie as tie
+
+decode-lent-requires : tie.Need-decode-lent-requires
+decode-lent-requires c κs = search needs
+
+same-length : tie.Need-same-length
+same-length c = search needs
+
+returns : tie.Need-returns
+returns c =
+    let a = c .before .before .before .before .before .before .before .before .args in
+    let size : length (a .t1 .rows) ≡ 15 = search needs in
+    rw (lent-rows (a .t1) (a .t1 .rows) .3 size) at (c .before .before .decode-lent .ensures)
+
+pub decode-spec : {M : Type 1} → statement M
+decode-spec = tie.close (tie.spec decode-lent-requires same-length returns)

@@ -1,0 +1,110 @@
+-- `decoder::decode::malformed`: turn, fill, and the words of the turn's stream. Assumes nothing.
+use mathlib.Core.Path.{_≡_, sym, ap, ap₂, _∙_}
+use mathlib.Core.Bool.{Bool, _||_}
+use mathlib.Core.List.{List}
+use Prim.Native.Nat.{ℕ, _-_, _^_, _≤_, _<_}
+use native.Mathlib.Omega.{arith}
+use borrow.Author.Needs.{needs}
+use borrow.Author.Tests.{le-leb, lt-leb, lt-ltb, le-ltb}
+use lib.Dec.{leb}
+use lib.ListN.{getD}
+use Rattle.tables.specs.declared.table.Table.{Table}
+use Rattle.tables.specs.Lent.{withRows}
+use Rattle.tables.proofs.Bounds.{Fitting, fit-facts}
+use Rattle.link.specs.Memory.{turnOf}
+use Rattle.link.specs.Decoder.{fillOf, delayOf, pendingOf, syndromeOf, delayedOut, decoderMalformed}
+use Rattle.link.proofs.Room.{fit-room, turn-room}
+use Rattle.link.proofs.decode.malformed.Statement.{statement}
+use Rattle.link.proofs.decode.malformed.Tie as tie
+
+-- a turn and a fill within their bounds leave the words of the turn's stream to test
+late : (t : Table) (s : List ℕ) (r : Bool) → turnOf s < t .depth → fillOf s ≤ delayOf t
+    → r
+    ≡ leb (2 ^ (t .span - 1)) (pendingOf t s (turnOf s)) || leb (2 ^ (t .span - 1)) (syndromeOf t s (turnOf s))
+    || delayedOut t s (turnOf s) (t .span - 1)
+    → r ≡ decoderMalformed t s
+late t s r turn fill e =
+    e
+    ∙ ap
+    (λ (b : Bool). b || leb (2 ^ (t .span - 1)) (pendingOf t s (turnOf s)) || leb (2 ^ (t .span - 1)) (syndromeOf t s (turnOf s)) || delayedOut t s (turnOf s) (t .span - 1))
+    (sym (ap₂ _||_ (lt-leb (t .depth) (turnOf s) turn) (le-ltb (delayOf t) (fillOf s) fill)))
+
+abbrev table : tie.Start → Table
+table c = withRows (c .args .t) (c .pre .0 .0)
+
+sizes : (c : tie.Start) → Fitting (table c)
+sizes c = fit-facts (table c) (c .pre .0 .1)
+
+shared-slice-read-turn : tie.Need-shared-slice-read-turn
+shared-slice-read-turn c = search needs
+
+returns : tie.Need-returns
+returns c = simp (le-leb _ _ (c .if1 .taken))
+
+sub-if2 : tie.Need-sub-if2
+sub-if2 c =
+    let z = sizes (c .before .before .before .before) .N-from in
+    omega arith
+
+mul-if2 : tie.Need-mul-if2
+mul-if2 c =
+    let b = c .before .before .before .before .before in
+    let m = fit-room (table b) (sizes b) in
+    record { fits = omega arith }
+
+shared-slice-read-if2 : tie.Need-shared-slice-read-if2
+shared-slice-read-if2 c = search needs
+
+returns-2 : tie.Need-returns-2
+returns-2 c =
+    let a = c .before .before .before .before .before .before .before .args in
+    let s = a .state .now in
+    simp (lt-leb (a .t .depth) (getD s 0 0) (omega arith), lt-ltb (delayOf (a .t)) (getD s 1 0) (omega arith))
+
+add-stream-malformed : tie.Need-add-stream-malformed
+add-stream-malformed c =
+    let z = sizes (c .before .before .before .before .before .before .before .before) .N-to in
+    record { fits = omega arith }
+
+mul-stream-malformed : tie.Need-mul-stream-malformed
+mul-stream-malformed c =
+    let b = c .before .before .before .before .before .before .before .before in
+    let m = fit-room (table b) (sizes b) in
+    let l = turn-room (table b) (sizes b) (turnOf (b .args .state .now)) (omega arith) in
+    record { fits = omega arith }
+
+add-stream-malformed-2 : tie.Need-add-stream-malformed-2
+add-stream-malformed-2 c =
+    let b = c .before .before .before .before .before .before .before .before in
+    let m = fit-room (table b) (sizes b) in
+    let l = turn-room (table b) (sizes b) (turnOf (b .args .state .now)) (omega arith) in
+    record { fits = omega arith }
+
+stream-malformed-requires : tie.Need-stream-malformed-requires
+stream-malformed-requires c κs =
+    let b = c .before .before .before .before .before .before .before .before in
+    let z = sizes b in
+    let l = turn-room (table b) z (turnOf (b .args .state .now)) (omega arith) in
+    let size = b .pre .1 in
+    (omega arith, z .n-from, z .n-to, z .N-from, z .N-to)
+
+returns-3 : tie.Need-returns-3
+returns-3 c =
+    let a = c .before .before .before .before .before .before .before .before .before .args in
+    late (a .t) (a .state .now) (c .stream-malformed .result) (omega arith) (omega arith) (c .stream-malformed .ensures)
+
+pub malformed-spec : {M : Type 1} → statement M
+malformed-spec =
+    tie.close
+    (tie.spec
+    shared-slice-read-turn
+    returns
+    sub-if2
+    mul-if2
+    shared-slice-read-if2
+    returns-2
+    add-stream-malformed
+    mul-stream-malformed
+    add-stream-malformed-2
+    stream-malformed-requires
+    returns-3)

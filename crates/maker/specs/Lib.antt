@@ -1,3 +1,0 @@
--- `maker`: the tables that we make.
-pub mod Made
-pub mod Laws

@@ -1,2 +1,0 @@
-// Reading a table from bytes.
-pub mod read;

@@ -1,2 +1,0 @@
--- The range of a mark's number.
-mod Answers

@@ -1,2 +1,0 @@
--- `records`: the struct of numbers of each answer.
-pub mod Answers

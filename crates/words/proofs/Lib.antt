@@ -1,4 +1,0 @@
--- `Laws` and `Masks` are what a crate above sees.
-mod Word
-pub mod Laws
-pub mod Masks
