@@ -4,7 +4,7 @@ use native.Mathlib.Omega.{arith}
 use Rattle.link.specs.declared.decode.Mark.{Mark}
 use Rattle.link.specs.declared.decode.Mark.the-variants.{Clean, Held, Corrected, Doubtful}
 use Rattle.link.specs.declared.decode.DecodeAnswer.the-variants.{Delivery, NothingYet, Refused}
-use Rattle.link.specs.DecoderAnswers.{markNumber}
+use Rattle.link.specs.Decoder.{markNumber}
 use Rattle.export.specs.Answers.{MARK-RANGE}
 
 pub mark-range : MARK-RANGE

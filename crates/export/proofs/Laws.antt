@@ -1,9 +1,10 @@
 -- What the numbers tell a caller. Assumes nothing.
-use mathlib.Core.Path.{_≡_, refl, ap, _∙_}
+use mathlib.Core.Path.{_≡_, refl, sym, ap, _∙_}
 use mathlib.Core.Bool.{Bool, true, false, cond}
 use mathlib.Core.Logic.{_≢_}
 use mathlib.Core.List.{List, [], _∷_}
 use Prim.Native.Nat.{ℕ, _-_, _*_, _<_}
+use native.Mathlib.Decide.{ℕ-discrete}
 use native.Mathlib.Omega.{arith}
 use lib.ListN.{getD, take}
 use Rattle.tables.specs.declared.table.Table.{Table}
@@ -13,30 +14,39 @@ use Rattle.tables.specs.declared.read.ReadAnswer.the-variants.{Accepted, Refuse
 use Rattle.tables.specs.Code.{Clashes, Suitable}
 use Rattle.tables.specs.Table.{rowsOf, sizesFit, Whole}
 use Rattle.tables.specs.Format.{parse, refused, parsed}
-use Rattle.tables.specs.Reading.{numbers, Says}
+use Rattle.tables.specs.Reading.{numbers, ReadNumbers}
 use Rattle.tables.specs.Made.{columns, triangleRows, making, madeNumbers}
 use Rattle.tables.proofs.Reading.{refused-range}
 use Rattle.tables.proofs.Written.{parses-exactly}
 use Rattle.tables.proofs.Made.{made, is-made, not-made}
 use Rattle.tables.proofs.MadeWhole.{made-whole}
-use Rattle.link.specs.Answers.{Answered}
-use Rattle.link.proofs.Answers.{start-numbers}
-use Rattle.link.proofs.CoderAnswers.{code-numbers}
-use Rattle.link.proofs.DecoderAnswers.{decode-numbers}
-use Rattle.export.specs.Table.{numbersOf, givenBack}
-use Rattle.export.proofs.TableLaws.{given-back}
+use Rattle.link.specs.Refusals.{startFault, coderFault, decoderFault, callNumbers}
+use Rattle.link.specs.Coder.{codedBlock}
+use Rattle.link.specs.Decoder.{decodeValues}
+use Rattle.link.proofs.Refusals.{refused-numbers, taken-numbers}
+use Rattle.link.proofs.Starting.{start-refuses, starts}
+use Rattle.link.proofs.Coder.{code-refuses, codes}
+use Rattle.link.proofs.Decoder.{decode-refuses, decodes}
+use Rattle.export.specs.declared.coded.BurstCoded.{BurstCoded}
+use Rattle.export.specs.declared.decoded.BurstDecoded.{BurstDecoded}
+use Rattle.export.specs.Numbers.{numbersOf, givenBack}
+use Rattle.export.proofs.Numbers.{given-back}
 use Rattle.export.specs.Answers.{numberOf, readingOf, codedOf, decodedOf}
-use Rattle.export.specs.Laws.{READ-TOLD, MADE-TOLD, Told, START-TOLD, CODE-TOLD, DECODE-TOLD}
+use Rattle.export.specs.Laws.{READ-TOLD, MADE-TOLD, START-TOLD, CODE-TOLD, DECODE-TOLD}
 
-said : (bytes : List ℕ) → ((i : ℕ) → getD bytes i 0 < 256) → (a : ReadAnswer) (u : Table) (before : List ℕ) → Says bytes (numbers a) u
+said : (bytes : List ℕ) → ((i : ℕ) → getD bytes i 0 < 256) → (a : ReadAnswer) (u : Table) (before : List ℕ)
+    → ReadNumbers bytes (numbers a) u
     → let r = readingOf (numbers a) in
     let after = givenBack (r .refused) u before in
     (r .refused ≡ 0
-    → (t : Table) × (parse bytes ≡ parsed t) × Suitable (t .span) (rowsOf t) × Whole t × (after ≡ numbersOf t) × (r ≡ readingOf []))
+    → (t : Table) × (parse bytes ≡ parsed t) × Suitable (t .span) (rowsOf t) × Whole t × (after ≡ numbersOf t)
+    × (r ≡ readingOf (0 ∷ [])))
     × (r .refused ≢ 0 → after ≡ before)
-    × (r .refused ≢ 0 → r .refused ≢ 10 → (parse bytes ≡ refused (r .refused) (r .place)) × (r ≡ readingOf (r .refused ∷ r .place ∷ [])))
+    × (r .refused ≢ 0 → r .refused ≢ 10
+    → (parse bytes ≡ refused (r .refused) (r .place)) × (r ≡ readingOf (r .refused ∷ r .place ∷ [])))
     × (r .refused ≡ 10
-    → (t : Table) × (parse bytes ≡ parsed t) × Clashes (t .span) (rowsOf t) (r .l) (r .e0) (r .e1) × (r ≡ readingOf (10 ∷ r .l ∷ r .e0 ∷ r .e1 ∷ [])))
+    → (t : Table) × (parse bytes ≡ parsed t) × Clashes (t .span) (rowsOf t) (r .l) (r .e0) (r .e1)
+    × (r ≡ readingOf (10 ∷ r .l ∷ r .e0 ∷ r .e1 ∷ [])))
 said bytes low Accepted u before s = (
   λ z. (u, s .0, s .1, parses-exactly bytes u low .0 (s .0) .whole, given-back 0 u before .0 refl, refl),
   λ n. absurd (n refl),
@@ -63,43 +73,81 @@ read-told bytes r before after low reads =
     rw (reads .table, reads .answer) told
 
 pub made-told : MADE-TOLD
-made-told n m before = go (sizesFit n 2 m) refl
+made-told n m before r after told = go (sizesFit n 2 m) refl
   where
+    left : (r ≡ 0 → after ≡ numbersOf (making n m .table)) × (r ≢ 0 → after ≡ before)
+    left = (
+      λ z. told .table ∙ given-back r (making n m .table) before .0 z,
+      λ z. told .table ∙ given-back r (making n m .table) before .1 z,
+    )
+
     go : (b : Bool) → sizesFit n 2 m ≡ b
-        → let number = numberOf (madeNumbers (making n m .answer)) in
-        let t = making n m .table in
-        (number ≡ cond b 0 11)
-        × (number ≡ 0
-        → (t .symbols ≡ n) × (t .span ≡ 2 * n) × (t .depth ≡ m) × Suitable (t .span) (rowsOf t) × (rowsOf t ≡ triangleRows (take (n - 1) columns) n)
-        × Whole t × (givenBack number t before ≡ numbersOf t))
-        × (number ≢ 0 → givenBack number t before ≡ before)
+        → let t = making n m .table in
+        (r ≡ cond b 0 11)
+        × (r ≡ 0
+        → (t .symbols ≡ n) × (t .span ≡ 2 * n) × (t .depth ≡ m) × Suitable (t .span) (rowsOf t)
+        × (rowsOf t ≡ triangleRows (take (n - 1) columns) n)
+        × Whole t × (after ≡ numbersOf t))
+        × (r ≢ 0 → after ≡ before)
     go true q =
         let yes = is-made n m q in
         let l = made n m yes in (
-          ap (λ (a : MakeAnswer). numberOf (madeNumbers a)) yes,
-          λ z. (l .0, l .1, l .2, l .4, l .5, made-whole n m yes, given-back _ (making n m .table) before .0 z),
-          λ some. given-back _ (making n m .table) before .1 some,
+          told .number ∙ ap (λ (a : MakeAnswer). numberOf (madeNumbers a)) yes,
+          λ z. (l .0, l .1, l .2, l .4, l .5, made-whole n m yes, left .0 z),
+          left .1,
         )
     go false q =
-        let l = not-made n m q in (
-          ap numberOf (l .0),
-          λ z. absurd (let e = ap numberOf (l .0) in omega arith),
-          λ some. given-back _ (making n m .table) before .1 some,
-        )
+        let e = told .number ∙ ap numberOf (not-made n m q .0) in
+        (e, λ z. absurd (omega arith), left .1)
 
--- a struct that has of a number alone what it has of the number and zeros
-told : {X : Type 0} (f : List ℕ → X) → ((k : ℕ) → f (k ∷ []) ≡ f (k ∷ 0 ∷ 0 ∷ 0 ∷ [])) → (fault : ℕ) (values next before ns after : List ℕ)
-    → Answered fault values next before ns after → Told f fault values next before ns after
-told f short fault values next before ns after a = (
-  λ some. (ap f (a .refused some .0) ∙ short fault, a .refused some .1),
-  λ none. (ap f (a .taken none .0), a .taken none .1),
-)
+-- ---- starts and steps
+
+-- the number of a call is its fault
+number-is : (fault : ℕ) (values : List ℕ) → numberOf (callNumbers fault values) ≡ fault
+number-is fault values = go (ℕ-discrete fault 0)
+  where
+    go : Dec (fault ≡ 0) → numberOf (callNumbers fault values) ≡ fault
+    go (yes z) = ap numberOf (taken-numbers fault values z) ∙ sym z
+    go (no z) = ap numberOf (refused-numbers fault values z)
 
 pub start-told : START-TOLD
-start-told t words s = told numberOf (λ k. refl) _ _ _ _ _ _ (start-numbers t words s)
+start-told t words before r after h =
+    let number = h .number ∙ number-is (startFault t words before) [] in (
+      number,
+      λ some. h .memory ∙ sym (start-refuses t words before (startFault t words before) refl (omega arith) .1),
+      λ none. h .memory ∙ sym (starts t words before (sym number ∙ none) .1),
+    )
 
 pub code-told : CODE-TOLD
-code-told t s b = told codedOf (λ k. refl) _ _ _ _ _ _ (code-numbers t s b)
+code-told t before info r after h =
+    let fault = coderFault t before info in
+    let values = codedBlock t before info ∷ [] in
+    let number : r .refused ≡ fault = ap (λ (x : BurstCoded). x .refused) (h .answer) ∙ number-is fault values in (
+      number,
+      λ some. (
+        h .answer ∙ ap codedOf (refused-numbers fault values (λ z. some (number ∙ z)))
+            ∙ ap (λ (k : ℕ). codedOf (k ∷ 0 ∷ [])) (sym number),
+        h .memory ∙ sym (code-refuses t before info fault refl (omega arith) .1),
+      ),
+      λ none. (
+        h .answer ∙ ap codedOf (taken-numbers fault values (sym number ∙ none)),
+        h .memory ∙ sym (codes t before info (sym number ∙ none) .1),
+      ),
+    )
 
 pub decode-told : DECODE-TOLD
-decode-told t s r = told decodedOf (λ k. refl) _ _ _ _ _ _ (decode-numbers t s r)
+decode-told t before received r after h =
+    let fault = decoderFault t before received in
+    let values = decodeValues t before received in
+    let number : r .refused ≡ fault = ap (λ (x : BurstDecoded). x .refused) (h .answer) ∙ number-is fault values in (
+      number,
+      λ some. (
+        h .answer ∙ ap decodedOf (refused-numbers fault values (λ z. some (number ∙ z)))
+            ∙ ap (λ (k : ℕ). decodedOf (k ∷ 0 ∷ 0 ∷ 0 ∷ [])) (sym number),
+        h .memory ∙ sym (decode-refuses t before received fault refl (omega arith) .1),
+      ),
+      λ none. (
+        h .answer ∙ ap decodedOf (taken-numbers fault values (sym number ∙ none)),
+        h .memory ∙ sym (decodes t before received (sym number ∙ none) .1),
+      ),
+    )

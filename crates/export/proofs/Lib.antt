@@ -1,6 +1,6 @@
 -- What the proofs of several functions use, and the laws.
 mod Copy
-mod TableLaws
+mod Numbers
 mod Answers
 mod Lent
 mod Laws

@@ -1,5 +1,5 @@
--- The struct of numbers of an answer, made of 01's numbers, which the crates below name: `numbers`, `madeNumbers`, `startNumbers`,
--- `codeNumbers` and `decodeNumbers`. What does not apply is 0.
+-- The struct of numbers of an answer, made of 01's numbers, which the crates below name: `numbers`, `madeNumbers` and
+-- `callNumbers`. What does not apply is 0.
 --
 --   numberOf ns       the refusal's number, or 0
 --   codedOf ns        of a coder's step: number, block
@@ -10,7 +10,7 @@ use mathlib.Core.List.{List, [], _∷_}
 use Prim.Native.Nat.{ℕ, _≤_}
 use lib.ListN.{getD}
 use Rattle.link.specs.declared.decode.DecodeAnswer.{DecodeAnswer}
-use Rattle.link.specs.DecoderAnswers.{decodeNumbers}
+use Rattle.link.specs.Decoder.{decodeNumbers}
 use Rattle.export.specs.declared.reading.BurstReading.{BurstReading}
 use Rattle.export.specs.declared.coded.BurstCoded.{BurstCoded}
 use Rattle.export.specs.declared.decoded.BurstDecoded.{BurstDecoded}
@@ -24,7 +24,8 @@ codedOf ns = record { refused = numberOf ns; block = getD ns 1 0 }
 abbrev pub decodedOf : List ℕ → BurstDecoded
 decodedOf ns = record { refused = numberOf ns; info = getD ns 1 0; mark = getD ns 2 0; error = getD ns 3 0 }
 
--- "A refusal returns its number, with place or pair as said": a number and a place, or 10 and the triple "instead of a place"
+-- "A refusal returns its number, with place or pair as said": a number and a place, or 10 and the triple "instead of a
+-- place"
 abbrev pub readingOf : List ℕ → BurstReading
 readingOf [] = record { refused = 0; place = 0; l = 0; e0 = 0; e1 = 0 }
 readingOf (k ∷ []) = record { refused = k; place = 0; l = 0; e0 = 0; e1 = 0 }
@@ -32,6 +33,6 @@ readingOf (k ∷ p ∷ []) = record { refused = k; place = p; l = 0; e0 = 0; e1 
 readingOf (k ∷ l ∷ e0 ∷ []) = record { refused = k; place = 0; l = l; e0 = e0; e1 = 0 }
 readingOf (k ∷ l ∷ e0 ∷ e1 ∷ ns) = record { refused = k; place = 0; l = l; e0 = e0; e1 = e1 }
 
--- 0 to 4, as CR 1 of 02 numbers them; the numbers of refusals have `START-RANGE`, `CODE-RANGE` and `DECODE-RANGE`
+-- 0 to 4, as CR 1 of 02 numbers them; the numbers of refusals have `REFUSED-CALLS`
 abbrev pub MARK-RANGE : Type 0
 MARK-RANGE = (a : DecodeAnswer) → decodedOf (decodeNumbers a) .mark ≤ 4

@@ -1,6 +1,5 @@
--- `export`: a table and the answers as numbers, and what a call from C tells and leaves.
-pub mod Table
-pub mod TableLaws
+-- `export`: a table and the answers as numbers, what the functions that C calls promise, and what that tells a caller.
+pub mod Numbers
 pub mod Answers
-pub mod Reading
+pub mod Promises
 pub mod Laws

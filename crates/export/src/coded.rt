@@ -1,7 +1,7 @@
 // A coder's answer as numbers.
 use link::code::CodeAnswer;
 ghost use mathlib.Core.Path.{_≡_};
-ghost use Rattle.link.specs.CoderAnswers.{codeNumbers};
+ghost use Rattle.link.specs.Coder.{codeNumbers};
 ghost use Rattle.export.specs.Answers.{codedOf};
 
 #[repr(C)]

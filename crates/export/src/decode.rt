@@ -8,24 +8,22 @@ use tables::table::Table;
 ghost use mathlib.Core.Path.{_≡_};
 ghost use lib.ListN.{length, drop};
 ghost use Rattle.tables.specs.Lent.{withRows};
-ghost use Rattle.link.specs.Decoder.{decodeAnswer, decodeMemory};
-ghost use Rattle.link.specs.DecoderAnswers.{decodeNumbers};
-ghost use Rattle.export.specs.Table.{tableOf};
-ghost use Rattle.export.specs.Answers.{decodedOf};
+ghost use Rattle.export.specs.Numbers.{tableOf};
+ghost use Rattle.link.specs.Decoder.{Decodes};
+ghost use Rattle.export.specs.Promises.{DecodesBy};
 
 // The rows are lent where they stand.
 fn step(t: Table, numbers: &[u64], words: &mut [u64], received: u16) -> DecodeAnswer
     requires { ⌜ length (now numbers) ≡ 18 ⌝ }
-    ensures answer { λ r. ⌜ r ≡ decodeAnswer (withRows t (drop 3 (now (numbers .entry)))) (now (words .entry)) received ⌝ }
-    ensures memory { λ r. ⌜ now (words .exit) ≡ decodeMemory (withRows t (drop 3 (now (numbers .entry)))) (now (words .entry)) received ⌝ }
+    ensures { λ r.
+        ⌜ Decodes (withRows t (drop 3 (now (numbers .entry)))) (now (words .entry)) received r (now (words .exit)) ⌝ }
 {
     decode_lent(t, &numbers[3..18], words, received)
 }
 
 #[no_mangle]
 pub extern "C" fn burst_decode(table: &[u64; 18], words: &mut [u64], received: u16) -> BurstDecoded
-    ensures answer { λ r. ⌜ r ≡ decodedOf (decodeNumbers (decodeAnswer (tableOf (now (table .entry))) (now (words .entry)) received)) ⌝ }
-    ensures memory { λ r. ⌜ now (words .exit) ≡ decodeMemory (tableOf (now (table .entry))) (now (words .entry)) received ⌝ }
+    ensures { λ r. ⌜ DecodesBy (tableOf (now (table .entry))) (now (words .entry)) received r (now (words .exit)) ⌝ }
 {
     decoded(step(sizes_of(table), table, words, received))
 }

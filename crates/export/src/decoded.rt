@@ -4,7 +4,7 @@ use link::decode::Delivered;
 use link::decode::Mark;
 ghost use mathlib.Core.Path.{_≡_};
 ghost use mathlib.Core.List.{_∷_};
-ghost use Rattle.link.specs.DecoderAnswers.{recordNumbers, decodeNumbers};
+ghost use Rattle.link.specs.Decoder.{recordNumbers, decodeNumbers};
 ghost use Rattle.export.specs.Answers.{decodedOf};
 
 #[repr(C)]

@@ -3,7 +3,7 @@ use crate::reading::BurstReading;
 use crate::reading::reading;
 use crate::table::give_back;
 use tables::read::read;
-ghost use Rattle.export.specs.Reading.{Reads};
+ghost use Rattle.export.specs.Promises.{Reads};
 
 #[no_mangle]
 pub extern "C" fn burst_read(bytes: &[u8], table: &mut [u64; 18]) -> BurstReading

@@ -1,7 +1,7 @@
 // The answer of a start as a number.
 use link::start::StartAnswer;
 ghost use mathlib.Core.Path.{_≡_};
-ghost use Rattle.link.specs.Answers.{startNumbers};
+ghost use Rattle.link.specs.Start.{startNumbers};
 ghost use Rattle.export.specs.Answers.{numberOf};
 
 pub(crate) fn started(answer: StartAnswer) -> u64

@@ -2,7 +2,7 @@
 use tables::table::Table;
 ghost use mathlib.Core.Path.{_≡_};
 ghost use lib.ListN.{length, drop};
-ghost use Rattle.export.specs.Table.{tableOf, sizesOf, numbersOf, givenBack};
+ghost use Rattle.export.specs.Numbers.{tableOf, sizesOf, numbersOf, givenBack};
 
 fn rows_of(numbers: &[u64]) -> [u64; 15]
     requires { ⌜ length (now numbers) ≡ 18 ⌝ }

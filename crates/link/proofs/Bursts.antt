@@ -7,7 +7,8 @@ use Rattle.link.specs.Recovery.{Stretch, Apart, Chosen, Within, Bursts, 
 
 module _ (wrong : ℕ → Type 0) (long gap count : ℕ) where
   -- what lies in a later burst lies beyond the gap
-  beyond : (b : Stretch) (bs : List Stretch) → Apart gap b bs → Chosen wrong long gap count bs → (q : ℕ) → Within q bs → b .last + gap < q
+  beyond : (b : Stretch) (bs : List Stretch) → Apart gap b bs → Chosen wrong long gap count bs → (q : ℕ) → Within q bs
+      → b .last + gap < q
   beyond b [] a c q h = absurd h
   beyond b (d ∷ bs) a c q (inl h) = omega arith
   beyond b (d ∷ bs) a c q (inr h) =
@@ -15,7 +16,8 @@ module _ (wrong : ℕ → Type 0) (long gap count : ℕ) where
       let o = c .0 .order in
       omega arith
 
-  far-apart : (bs : List Stretch) → Chosen wrong long gap count bs → (p q : ℕ) → p < q → Within p bs → Within q bs → (q < p + long) ⊎ (p + gap < q)
+  far-apart : (bs : List Stretch) → Chosen wrong long gap count bs → (p q : ℕ) → p < q → Within p bs → Within q bs
+      → (q < p + long) ⊎ (p + gap < q)
   far-apart [] c p q l a b = absurd a
   far-apart (d ∷ bs) c p q l (inl a) (inl b) = inl (let s = c .0 .short in omega arith)
   far-apart (d ∷ bs) c p q l (inl a) (inr b) = inr (let z = beyond d bs (c .1) (c .2) q b in omega arith)

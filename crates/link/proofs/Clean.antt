@@ -8,24 +8,27 @@ use native.Mathlib.Decide.{decLt}
 use native.Mathlib.Omega.{arith}
 use lib.ListN.{length}
 use Rattle.tables.specs.declared.table.Table.{Table}
-use Rattle.tables.proofs.Bounds.{fit-facts}
+use Rattle.tables.proofs.Fit.{fit-facts}
 use Rattle.tables.proofs.Fit.{zeros-at}
-use Rattle.link.specs.Start.{started}
-use Rattle.link.specs.Memory.{coderWords, turnOf, decoderWords}
-use Rattle.link.specs.Coder.{pendingAt, coderFault, coderNext}
-use Rattle.link.specs.Decoder.{fillOf, delayOf, streamAt, pendingOf, syndromeOf, delayedOf, decoderFault, decoderNext}
+use Rattle.link.specs.Memory.{started, coderWords, turnOf, decoderWords, pendingAt, fillOf, delayOf, streamAt}
+use Rattle.link.specs.Memory.{pendingOf, syndromeOf, delayedOf}
+use Rattle.link.specs.Refusals.{coderFault, decoderFault}
+use Rattle.link.specs.Coder.{coderNext, codeMemory}
+use Rattle.link.specs.Decoder.{decoderNext, decodeMemory}
 use Rattle.link.specs.Runs.{Call, Sent, Taken, sentBy, takenBy}
 use Rattle.link.specs.Recovery.{Wrong, Bursts, Recovered, Running}
 use Rattle.link.specs.Massey.{blockSent, blockTaken}
 use Rattle.link.specs.Clean.{Clean, Undisturbed, CLEAN, STARTED-CLEAN}
-use Rattle.link.proofs.Runs.{before-first, coderBefore, decoderBefore}
+use Rattle.link.proofs.Runs.{before-first, coder-memory, decoder-memory, coderBefore, decoderBefore}
 use Rattle.link.proofs.OneTable.{from-one}
 use Rattle.link.proofs.Bursts.{bursts-separated}
 use Rattle.link.proofs.Fade.{WrongApart, Sure, delivers, delivers-first, clean-first}
 use Rattle.link.proofs.Recovery.{answer, separated, linked, recovered}
 
-module _ {t : Table} {coder decoder : List ℕ} {cs ds : List Call} (f : Running t coder decoder cs ds) (c : Clean t coder decoder)
-    (b : Bursts (Wrong (sentBy coder cs) (takenBy decoder ds)) (t .depth) (delayOf t) (length (takenBy decoder ds))) where
+module _ {t : Table} {coder decoder : List ℕ} {cs ds : List Call} (f : Running t coder decoder cs ds)
+    (c : Clean t coder decoder)
+    (b : Bursts (Wrong (sentBy coder cs) (takenBy decoder ds)) (t .depth) (delayOf t)
+    (length (takenBy decoder ds))) where
   abbrev sent : List Sent
   sent = sentBy coder cs
 
@@ -36,10 +39,10 @@ module _ {t : Table} {coder decoder : List ℕ} {cs ds : List Call} (f : Running
   before = decoderBefore decoder ds
 
   decoder-first : before 0 ≡ decoder
-  decoder-first = before-first decoderFault decoderNext decoder ds
+  decoder-first = before-first decoderFault decoderNext decodeMemory decoder-memory decoder ds
 
   coder-first : coderBefore coder cs 0 ≡ coder
-  coder-first = before-first coderFault coderNext coder cs
+  coder-first = before-first coderFault coderNext codeMemory coder-memory coder cs
 
   syndromes : (k : ℕ) → k < t .depth → syndromeOf t (before 0) k ≡ 0
   syndromes k h = ap (λ (s : List ℕ). syndromeOf t s k) decoder-first ∙ c .syndrome k h
@@ -61,7 +64,8 @@ module _ {t : Table} {coder decoder : List ℕ} {cs ds : List Call} (f : Running
   past : (p : ℕ) → p < length taken → delayOf t ≤ p → Recovered sent taken (delayOf t) (suc p)
   past p h late =
       let z = zero-mul (t .depth) in
-      recovered f p late (λ q e. delivers (linked f) apart 0 none (clean-first (linked f) syndromes pendings) p q h (omega arith) e)
+      recovered f p late
+      (λ q e. delivers (linked f) apart 0 none (clean-first (linked f) syndromes pendings) p q h (omega arith) e)
 
   early : (p : ℕ) → p < length taken → p < delayOf t → Undisturbed t decoder taken (suc p)
   early p h few = go (decLt (fillOf (before p)) (delayOf t))
@@ -71,13 +75,17 @@ module _ {t : Table} {coder decoder : List ℕ} {cs ds : List Call} (f : Running
       go (no full) =
           let z = zero-mul (t .depth) in
           inr
-          (subst (λ (q : ℕ). Sure (answer f p) (delayedOf t decoder ((turnOf decoder + q) % t .depth) (q / t .depth))) (sym (from-one p))
-          (subst (λ (s : List ℕ). Sure (answer f p) (delayedOf t s ((turnOf s + p) % t .depth) (p / t .depth))) decoder-first
-          (delivers-first (linked f) apart 0 none (clean-first (linked f) syndromes pendings) p h (omega arith) few (omega arith))))
+          (subst (λ (q : ℕ). Sure (answer f p) (delayedOf t decoder ((turnOf decoder + q) % t .depth) (q / t .depth)))
+          (sym (from-one p))
+          (subst (λ (s : List ℕ). Sure (answer f p) (delayedOf t s ((turnOf s + p) % t .depth) (p / t .depth)))
+          decoder-first
+          (delivers-first (linked f) apart 0 none (clean-first (linked f) syndromes pendings) p h (omega arith) few
+          (omega arith))))
 
 pub clean : CLEAN
 clean t coder decoder cs ds f c b zero from h = absurd (omega arith)
-clean t coder decoder cs ds f c b (suc p) from h = (λ late. past f c b p (omega arith) (omega arith), λ few. early f c b p (omega arith) (omega arith))
+clean t coder decoder cs ds f c b (suc p) from h =
+    (λ late. past f c b p (omega arith) (omega arith), λ few. early f c b p (omega arith) (omega arith))
 
 -- ---- started memories
 

@@ -1,16 +1,19 @@
--- What a coder step that is taken does to each word, as records over n, N, m and the information's rows. Assumes nothing.
+-- The coder's step: its refusals, and what a step that is taken does to each word, as records over n, N, m and the
+-- information's rows. Assumes nothing.
 --
+--   coder-fault               the chain of tests
+--   code-refuses, codes, codes-so   answer and memory of a step that is refused and of one that is not, and the promise
+--   code-lent-taken           a table whose rows are lent
 --   CoderTaken, coder-taken   what the tests of a step that is taken say
 --   CoderStep, coder-step     what the step does
---   coded-fits                a coded block has 16 bits at most
+--   coded-below, coded-fits   a coded block is below 2^n, and has 16 bits at most
 --   coder-length              the length stays
-use mathlib.Core.Path.{_≡_, refl, _∙_}
-use mathlib.Core.Bool.{not}
+use mathlib.Core.Path.{_≡_, refl, ap, _∙_, subst}
+use mathlib.Core.Bool.{cond, not}
 use mathlib.Core.Logic.{_≢_}
-use mathlib.Core.List.{List}
+use mathlib.Core.List.{List, [], _∷_}
 use Prim.Native.Nat.{ℕ, suc, _+_, _-_, _*_, _/_, _^_, _≤_, _<_}
 use native.Mathlib.Omega.{arith}
-use borrow.Author.Tests.{not-false, eqb-true, leb-false}
 use lib.Dec.{leb, eqb}
 use lib.ListN.{length, set, length-set}
 use lib.Seq.{getD-set-same, getD-set-other}
@@ -18,17 +21,59 @@ use lib.Pow.{pow-mono}
 use Rattle.span.specs.Word.{odd, digit}
 use Rattle.tables.specs.declared.table.Table.{Table}
 use Rattle.tables.specs.Table.{fit, infoRows}
-use Rattle.tables.proofs.Bounds.{Fitting, fit-facts}
-use Rattle.link.specs.Stream.{joining, nextTurn}
-use Rattle.link.specs.Memory.{coderWords, turnOf}
-use Rattle.link.specs.Coder.{pendingAt, coderMalformed, coderFault, coderJoining, codedBlock, coderNext}
+use Rattle.tables.specs.Lent.{withRows, lent}
+use Rattle.link.specs.declared.code.CodeAnswer.{CodeAnswer}
+use Rattle.link.specs.declared.code.CodeAnswer.the-variants.{Coded, Refused}
+use Rattle.link.specs.Coder.{codeAnswer, codeMemory, codeNumbers, Codes, CODED-BELOW, coderJoining, codedBlock}
+use Rattle.link.specs.Coder.{coderNext}
+use Rattle.tables.proofs.Fit.{Fits}
+use Rattle.link.specs.Memory.{joining, nextTurn, coderWords, turnOf, pendingAt}
+use Rattle.link.specs.Refusals.{coderMalformed, coderFault}
 use Rattle.span.proofs.Masks.{topped-lt}
-use Rattle.link.proofs.Faults.{or-none, four-none}
-use Rattle.link.proofs.Fits.{Fits, table-fits}
+use Rattle.link.proofs.Malformed.{fine-coder}
+use Rattle.link.proofs.Refusals.{step-fault, step-passed, refuses, takes, call-numbers, zero-refused, lent-taken}
+
+-- ---- refusals
+
+pub coder-fault : (t : Table) (s : List ℕ) (b : ℕ)
+    → coderFault t s b
+    ≡ cond (not (fit t)) 12 (cond (not (eqb (length s) (coderWords t))) 13
+    (cond (coderMalformed t s) 14 (cond (leb (2 ^ (t .symbols - 1)) b) 15 0)))
+unfolding coderFault
+coder-fault t s b = step-fault t (coderWords t) (coderMalformed t s) (2 ^ (t .symbols - 1)) s b
+
+pub code-refuses : (t : Table) (s : List ℕ) (b : ℕ) (k : ℕ) → coderFault t s b ≡ k → 0 < k
+    → (Refused k ≡ codeAnswer t s b) × (s ≡ codeMemory t s b)
+unfolding codeAnswer codeMemory
+code-refuses t s b = refuses Refused (coderFault t s b) (Coded (codedBlock t s b)) (coderNext t s b) s
+
+pub codes : (t : Table) (s : List ℕ) (b : ℕ) → coderFault t s b ≡ 0
+    → (Coded (codedBlock t s b) ≡ codeAnswer t s b) × (coderNext t s b ≡ codeMemory t s b)
+unfolding codeAnswer codeMemory
+codes t s b = takes Refused (coderFault t s b) (Coded (codedBlock t s b)) (coderNext t s b) s
+
+-- answer and memory are all that is promised: the numbers follow
+pub codes-so : (t : Table) (s : List ℕ) (b : ℕ) (r : CodeAnswer) (after : List ℕ) → r ≡ codeAnswer t s b
+    → after ≡ codeMemory t s b → Codes t s b r after
+unfolding codeAnswer
+codes-so t s b r after p q = record {
+  answer = p;
+  memory = q;
+  numbers = ap codeNumbers p
+      ∙ call-numbers codeNumbers (coderFault t s b) (Coded (codedBlock t s b)) Refused
+      (codedBlock t s b ∷ []) refl (λ k. refl);
+}
+
+pub code-lent-taken : (t : Table) (rows s : List ℕ) (b : ℕ) → coderFault (lent t rows) s b ≡ 0
+    → (lent t rows ≡ withRows t rows) × (length rows ≡ 15)
+unfolding coderFault
+code-lent-taken t rows s b = lent-taken (λ (u : Table). coderFault u s b) (zero-refused _ _ _ s b) t rows
+
+-- ---- a step that is taken
 
 -- what the tests of a step that is taken say
 pub record CoderTaken (t : Table) (s : List ℕ) (b : ℕ) : Type 0 where
-  pub sizes : Fitting t
+  pub sizes : Fits (t .symbols) (t .span) (t .depth) (infoRows t)
   pub size : length s ≡ 1 + t .depth
   pub turn : turnOf s < t .depth
   pub pending : pendingAt s (turnOf s) < 2 ^ (t .span - 1)
@@ -37,18 +82,12 @@ pub record CoderTaken (t : Table) (s : List ℕ) (b : ℕ) : Type 0 where
 pub coder-taken : (t : Table) (s : List ℕ) (b : ℕ) → coderFault t s b ≡ 0 → CoderTaken t s b
 unfolding coderFault
 coder-taken t s b e =
-    let f = four-none (not (fit t)) (not (eqb (length s) (coderWords t))) (coderMalformed t s) (leb (2 ^ (t .symbols - 1)) b) e in
-    let g = or-none (leb (t .depth) (turnOf s)) (leb (2 ^ (t .span - 1)) (pendingAt s (turnOf s))) (f .2) in
-    record {
-      sizes = fit-facts t (not-false (fit t) (f .0));
-      size = eqb-true (length s) (coderWords t) (not-false (eqb (length s) (coderWords t)) (f .1));
-      turn = leb-false (t .depth) (turnOf s) (g .0);
-      pending = leb-false (2 ^ (t .span - 1)) (pendingAt s (turnOf s)) (g .1);
-      info = leb-false (2 ^ (t .symbols - 1)) b (f .3);
-    }
+    let p = step-passed t (coderWords t) (coderMalformed t s) (2 ^ (t .symbols - 1)) s b e in
+    let g = fine-coder t s (p .formed) in
+    record { sizes = p .sizes; size = p .size; turn = g .0; pending = g .1; info = p .block }
 
 pub record CoderStep (n N m : ℕ) (infos : List ℕ) (s : List ℕ) (b c : ℕ) (after : List ℕ) : Type 0 where
-  pub fits : Fits n N infos
+  pub fits : Fits n N m infos
   pub turn-lt : turnOf s < m
   pub pending-lt : pendingAt s (turnOf s) < 2 ^ (N - 1)
   pub info-lt : b < 2 ^ (n - 1)
@@ -67,7 +106,7 @@ coder-step t s b e =
     let w = joining (infoRows t) (pendingAt s (turnOf s)) b / 2 in
     let to = nextTurn (t .depth) (turnOf s) in
     record {
-      fits = table-fits t (k .sizes);
+      fits = k .sizes;
       turn-lt = turn;
       pending-lt = k .pending;
       info-lt = k .info;
@@ -81,14 +120,18 @@ coder-step t s b e =
           ∙ getD-set-other s (1 + turnOf s) (1 + k) w 0 (λ (z : 1 + k ≡ 1 + turnOf s). ne (omega arith));
     }
 
--- the coded block has 16 bits at most
-pub coded-fits : (t : Table) (s : List ℕ) (b : ℕ) → coderFault t s b ≡ 0 → codedBlock t s b < 2 ^ 16
+pub coded-below : CODED-BELOW
 unfolding codedBlock
-coded-fits t s b e =
+coded-below t s b e =
     let k = coder-taken t s b e in
-    let l = topped-lt (t .symbols - 1) b (odd (coderJoining t s b)) (k .info) in
-    let n : suc (t .symbols - 1) ≤ 16 = omega arith in
-    let most = pow-mono n in
+    let n : suc (t .symbols - 1) ≡ t .symbols = (let z = k .sizes in omega arith) in
+    subst (λ (j : ℕ). codedBlock t s b < 2 ^ j) n (topped-lt (t .symbols - 1) b (odd (coderJoining t s b)) (k .info))
+
+-- so it has 16 bits at most
+pub coded-fits : (t : Table) (s : List ℕ) (b : ℕ) → coderFault t s b ≡ 0 → codedBlock t s b < 2 ^ 16
+coded-fits t s b e =
+    let most = pow-mono (coder-taken t s b e .sizes .n-to) in
+    let l = coded-below t s b e in
     omega arith
 
 pub coder-length : (t : Table) (s : List ℕ) (b : ℕ) → length (coderNext t s b) ≡ length s

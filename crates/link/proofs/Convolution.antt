@@ -1,5 +1,6 @@
--- One stream as sequences, its blocks counted from 0: x is the blocks, P the pending word before each, and P (t + 1) = (P t ⊕ image of x t) / 2.
--- Bit 0 of P t ⊕ image of x t is then the convolution of the rows and the blocks. Assumes nothing.
+-- One stream as sequences, its blocks counted from 0: x is the blocks, P the pending word before each, and P
+-- (t + 1) = (P t ⊕ image of x t) / 2. Bit 0 of P t ⊕ image of x t is then the convolution of the rows and the blocks.
+-- Assumes nothing.
 --
 --   sum-ext, sum-false, sum-shift, sum-xor, sum-swap   laws of the exclusive or over an index range
 --   convolution-xor       the convolution is linear in the blocks
@@ -19,7 +20,8 @@ use lib.ListN.{length, getD}
 use lib.Pow.{pow-pos, pow-mono, shr-shr}
 use Rattle.span.specs.Word.{_⊕_, odd, bit, sel}
 use Rattle.span.specs.Combination.{combination}
-use Rattle.span.proofs.Word.{xor-false-l, xor-comm-bool, xor-swap-bool, xor-zero-l, xor-zero-r, xor-lt, bit-odd, bit-zero, bit-suc, bit-xor, bit-none}
+use Rattle.span.proofs.Word.{xor-false-l, xor-comm-bool, xor-swap-bool, xor-zero-l, xor-zero-r, xor-lt, bit-odd}
+use Rattle.span.proofs.Word.{bit-zero, bit-suc, bit-xor, bit-none, and-false}
 use Rattle.span.proofs.Combination.{combination-zero, combination-append, combination-last, combination-low}
 use Rattle.link.specs.Massey.{sumOver, rowOf, symbol, ago, convolution, past, pastSum, HoldsPast}
 
@@ -28,10 +30,6 @@ use Rattle.link.specs.Massey.{sumOver, rowOf, symbol, ago, convolution, 
 and-xor : (a b c : Bool) → a && xor b c ≡ xor (a && b) (a && c)
 and-xor true b c = refl
 and-xor false b c = sym (xor-false-l false)
-
-and-false : (a : Bool) → a && false ≡ false
-and-false true = refl
-and-false false = refl
 
 sum-ext : (from count : ℕ) (f g : ℕ → Bool) → ((i : ℕ) → f i ≡ g i) → sumOver from count f ≡ sumOver from count g
 unfolding sumOver
@@ -52,18 +50,21 @@ sum-head : (from count : ℕ) (f : ℕ → Bool) → xor (f from) (sumOver (suc 
 unfolding sumOver
 sum-head from count f = refl
 
-sum-xor : (from count : ℕ) (f g : ℕ → Bool) → sumOver from count (λ i. xor (f i) (g i)) ≡ xor (sumOver from count f) (sumOver from count g)
+sum-xor : (from count : ℕ) (f g : ℕ → Bool)
+    → sumOver from count (λ i. xor (f i) (g i)) ≡ xor (sumOver from count f) (sumOver from count g)
 unfolding sumOver
 sum-xor from zero f g = sym (xor-false-l false)
 sum-xor from (suc count) f g =
     ap (xor (xor (f from) (g from))) (sum-xor (suc from) count f g)
     ∙ xor-swap-bool (f from) (g from) (sumOver (suc from) count f) (sumOver (suc from) count g)
 
-sum-swap : (a m b n : ℕ) (f : ℕ → ℕ → Bool) → sumOver a m (λ i. sumOver b n (f i)) ≡ sumOver b n (λ k. sumOver a m (λ i. f i k))
+sum-swap : (a m b n : ℕ) (f : ℕ → ℕ → Bool)
+    → sumOver a m (λ i. sumOver b n (f i)) ≡ sumOver b n (λ k. sumOver a m (λ i. f i k))
 unfolding sumOver
 sum-swap a zero b n f = sym (sum-false b n (λ k. false) (λ k. refl))
 sum-swap a (suc m) b n f =
-    ap (xor (sumOver b n (f a))) (sum-swap (suc a) m b n f) ∙ sym (sum-xor b n (f a) (λ k. sumOver (suc a) m (λ i. f i k)))
+    ap (xor (sumOver b n (f a))) (sum-swap (suc a) m b n f)
+    ∙ sym (sum-xor b n (f a) (λ k. sumOver (suc a) m (λ i. f i k)))
 
 -- ---- linear
 
@@ -78,7 +79,8 @@ pub convolution-xor : (n N : ℕ) (rows : List ℕ) (x y : ℕ → ℕ) (b : ℕ
     → convolution n N rows (λ i. x i ⊕ y i) b ≡ xor (convolution n N rows x b) (convolution n N rows y b)
 unfolding convolution
 convolution-xor n N rows x y b =
-    sum-ext 1 n (λ j. sumOver 0 N (term (λ i. x i ⊕ y i) j)) (λ j. xor (sumOver 0 N (term x j)) (sumOver 0 N (term y j)))
+    sum-ext 1 n (λ j. sumOver 0 N (term (λ i. x i ⊕ y i) j))
+    (λ j. xor (sumOver 0 N (term x j)) (sumOver 0 N (term y j)))
     (λ j. sum-ext 0 N (term (λ i. x i ⊕ y i) j) (λ k. xor (term x j k) (term y j k))
     (λ k. ap (λ (z : ℕ). bit k (rowOf rows j) && symbol j z) (ago-xor x y b k)
     ∙ ap (λ (s : Bool). bit k (rowOf rows j) && s) (bit-xor (j - 1) (ago x b k) (ago y b k))
@@ -98,7 +100,8 @@ combination-cons : (w : ℕ) (ws : List ℕ) (c : ℕ) → combination (w ∷ ws
 combination-cons w ws c =
     combination-append (w ∷ []) ws c
     ∙ ap (λ (z : ℕ). z ⊕ combination ws (c / 2))
-    (combination-last [] w c ∙ ap₂ (λ (z : ℕ) (s : Bool). z ⊕ sel s w) (combination-none c) (bit-zero c) ∙ xor-zero-l (sel (odd c) w))
+    (combination-last [] w c ∙ ap₂ (λ (z : ℕ) (s : Bool). z ⊕ sel s w) (combination-none c) (bit-zero c)
+    ∙ xor-zero-l (sel (odd c) w))
 
 bit-nothing : (k : ℕ) → bit k 0 ≡ false
 bit-nothing k = bit-none k 0 (pow-pos k)
@@ -144,9 +147,11 @@ ago-now : (x : ℕ → ℕ) (t : ℕ) → ago x t 0 ≡ x t
 ago-now x t = ap (λ (s : Bool). cond s (x (t - 0)) 0) (leb·zero t) ∙ ap x (let e : t - 0 ≡ t = omega arith in e)
 
 ago-later : (x : ℕ → ℕ) (t k : ℕ) → ago x (suc t) (suc k) ≡ ago x t k
-ago-later x t k = ap₂ (λ (s : Bool) (i : ℕ). cond s (x i) 0) (leb·suc-suc k t) (let e : suc t - suc k ≡ t - k = omega arith in e)
+ago-later x t k =
+    ap₂ (λ (s : Bool) (i : ℕ). cond s (x i) 0) (leb·suc-suc k t) (let e : suc t - suc k ≡ t - k = omega arith in e)
 
-module _ (n N : ℕ) (rows : List ℕ) (x P : ℕ → ℕ) (count : ℕ) (size : length rows ≤ n) (image-lt : (c : ℕ) → combination rows c < 2 ^ N) (first : P 0 ≡ 0)
+module _ (n N : ℕ) (rows : List ℕ) (x P : ℕ → ℕ) (count : ℕ) (size : length rows ≤ n)
+    (image-lt : (c : ℕ) → combination rows c < 2 ^ N) (first : P 0 ≡ 0)
     (next : (t : ℕ) → suc t < count → P (suc t) ≡ (P t ⊕ combination rows (x t)) / 2) where
   pending-lt : (t : ℕ) → t < count → P t < 2 ^ N
   pending-lt zero h = rw first (pow-pos N)
@@ -159,14 +164,17 @@ module _ (n N : ℕ) (rows : List ℕ) (x P : ℕ → ℕ) (count : ℕ) (size :
   abbrev put : ℕ → ℕ → ℕ → Bool
   put t i k = bit (i + k) (combination rows (ago x t k))
 
-  put-now : (t i M : ℕ) → bit i (P t) ≡ sumOver 0 M (λ k. put t i (suc k)) → bit i (P t ⊕ combination rows (x t)) ≡ sumOver 0 (suc M) (put t i)
+  put-now : (t i M : ℕ) → bit i (P t) ≡ sumOver 0 M (λ k. put t i (suc k))
+      → bit i (P t ⊕ combination rows (x t)) ≡ sumOver 0 (suc M) (put t i)
   put-now t i M rest =
       bit-xor i (P t) (combination rows (x t)) ∙ xor-comm-bool (bit i (P t)) (bit i (combination rows (x t)))
-      ∙ ap₂ xor (ap₂ (λ (p c : ℕ). bit p (combination rows c)) (sym (add-zero i)) (sym (ago-now x t))) (rest ∙ sym (sum-shift 0 M (put t i)))
+      ∙ ap₂ xor (ap₂ (λ (p c : ℕ). bit p (combination rows c)) (sym (add-zero i)) (sym (ago-now x t)))
+      (rest ∙ sym (sum-shift 0 M (put t i)))
       ∙ sum-head 0 M (put t i)
 
   -- bit i of that word is what the blocks back to the start put there, as far as their images reach, if it is so of P t
-  joined-bit : (t i M : ℕ) → N ≤ i + M → t < count → ((K : ℕ) → N ≤ i + suc K → bit i (P t) ≡ sumOver 0 K (λ k. put t i (suc k)))
+  joined-bit : (t i M : ℕ) → N ≤ i + M → t < count
+      → ((K : ℕ) → N ≤ i + suc K → bit i (P t) ≡ sumOver 0 K (λ k. put t i (suc k)))
       → bit i (P t ⊕ combination rows (x t)) ≡ sumOver 0 M (put t i)
   unfolding sumOver
   joined-bit t i zero e h rest =
@@ -181,12 +189,14 @@ module _ (n N : ℕ) (rows : List ℕ) (x P : ℕ → ℕ) (count : ℕ) (size :
   pending-bit zero i M e h =
       ap (bit i) first ∙ bit-nothing i
       ∙ sym (sum-false 0 M (λ k. put 0 i (suc k))
-      (λ k. ap (λ (c : ℕ). bit (i + suc k) (combination rows c)) (ago-none x k) ∙ ap (bit (i + suc k)) (combination-zero rows) ∙ bit-nothing (i + suc k)))
+      (λ k. ap (λ (c : ℕ). bit (i + suc k) (combination rows c)) (ago-none x k)
+      ∙ ap (bit (i + suc k)) (combination-zero rows) ∙ bit-nothing (i + suc k)))
   pending-bit (suc t) i M e h =
       ap (bit i) (next t h) ∙ sym (bit-suc i (P t ⊕ combination rows (x t)))
       ∙ joined-bit t (suc i) M (omega arith) (omega arith) (λ K f. pending-bit t (suc i) K f (omega arith))
       ∙ sum-ext 0 M (put t (suc i)) (λ k. put (suc t) i (suc k))
-      (λ k. ap₂ (λ (p c : ℕ). bit p (combination rows c)) (let z : suc i + k ≡ i + suc k = omega arith in z) (sym (ago-later x t k)))
+      (λ k. ap₂ (λ (p c : ℕ). bit p (combination rows c)) (let z : suc i + k ≡ i + suc k = omega arith in z)
+      (sym (ago-later x t k)))
 
   pending-past : (t : ℕ) → t < count → (k : ℕ) → bit k (P t) ≡ pastSum n N rows x t k
   unfolding pastSum
@@ -200,12 +210,16 @@ module _ (n N : ℕ) (rows : List ℕ) (x P : ℕ → ℕ) (count : ℕ) (size :
   unfolding convolution
   stream-convolution t h =
       sym (bit-zero (P t ⊕ combination rows (x t))) ∙ joined-bit t 0 N (omega arith) h (λ K f. pending-bit t 0 K f h)
-      ∙ sum-ext 0 N (λ k. bit (0 + k) (combination rows (ago x t k))) (λ k. sumOver 1 n (λ j. bit k (rowOf rows j) && symbol j (ago x t k)))
-      (λ k. ap (λ (p : ℕ). bit p (combination rows (ago x t k))) (let e : 0 + k ≡ k = omega arith in e) ∙ combination-bit n rows k (ago x t k) size)
+      ∙ sum-ext 0 N (λ k. bit (0 + k) (combination rows (ago x t k)))
+      (λ k. sumOver 1 n (λ j. bit k (rowOf rows j) && symbol j (ago x t k)))
+      (λ k. ap (λ (p : ℕ). bit p (combination rows (ago x t k))) (let e : 0 + k ≡ k = omega arith in e)
+      ∙ combination-bit n rows k (ago x t k) size)
       ∙ sym (sum-swap 1 n 0 N (λ j k. bit k (rowOf rows j) && symbol j (ago x t k)))
 
--- The blocks before block t alone. Their pending words are P up to block t; then nothing joins, and each is the one before it halved.
-module _ (n N : ℕ) (rows : List ℕ) (x P : ℕ → ℕ) (count : ℕ) (size : length rows ≤ n) (image-lt : (c : ℕ) → combination rows c < 2 ^ N) (first : P 0 ≡ 0)
+-- The blocks before block t alone. Their pending words are P up to block t; then nothing joins, and each is the one
+-- before it halved.
+module _ (n N : ℕ) (rows : List ℕ) (x P : ℕ → ℕ) (count : ℕ) (size : length rows ≤ n)
+    (image-lt : (c : ℕ) → combination rows c < 2 ^ N) (first : P 0 ≡ 0)
     (next : (t : ℕ) → suc t < count → P (suc t) ≡ (P t ⊕ combination rows (x t)) / 2) (t : ℕ) (h : t < count) where
   past-before : (c : ℕ) → c < t → past x t c ≡ x c
   past-before c l = ap (λ (s : Bool). cond s (x c) 0) (lt-ltb c t l)
@@ -219,12 +233,14 @@ module _ (n N : ℕ) (rows : List ℕ) (x P : ℕ → ℕ) (count : ℕ) (size :
   left-before : (c : ℕ) → c ≤ t → left c ≡ P c
   unfolding left
   left-before c l =
-      ap₂ (λ (i d : ℕ). P i / 2 ^ d) (let e : c - (c - t) ≡ c = omega arith in e) (let e : c - t ≡ 0 = omega arith in e) ∙ div-one (P c)
+      ap₂ (λ (i d : ℕ). P i / 2 ^ d) (let e : c - (c - t) ≡ c = omega arith in e) (let e : c - t ≡ 0 = omega arith in e)
+      ∙ div-one (P c)
 
   left-after : (d : ℕ) → left (t + d) ≡ P t / 2 ^ d
   unfolding left
   left-after d =
-      ap₂ (λ (i d : ℕ). P i / 2 ^ d) (let e : t + d - (t + d - t) ≡ t = omega arith in e) (let e : t + d - t ≡ d = omega arith in e)
+      ap₂ (λ (i d : ℕ). P i / 2 ^ d) (let e : t + d - (t + d - t) ≡ t = omega arith in e)
+      (let e : t + d - t ≡ d = omega arith in e)
 
   left-joined : (c : ℕ) → t ≤ c → left c ⊕ combination rows (past x t c) ≡ left c
   left-joined c l = ap (λ (z : ℕ). left c ⊕ z) (past-after c l) ∙ xor-zero-r (left c)
@@ -240,12 +256,14 @@ module _ (n N : ℕ) (rows : List ℕ) (x P : ℕ → ℕ) (count : ℕ) (size :
           let d = c - t in
           let here : t + d ≡ c = omega arith in
           let on : suc c ≡ t + (d + 1) = omega arith in
-          ap left on ∙ left-after (d + 1) ∙ sym (shr-shr (P t) d 1) ∙ sym (ap (λ (z : ℕ). z / 2) (left-joined c (omega arith) ∙ ap left (sym here) ∙ left-after d))
+          ap left on ∙ left-after (d + 1) ∙ sym (shr-shr (P t) d 1)
+          ∙ sym (ap (λ (z : ℕ). z / 2) (left-joined c (omega arith) ∙ ap left (sym here) ∙ left-after d))
 
   past-bit : (k : ℕ) → bit k (P t) ≡ convolution n N rows (past x t) (t + k)
   past-bit k =
       bit-odd k (P t) ∙ ap odd (sym (left-joined (t + k) (omega arith) ∙ left-after k))
-      ∙ stream-convolution n N rows (past x t) left (suc (t + k)) size image-lt (left-before 0 (omega arith) ∙ first) (λ c l. left-next c) (t + k) (omega arith)
+      ∙ stream-convolution n N rows (past x t) left (suc (t + k)) size image-lt (left-before 0 (omega arith) ∙ first)
+      (λ c l. left-next c) (t + k) (omega arith)
 
   pub stream-past : HoldsPast n N rows x t (P t)
   stream-past k = (past-bit k, pending-past n N rows x P count size image-lt first next t h k)

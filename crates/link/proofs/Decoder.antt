@@ -1,4 +1,5 @@
--- What a decoder step that is taken does to each word, as records over n, N, m and the information's rows. Assumes nothing.
+-- What a decoder step that is taken does to each word, as records over n, N, m and the information's rows. Assumes
+-- nothing.
 --
 --   streamIn, pendingIn, syndromeIn, delayedIn, registerIn   words of the turn's stream, and the register
 --   DecoderTaken, decoder-taken    what the tests of a step that is taken say
@@ -6,14 +7,14 @@
 --   decoder-length                 the length stays
 --   Verdict, decoder-verdict       what the decoder judges by: raw term, register and the error found
 use mathlib.Core.Path.{_≡_, refl, sym, ap, ap₂, _∙_}
-use mathlib.Core.Bool.{Bool, false, cond, not, xor, _||_}
+use mathlib.Core.Bool.{Bool, true, false, cond, not, xor, _||_}
 use mathlib.Core.Logic.{_≢_}
 use mathlib.Core.List.{List, [], _∷_, _++_}
 use Prim.Native.Nat.{ℕ, suc, _+_, _-_, _*_, _/_, _%_, _^_, _≤_, _<_}
 use native.Mathlib.Nat.{add-zero, mul-le-mul-right, suc-mul}
 use native.Mathlib.Decide.{decLt}
 use native.Mathlib.Omega.{arith}
-use borrow.Author.Tests.{not-false, eqb-true, leb-false, ltb-false, lt-ltb, le-ltb}
+use borrow.Author.Tests.{leb-false, ltb-false, lt-ltb, le-ltb}
 use lib.Dec.{leb, ltb, eqb}
 use lib.ListN.{length, getD, set, take, drop, length-append, length-set, length-drop, List·getD-append}
 use lib.Seq.{getD-set-same, getD-set-other, length-take-le, getD-append-add, getD-take, getD-drop, getD-at}
@@ -21,15 +22,20 @@ use Rattle.span.specs.declared.eliminate.Least.{Least}
 use Rattle.span.specs.Word.{_⊕_, odd, bit, digit}
 use Rattle.tables.specs.declared.table.Table.{Table}
 use Rattle.tables.specs.Table.{fit, infoRows}
-use Rattle.tables.proofs.Bounds.{Fitting, fit-facts}
+use Rattle.tables.specs.Lent.{withRows, lent}
+use Rattle.tables.proofs.Fit.{Fits}
 use Rattle.link.specs.declared.decode.DecodeAnswer.{DecodeAnswer}
-use Rattle.link.specs.declared.decode.DecodeAnswer.the-variants.{Delivery, NothingYet}
-use Rattle.link.specs.Stream.{joining, nextTurn}
+use Rattle.link.specs.declared.decode.DecodeAnswer.the-variants.{Delivery, NothingYet, Refused}
+use Rattle.link.specs.Memory.{joining, nextTurn, turnOf, decoderWords, fillOf, delayOf, pendingOf, syndromeOf}
+use Rattle.link.specs.Memory.{delayedBound, streamAt, fillNext}
 use Rattle.link.specs.Step.{rawTerm, found, errorOf, keptOf, markOf}
-use Rattle.link.specs.Memory.{turnOf, decoderWords}
-use Rattle.link.specs.Decoder.{fillOf, delayOf, pendingOf, syndromeOf, delayedOut, decoderMalformed, decoderFault, decoderJoining, decoderRegister, decoderFound, partNext, streamReplaced, fillNext, decoderNext, delivered, delivery}
-use Rattle.link.proofs.Faults.{or-none, four-none, picked, passed}
-use Rattle.link.proofs.Fits.{Fits, table-fits}
+use Rattle.link.specs.Refusals.{someAbove, decoderMalformed, decoderFault}
+use Rattle.link.specs.Decoder.{decodeAnswer, decodeMemory, recordNumbers, decodeNumbers, decodeValues, Decodes}
+use Rattle.link.specs.Decoder.{decoderJoining, decoderRegister, decoderFound, partNext, streamReplaced}
+use Rattle.link.specs.Decoder.{decoderNext, delivered, delivery}
+use Rattle.link.proofs.Malformed.{Fine, fine-decoder}
+use Rattle.link.proofs.Refusals.{picked, passed, step-fault, step-passed, refuses, takes, call-numbers}
+use Rattle.link.proofs.Refusals.{zero-refused, lent-taken}
 
 abbrev pub streamIn : ℕ → ℕ → ℕ
 streamIn N k = 2 + k * (N + 1)
@@ -49,8 +55,9 @@ registerIn n N infos s r =
     syndromeIn N s
     + digit (xor (odd (joining infos (pendingIn N s) (r % 2 ^ (n - 1)))) (bit (n - 1) r)) * 2 ^ (N - 1)
 
-pub record DecoderStep (n N m : ℕ) (infos : List ℕ) (s : List ℕ) (r : ℕ) (answer : DecodeAnswer) (after : List ℕ) : Type 0 where
-  pub fits : Fits n N infos
+pub record DecoderStep (n N m : ℕ) (infos : List ℕ) (s : List ℕ) (r : ℕ) (answer : DecodeAnswer) (after : List ℕ)
+    : Type 0 where
+  pub fits : Fits n N m infos
   pub turn-lt : turnOf s < m
   pub pending-lt : pendingIn N s < 2 ^ (N - 1)
   pub syndrome-lt : syndromeIn N s < 2 ^ (N - 1)
@@ -62,7 +69,8 @@ pub record DecoderStep (n N m : ℕ) (infos : List ℕ) (s : List ℕ) (r : ℕ)
       ≡ keptOf (found (infos ++ (1 ∷ [])) (registerIn n N infos s r)) (registerIn n N infos s r)
   pub delayed-on : (i : ℕ) → suc i < N - 1 → getD after (streamIn N (turnOf s) + 2 + i) 0 ≡ delayedIn N s (suc i)
   pub youngest : (i : ℕ) → suc i ≡ N - 1 → getD after (streamIn N (turnOf s) + 2 + i) 0 ≡ r % 2 ^ (n - 1)
-  pub others : (k j : ℕ) → k < m → j < N + 1 → k ≢ turnOf s → getD after (streamIn N k + j) 0 ≡ getD s (streamIn N k + j) 0
+  pub others : (k j : ℕ) → k < m → j < N + 1 → k ≢ turnOf s
+      → getD after (streamIn N k + j) 0 ≡ getD s (streamIn N k + j) 0
   pub waits : fillOf s < m * (N - 1) → answer ≡ NothingYet
   pub answers : m * (N - 1) ≤ fillOf s → answer
       ≡ Delivery (record {
@@ -89,7 +97,8 @@ module _ (s part : List ℕ) (at long : ℕ) (size : length part ≡ long) (room
   replaced-in : (j : ℕ) → j < long → getD replaced (at + j) 0 ≡ getD part j 0
   replaced-in j h =
       ap (λ (k : ℕ). getD replaced (k + j) 0) (sym front)
-      ∙ getD-append-add (take at s) (part ++ drop (at + long) s) j 0 ∙ List·getD-append part (drop (at + long) s) 0 j (omega arith)
+      ∙ getD-append-add (take at s) (part ++ drop (at + long) s) j 0
+      ∙ List·getD-append part (drop (at + long) s) 0 j (omega arith)
 
   replaced-below : (i : ℕ) → i < at → getD replaced i 0 ≡ getD s i 0
   replaced-below i h =
@@ -109,7 +118,8 @@ module _ (s part : List ℕ) (at long : ℕ) (size : length part ≡ long) (room
       ∙ ap (λ (k : ℕ). getD s k 0) (let e : at + long + (i - (at + long)) ≡ i = omega arith in e)
 
 -- the memory after a step: the stream's part anew, and turn and fill
-module _ (N m : ℕ) (s : List ℕ) (pending syndrome young fill to : ℕ) (from : 2 ≤ N) (size : length s ≡ 2 + m * (N + 1)) (turn : turnOf s < m) where
+module _ (N m : ℕ) (s : List ℕ) (pending syndrome young fill to : ℕ) (from : 2 ≤ N) (size : length s ≡ 2 + m * (N + 1))
+    (turn : turnOf s < m) where
   abbrev at : ℕ
   at = streamIn N (turnOf s)
 
@@ -179,7 +189,8 @@ module _ (N m : ℕ) (s : List ℕ) (pending syndrome young fill to : ℕ) (from
       ∙ after-own (suc (suc i)) (omega arith)
       ∙ getD-at moved young [] 0 i (omega arith)
 
-  after-others : (k j : ℕ) → k < m → j < N + 1 → k ≢ turnOf s → getD after (streamIn N k + j) 0 ≡ getD s (streamIn N k + j) 0
+  after-others : (k j : ℕ) → k < m → j < N + 1 → k ≢ turnOf s
+      → getD after (streamIn N k + j) 0 ≡ getD s (streamIn N k + j) 0
   after-others k j h l ne = after-word (streamIn N k + j) (omega arith) ∙ go (decLt k (turnOf s))
     where
       go : Dec (k < turnOf s) → getD body (streamIn N k + j) 0 ≡ getD s (streamIn N k + j) 0
@@ -191,48 +202,80 @@ module _ (N m : ℕ) (s : List ℕ) (pending syndrome young fill to : ℕ) (from
           replaced-beyond s part at (N + 1) part-length part-room (streamIn N k + j)
           (omega (arith, mul-le-mul-right (N + 1) above, suc-mul (turnOf s) (N + 1)))
 
+-- ---- refusals
+
+pub decoder-fault : (t : Table) (s : List ℕ) (r : ℕ)
+    → decoderFault t s r
+    ≡ cond (not (fit t)) 12 (cond (not (eqb (length s) (decoderWords t))) 13
+    (cond (decoderMalformed t s) 14 (cond (leb (2 ^ t .symbols) r) 15 0)))
+unfolding decoderFault
+decoder-fault t s r = step-fault t (decoderWords t) (decoderMalformed t s) (2 ^ t .symbols) s r
+
+pub decode-refuses : (t : Table) (s : List ℕ) (r : ℕ) (k : ℕ) → decoderFault t s r ≡ k → 0 < k
+    → (Refused k ≡ decodeAnswer t s r) × (s ≡ decodeMemory t s r)
+unfolding decodeAnswer decodeMemory
+decode-refuses t s r = refuses Refused (decoderFault t s r) (delivery t s r) (decoderNext t s r) s
+
+pub decodes : (t : Table) (s : List ℕ) (r : ℕ) → decoderFault t s r ≡ 0
+    → (delivery t s r ≡ decodeAnswer t s r) × (decoderNext t s r ≡ decodeMemory t s r)
+unfolding decodeAnswer decodeMemory
+decodes t s r = takes Refused (decoderFault t s r) (delivery t s r) (decoderNext t s r) s
+
+delivery-numbers : (t : Table) (s : List ℕ) (r : ℕ) → decodeNumbers (delivery t s r) ≡ 0 ∷ decodeValues t s r
+unfolding delivery
+delivery-numbers t s r = go (ltb (fillOf s) (delayOf t))
+  where
+    go : (b : Bool)
+        → decodeNumbers (cond b NothingYet (Delivery (delivered t s r)))
+        ≡ 0 ∷ cond b (0 ∷ 0 ∷ 0 ∷ []) (recordNumbers (delivered t s r))
+    go true = refl
+    go false = refl
+
+-- answer and memory are all that is promised: the numbers follow
+pub decodes-so : (t : Table) (s : List ℕ) (b : ℕ) (r : DecodeAnswer) (after : List ℕ) → r ≡ decodeAnswer t s b
+    → after ≡ decodeMemory t s b
+    → Decodes t s b r after
+unfolding decodeAnswer
+decodes-so t s b r after p q = record {
+  answer = p;
+  memory = q;
+  numbers = ap decodeNumbers p
+      ∙ call-numbers decodeNumbers (decoderFault t s b) (delivery t s b) Refused (decodeValues t s b)
+      (delivery-numbers t s b) (λ k. refl);
+}
+
+pub decode-lent-taken : (t : Table) (rows s : List ℕ) (r : ℕ) → decoderFault (lent t rows) s r ≡ 0
+    → (lent t rows ≡ withRows t rows) × (length rows ≡ 15)
+unfolding decoderFault
+decode-lent-taken t rows s r = lent-taken (λ (u : Table). decoderFault u s r) (zero-refused _ _ _ s r) t rows
+
+-- ---- a step that is taken
+
 -- what the tests of a step that is taken say
 pub record DecoderTaken (t : Table) (s : List ℕ) (r : ℕ) : Type 0 where
-  pub sizes : Fitting t
+  pub sizes : Fits (t .symbols) (t .span) (t .depth) (infoRows t)
   pub size : length s ≡ 2 + t .depth * (t .span + 1)
-  pub turn : turnOf s < t .depth
-  pub fill : fillOf s ≤ delayOf t
-  pub pending : pendingOf t s (turnOf s) < 2 ^ (t .span - 1)
-  pub syndrome : syndromeOf t s (turnOf s) < 2 ^ (t .span - 1)
-  pub delayed : delayedOut t s (turnOf s) (t .span - 1) ≡ false
+  pub fine : Fine t s (turnOf s)
   pub block : r < 2 ^ t .symbols
 
 pub decoder-taken : (t : Table) (s : List ℕ) (r : ℕ) → decoderFault t s r ≡ 0 → DecoderTaken t s r
 unfolding decoderFault
 decoder-taken t s r e =
-    let N = t .span in
-    let k = turnOf s in
-    let f = four-none (not (fit t)) (not (eqb (length s) (decoderWords t))) (decoderMalformed t s) (leb (2 ^ t .symbols) r) e in
-    let g4 = or-none (leb (t .depth) k || ltb (delayOf t) (fillOf s) || leb (2 ^ (N - 1)) (pendingOf t s k) || leb (2 ^ (N - 1)) (syndromeOf t s k))
-    (delayedOut t s k (N - 1)) (f .2) in
-    let g3 = or-none (leb (t .depth) k || ltb (delayOf t) (fillOf s) || leb (2 ^ (N - 1)) (pendingOf t s k)) (leb (2 ^ (N - 1)) (syndromeOf t s k)) (g4 .0) in
-    let g2 = or-none (leb (t .depth) k || ltb (delayOf t) (fillOf s)) (leb (2 ^ (N - 1)) (pendingOf t s k)) (g3 .0) in
-    let g1 = or-none (leb (t .depth) k) (ltb (delayOf t) (fillOf s)) (g2 .0) in
-    record {
-      sizes = fit-facts t (not-false (fit t) (f .0));
-      size = eqb-true (length s) (decoderWords t) (not-false (eqb (length s) (decoderWords t)) (f .1));
-      turn = leb-false (t .depth) k (g1 .0);
-      fill = ltb-false (delayOf t) (fillOf s) (g1 .1);
-      pending = leb-false (2 ^ (N - 1)) (pendingOf t s k) (g2 .1);
-      syndrome = leb-false (2 ^ (N - 1)) (syndromeOf t s k) (g3 .1);
-      delayed = g4 .1;
-      block = leb-false (2 ^ t .symbols) r (f .3);
-    }
+    let p = step-passed t (decoderWords t) (decoderMalformed t s) (2 ^ t .symbols) s r e in
+    record { sizes = p .sizes; size = p .size; fine = fine-decoder t s (p .formed); block = p .block }
 
 -- with the part in its place the memory is as long as it was, and turn and fill are as they were
 pub replaced-front : (t : Table) (s : List ℕ) (r : ℕ) → DecoderTaken t s r
-    → (length (streamReplaced t s r) ≡ length s) × (turnOf (streamReplaced t s r) ≡ turnOf s) × (fillOf (streamReplaced t s r) ≡ fillOf s)
+    → (length (streamReplaced t s r) ≡ length s) × (turnOf (streamReplaced t s r) ≡ turnOf s)
+    × (fillOf (streamReplaced t s r) ≡ fillOf s)
 unfolding partNext
 replaced-front t s r k =
-    let room = part-room (t .span) (t .depth) s (decoderJoining t s r / 2) (keptOf (decoderFound t s r) (decoderRegister t s r))
-    (r % 2 ^ (t .symbols - 1)) 0 0 (k .sizes .N-from) (k .size) (k .turn) in
-    let size = part-length (t .span) (t .depth) s (decoderJoining t s r / 2) (keptOf (decoderFound t s r) (decoderRegister t s r))
-    (r % 2 ^ (t .symbols - 1)) 0 0 (k .sizes .N-from) (k .size) (k .turn) in
+    let room =
+    part-room (t .span) (t .depth) s (decoderJoining t s r / 2) (keptOf (decoderFound t s r) (decoderRegister t s r))
+    (r % 2 ^ (t .symbols - 1)) 0 0 (k .sizes .N-from) (k .size) (k .fine .turn) in
+    let size =
+    part-length (t .span) (t .depth) s (decoderJoining t s r / 2) (keptOf (decoderFound t s r) (decoderRegister t s r))
+    (r % 2 ^ (t .symbols - 1)) 0 0 (k .sizes .N-from) (k .size) (k .fine .turn) in
     let at = streamIn (t .span) (turnOf s) in (
       replaced-length s (partNext t s r) at (t .span + 1) size room,
       replaced-below s (partNext t s r) at (t .span + 1) size room 0 (omega arith),
@@ -243,22 +286,29 @@ pub decoder-step : (t : Table) (s : List ℕ) (r : ℕ) → decoderFault t s r �
     → DecoderStep (t .symbols) (t .span) (t .depth) (infoRows t) s r (delivery t s r) (decoderNext t s r)
 unfolding decoderNext partNext delivery delivered decoderFound decoderRegister decoderJoining
 decoder-step t s r e = record {
-  fits = table-fits t (k .sizes);
-  turn-lt = k .turn;
-  pending-lt = k .pending;
-  syndrome-lt = k .syndrome;
+  fits = k .sizes;
+  turn-lt = k .fine .turn;
+  pending-lt = k .fine .pending;
+  syndrome-lt = k .fine .syndrome;
   block-lt = k .block;
-  turn-on = after-turn N (t .depth) s pending syndrome young fill to (k .sizes .N-from) (k .size) (k .turn);
-  fill-on = after-fill N (t .depth) s pending syndrome young fill to (k .sizes .N-from) (k .size) (k .turn);
+  turn-on = after-turn N (t .depth) s pending syndrome young fill to (k .sizes .N-from) (k .size) (k .fine .turn);
+  fill-on = after-fill N (t .depth) s pending syndrome young fill to (k .sizes .N-from) (k .size) (k .fine .turn);
   pending-on =
       ap (λ (i : ℕ). getD (decoderNext t s r) i 0) (sym (add-zero (streamIn N (turnOf s))))
-      ∙ after-own N (t .depth) s pending syndrome young fill to (k .sizes .N-from) (k .size) (k .turn) 0 (omega arith);
-  syndrome-on = after-own N (t .depth) s pending syndrome young fill to (k .sizes .N-from) (k .size) (k .turn) 1 (let h = k .sizes .N-from in omega arith);
-  delayed-on = after-moved N (t .depth) s pending syndrome young fill to (k .sizes .N-from) (k .size) (k .turn);
-  youngest = after-young N (t .depth) s pending syndrome young fill to (k .sizes .N-from) (k .size) (k .turn);
-  others = after-others N (t .depth) s pending syndrome young fill to (k .sizes .N-from) (k .size) (k .turn);
-  waits = λ h. sym (picked (ltb (fillOf s) (delayOf t)) NothingYet (Delivery (delivered t s r)) (lt-ltb (fillOf s) (delayOf t) h));
-  answers = λ h. sym (passed (ltb (fillOf s) (delayOf t)) NothingYet (Delivery (delivered t s r)) (le-ltb (fillOf s) (delayOf t) h));
+      ∙ after-own N (t .depth) s pending syndrome young fill to (k .sizes .N-from) (k .size)
+      (k .fine .turn) 0 (omega arith);
+  syndrome-on =
+      after-own N (t .depth) s pending syndrome young fill to (k .sizes .N-from) (k .size) (k .fine .turn) 1
+      (let h = k .sizes .N-from in omega arith);
+  delayed-on = after-moved N (t .depth) s pending syndrome young fill to (k .sizes .N-from) (k .size) (k .fine .turn);
+  youngest = after-young N (t .depth) s pending syndrome young fill to (k .sizes .N-from) (k .size) (k .fine .turn);
+  others = after-others N (t .depth) s pending syndrome young fill to (k .sizes .N-from) (k .size) (k .fine .turn);
+  waits =
+      λ h. sym
+      (picked (ltb (fillOf s) (delayOf t)) NothingYet (Delivery (delivered t s r)) (lt-ltb (fillOf s) (delayOf t) h));
+  answers =
+      λ h. sym
+      (passed (ltb (fillOf s) (delayOf t)) NothingYet (Delivery (delivered t s r)) (le-ltb (fillOf s) (delayOf t) h));
 }
   where
     k : DecoderTaken t s r
@@ -286,12 +336,14 @@ pub decoder-length : (t : Table) (s : List ℕ) (r : ℕ) → decoderFault t s r
 unfolding decoderNext
 decoder-length t s r e = simp length-set (replaced-front t s r (decoder-taken t s r e) .0)
 
-pub record Verdict (n N : ℕ) (infos : List ℕ) (s : List ℕ) (r : ℕ) (raw : Bool) (register : ℕ) (error : Least) : Type 0 where
+pub record Verdict (n N : ℕ) (infos : List ℕ) (s : List ℕ) (r : ℕ) (raw : Bool) (register : ℕ) (error : Least)
+    : Type 0 where
   pub raw-is : raw ≡ xor (odd (joining infos (pendingIn N s) (r % 2 ^ (n - 1)))) (bit (n - 1) r)
   pub register-is : register ≡ registerIn n N infos s r
   pub found-is : error ≡ found (infos ++ (1 ∷ [])) (registerIn n N infos s r)
 
 pub decoder-verdict : (t : Table) (s : List ℕ) (r : ℕ)
-    → Verdict (t .symbols) (t .span) (infoRows t) s r (rawTerm (decoderJoining t s r) (t .symbols) r) (decoderRegister t s r) (decoderFound t s r)
+    → Verdict (t .symbols) (t .span) (infoRows t) s r (rawTerm (decoderJoining t s r) (t .symbols) r)
+    (decoderRegister t s r) (decoderFound t s r)
 unfolding decoderFound decoderRegister decoderJoining
 decoder-verdict t s r = record { raw-is = refl; register-is = refl; found-is = refl }

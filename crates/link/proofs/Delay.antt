@@ -1,5 +1,5 @@
--- The delay of a decoder over its steps: the fill, and the oldest delayed block of the turn's stream. S is the memories before each place, R the
--- blocks taken. Nothing is asked of the first memory. Assumes nothing.
+-- The delay of a decoder over its steps: the fill, and the oldest delayed block of the turn's stream. S is the memories
+-- before each place, R the blocks taken. Nothing is asked of the first memory. Assumes nothing.
 --
 --   fill-complete    past m × (N − 1) steps the fill is complete
 --   fill-waits       after p steps it has grown by no more than p
@@ -16,19 +16,22 @@ use borrow.Author.Tests.{ltb-false}
 use lib.Dec.{ltb}
 use lib.ListN.{getD}
 use Rattle.link.specs.declared.decode.DecodeAnswer.{DecodeAnswer}
-use Rattle.link.specs.Memory.{turnOf}
-use Rattle.link.specs.Decoder.{fillOf}
+use Rattle.link.specs.Memory.{turnOf, fillOf}
 use Rattle.link.proofs.Interleaving.{place-first, place-next}
 use Rattle.link.proofs.Decoder.{streamIn, delayedIn}
 use Rattle.link.proofs.Turn.{DecoderRun, delayed-again, delayed-first}
 
-module _ {n N m : ℕ} {infos : List ℕ} {S : ℕ → List ℕ} {R : ℕ → ℕ} {A : ℕ → DecodeAnswer} {count : ℕ} (l : DecoderRun n N m infos S R A count) where
+module _ {n N m : ℕ} {infos : List ℕ} {S : ℕ → List ℕ} {R : ℕ → ℕ} {A : ℕ → DecodeAnswer} {count : ℕ}
+    (l : DecoderRun n N m infos S R A count) where
   fill-grows : (p : ℕ) → p ≤ count → (p ≤ fillOf (S p)) ⊎ (m * (N - 1) ≤ fillOf (S p))
   fill-grows zero h = inl (omega arith)
-  fill-grows (suc p) h = go (ltb (fillOf (S p)) (m * (N - 1))) refl (l .decodes p (omega arith) .fill-on) (fill-grows p (omega arith))
+  fill-grows (suc p) h =
+      go (ltb (fillOf (S p)) (m * (N - 1))) refl (l .decodes p (omega arith) .fill-on) (fill-grows p (omega arith))
     where
-      go : (b : Bool) → ltb (fillOf (S p)) (m * (N - 1)) ≡ b → fillOf (S (suc p)) ≡ cond b (fillOf (S p) + 1) (fillOf (S p))
-          → (p ≤ fillOf (S p)) ⊎ (m * (N - 1) ≤ fillOf (S p)) → (suc p ≤ fillOf (S (suc p))) ⊎ (m * (N - 1) ≤ fillOf (S (suc p)))
+      go : (b : Bool) → ltb (fillOf (S p)) (m * (N - 1)) ≡ b
+          → fillOf (S (suc p)) ≡ cond b (fillOf (S p) + 1) (fillOf (S p))
+          → (p ≤ fillOf (S p)) ⊎ (m * (N - 1) ≤ fillOf (S p))
+          → (suc p ≤ fillOf (S (suc p))) ⊎ (m * (N - 1) ≤ fillOf (S (suc p)))
       go true q e (inl z) = inl (omega arith)
       go true q e (inr z) = inr (omega arith)
       go false q e z = inr (let y = ltb-false (fillOf (S p)) (m * (N - 1)) q in omega arith)
@@ -42,7 +45,8 @@ module _ {n N m : ℕ} {infos : List ℕ} {S : ℕ → List ℕ} {R : ℕ → �
 
   pub fill-waits : (p : ℕ) → p ≤ count → fillOf (S p) ≤ fillOf (S 0) + p
   fill-waits zero h = omega arith
-  fill-waits (suc p) h = go (ltb (fillOf (S p)) (m * (N - 1))) (l .decodes p (omega arith) .fill-on) (fill-waits p (omega arith))
+  fill-waits (suc p) h =
+      go (ltb (fillOf (S p)) (m * (N - 1))) (l .decodes p (omega arith) .fill-on) (fill-waits p (omega arith))
     where
       go : (b : Bool) → fillOf (S (suc p)) ≡ cond b (fillOf (S p) + 1) (fillOf (S p)) → fillOf (S p) ≤ fillOf (S 0) + p
           → fillOf (S (suc p)) ≤ fillOf (S 0) + suc p
@@ -58,18 +62,23 @@ module _ {n N m : ℕ} {infos : List ℕ} {S : ℕ → List ℕ} {R : ℕ → �
       ap₂ dl (sym (add-zero i)) (place-first m q)
   delayed-before q (suc k) i b h =
       let step = place-next m q k in
-      ap (dl i) (place-next m q k) ∙ delayed-again l i (q + k * m) (omega arith) (omega arith) ∙ l .decodes (q + k * m) (omega arith) .delayed-on i (omega arith)
-      ∙ delayed-before q k (suc i) (omega arith) (omega arith) ∙ ap (λ (j : ℕ). dl j q) (let e : suc i + k ≡ i + suc k = omega arith in e)
+      ap (dl i) (place-next m q k) ∙ delayed-again l i (q + k * m) (omega arith) (omega arith)
+      ∙ l .decodes (q + k * m) (omega arith) .delayed-on i (omega arith)
+      ∙ delayed-before q k (suc i) (omega arith) (omega arith)
+      ∙ ap (λ (j : ℕ). dl j q) (let e : suc i + k ≡ i + suc k = omega arith in e)
 
   pub oldest : (p q : ℕ) → p < count → q + m * (N - 1) ≡ p → dl 0 p ≡ R q % 2 ^ (n - 1)
   oldest p q h e =
       let from = l .decodes p h .fits .N-from in
       let many : suc (N - 2) ≡ N - 1 = omega arith in
-      let place : p ≡ q + m + (N - 2) * m = omega (arith, ap (λ (k : ℕ). k * m) many, suc-mul (N - 2) m, mul-comm m (N - 1)) in
-      ap (dl 0) place ∙ delayed-before (q + m) (N - 2) 0 (omega arith) (omega arith) ∙ delayed-again l (0 + (N - 2)) q (omega arith) (omega arith)
+      let place : p ≡ q + m + (N - 2) * m =
+      omega (arith, ap (λ (k : ℕ). k * m) many, suc-mul (N - 2) m, mul-comm m (N - 1)) in
+      ap (dl 0) place ∙ delayed-before (q + m) (N - 2) 0 (omega arith) (omega arith)
+      ∙ delayed-again l (0 + (N - 2)) q (omega arith) (omega arith)
       ∙ l .decodes q (omega arith) .youngest (0 + (N - 2)) (omega arith)
 
-  pub oldest-first : (p : ℕ) → p < count → p < m * (N - 1) → dl 0 p ≡ getD (S 0) (streamIn N ((turnOf (S 0) + p) % m) + 2 + p / m) 0
+  pub oldest-first : (p : ℕ) → p < count → p < m * (N - 1)
+      → dl 0 p ≡ getD (S 0) (streamIn N ((turnOf (S 0) + p) % m) + 2 + p / m) 0
   oldest-first p h early =
       let some = l .decodes p h .turn-lt in
       let r = p % m in
@@ -78,5 +87,6 @@ module _ {n N m : ℕ} {infos : List ℕ} {S : ℕ → List ℕ} {R : ℕ → �
       let whole = div-add-mod' p m in
       let here : p ≡ r + k * m = omega arith in
       let few : k < N - 1 = div-lt-iff-lt-mul {k = m} (omega arith) .1 (omega (arith, mul-comm m (N - 1))) in
-      ap (dl 0) here ∙ delayed-before r k 0 (omega arith) (omega arith) ∙ ap (λ (i : ℕ). dl i r) (zero-add k) ∙ delayed-first l k r few first (omega arith)
+      ap (dl 0) here ∙ delayed-before r k 0 (omega arith) (omega arith) ∙ ap (λ (i : ℕ). dl i r) (zero-add k)
+      ∙ delayed-first l k r few first (omega arith)
       ∙ ap (λ (j : ℕ). getD (S 0) (streamIn N j + 2 + k) 0) (add-mod-mod (turnOf (S 0)) p m)

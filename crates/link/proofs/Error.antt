@@ -1,11 +1,12 @@
--- The least error block of a register, as the code finds it: by the least relation that ends in the register. Assumes nothing.
+-- The least error block of a register, as the code finds it: by the least relation that ends in the register. Assumes
+-- nothing.
 --
 --   error-found, error-missing   from the relation among rows and register
 --   zero-found                   the register 0 is the image of 0
 --   found-lt, found-some         an error block that was found is below 2^n, and not 0 unless the register is
---   judged-zero .. judged-held   error, word that stays, and mark in the four cases of a register
+--   verdict-zero .. verdict-held   error, word that stays, and mark in the four cases of a register
 use mathlib.Core.Path.{_≡_, refl, sym, ap, _∙_, subst}
-use mathlib.Core.Bool.{Bool, true, false}
+use mathlib.Core.Bool.{Bool, true, false, cond}
 use mathlib.Core.Logic.{_≢_}
 use mathlib.Core.List.{List, [], _∷_, _++_}
 use Prim.Native.Nat.{ℕ, _+_, _-_, _/_, _^_, _≤_, _<_, zero-le}
@@ -30,8 +31,10 @@ ended : (rows words : List ℕ) (n x : ℕ) → length rows ≡ n → n ≤ 16 �
     → leastRelation (counted (n + 1) words) n ≡ raised n (leastCoefficients rows x)
 ended rows words n x size few e =
     let long : length (rows ++ (x ∷ [])) ≤ 32 = (let l = length-append rows (x ∷ []) in omega arith) in
-    ap (λ (ws : List ℕ). leastRelation (take 32 ws) n) e ∙ ap (λ (ws : List ℕ). leastRelation ws n) (take-all 32 (rows ++ (x ∷ [])) long)
-    ∙ ap (leastRelation (rows ++ (x ∷ []))) (sym size) ∙ least-raised rows x ∙ ap (λ (k : ℕ). raised k (leastCoefficients rows x)) size
+    ap (λ (ws : List ℕ). leastRelation (take 32 ws) n) e
+    ∙ ap (λ (ws : List ℕ). leastRelation ws n) (take-all 32 (rows ++ (x ∷ [])) long)
+    ∙ ap (leastRelation (rows ++ (x ∷ []))) (sym size) ∙ least-raised rows x
+    ∙ ap (λ (k : ℕ). raised k (leastCoefficients rows x)) size
 
 raised-found : (k c : ℕ) (f : Least) → raised k f ≡ Found c → (2 ^ k ≤ c) × (f ≡ Found (c - 2 ^ k))
 raised-found k c (Found d) e =
@@ -44,8 +47,10 @@ raised-missing : (k : ℕ) (f : Least) → raised k f ≡ Missing → f ≡ Miss
 raised-missing k (Found d) e = let z : _≡_ {A = ℕ} 0 1 = cc in absurd (omega arith)
 raised-missing k Missing e = refl
 
-module _ (rows words : List ℕ) (n x : ℕ) (size : length rows ≡ n) (few : n ≤ 16) (e : take (n + 1) words ≡ rows ++ (x ∷ [])) where
-  pub error-found : (c : ℕ) → leastRelation (counted (n + 1) words) n ≡ Found c → (2 ^ n ≤ c) × (leastCoefficients rows x ≡ Found (c - 2 ^ n))
+module _ (rows words : List ℕ) (n x : ℕ) (size : length rows ≡ n) (few : n ≤ 16)
+    (e : take (n + 1) words ≡ rows ++ (x ∷ [])) where
+  pub error-found : (c : ℕ) → leastRelation (counted (n + 1) words) n ≡ Found c
+      → (2 ^ n ≤ c) × (leastCoefficients rows x ≡ Found (c - 2 ^ n))
   error-found c h = raised-found n c (leastCoefficients rows x) (sym (ended rows words n x size few e) ∙ h)
 
   pub error-missing : leastRelation (counted (n + 1) words) n ≡ Missing → leastCoefficients rows x ≡ Missing
@@ -53,7 +58,8 @@ module _ (rows words : List ℕ) (n x : ℕ) (size : length rows ≡ n) (few : n
 
 pub zero-found : (rows : List ℕ) → leastCoefficients rows 0 ≡ Found 0
 zero-found rows =
-    least-unique (λ (c : ℕ). combination rows c ≡ 0) 0 (2 ^ length rows) (leastCoefficients rows 0) (Found 0) (least-coefficients rows 0)
+    least-unique (λ (c : ℕ). combination rows c ≡ 0) 0 (2 ^ length rows) (leastCoefficients rows 0) (Found 0)
+    (least-coefficients rows 0)
     (zero-le, pow-pos (length rows), combination-zero rows, λ d a b q. zero-le)
 
 module _ (rows : List ℕ) (x e : ℕ) (h : leastCoefficients rows x ≡ Found e) where
@@ -68,26 +74,28 @@ module _ (rows : List ℕ) (x e : ℕ) (h : leastCoefficients rows x ≡ Found e
 
 -- ---- error, word that stays, and mark
 
-abbrev Judged : Least → ℕ → ℕ → ℕ → Mark → Type 0
-Judged f x error kept mark = (error ≡ errorOf f) × ((kept ≡ keptOf f x) × (mark ≡ markOf f x))
+abbrev VerdictOf : Least → ℕ → ℕ → ℕ → Mark → Type 0
+VerdictOf f x error kept mark = (error ≡ errorOf f) × ((kept ≡ keptOf f x) × (mark ≡ markOf f x))
 
-pub judged-zero : (f : Least) (x : ℕ) → f ≡ Found 0 → Judged f x 0 0 Clean
-judged-zero f x e = subst (λ (g : Least). Judged g x 0 0 Clean) (sym e) (refl, (refl, refl))
+pub verdict-zero : (f : Least) (x : ℕ) → f ≡ Found 0 → VerdictOf f x 0 0 Clean
+verdict-zero f x e = subst (λ (g : Least). VerdictOf g x 0 0 Clean) (sym e) (refl, (refl, refl))
 
-pub judged-found : (f : Least) (x e : ℕ) → f ≡ Found e → e ≢ 0 → Judged f x e 0 (Corrected e)
-judged-found f x e h some =
-    subst (λ (g : Least). Judged g x e 0 (Corrected e)) (sym h) (refl, (refl, ap corrected (sym (ne-eqb e 0 some))))
+pub verdict-found : (f : Least) (x e : ℕ) → f ≡ Found e → e ≢ 0 → VerdictOf f x e 0 (Corrected e)
+verdict-found f x e h some =
+    subst (λ (g : Least). VerdictOf g x e 0 (Corrected e)) (sym h) (refl, (refl, ap corrected (sym (ne-eqb e 0 some))))
   where
     corrected : Bool → Mark
-    corrected b = elim b [ true ↦ Clean | false ↦ Corrected e ]
+    corrected b = cond b Clean (Corrected e)
 
 missing-mark : Bool → Mark
-missing-mark b = elim b [ true ↦ Doubtful | false ↦ Held ]
+missing-mark b = cond b Doubtful Held
 
-pub judged-doubtful : (f : Least) (x : ℕ) → f ≡ Missing → odd x ≡ true → Judged f x 0 (x / 2) Doubtful
+pub verdict-doubtful : (f : Least) (x : ℕ) → f ≡ Missing → odd x ≡ true → VerdictOf f x 0 (x / 2) Doubtful
 unfolding missing-mark
-judged-doubtful f x e o = subst (λ (g : Least). Judged g x 0 (x / 2) Doubtful) (sym e) (refl, (refl, ap missing-mark (sym o)))
+verdict-doubtful f x e o =
+    subst (λ (g : Least). VerdictOf g x 0 (x / 2) Doubtful) (sym e) (refl, (refl, ap missing-mark (sym o)))
 
-pub judged-held : (f : Least) (x : ℕ) → f ≡ Missing → odd x ≡ false → Judged f x 0 (x / 2) Held
+pub verdict-held : (f : Least) (x : ℕ) → f ≡ Missing → odd x ≡ false → VerdictOf f x 0 (x / 2) Held
 unfolding missing-mark
-judged-held f x e o = subst (λ (g : Least). Judged g x 0 (x / 2) Held) (sym e) (refl, (refl, ap missing-mark (sym o)))
+verdict-held f x e o =
+    subst (λ (g : Least). VerdictOf g x 0 (x / 2) Held) (sym e) (refl, (refl, ap missing-mark (sym o)))

@@ -6,12 +6,12 @@ use native.Mathlib.Nat.{add-mul}
 use native.Mathlib.Omega.{arith}
 use lib.ListN.{length, getD}
 use Rattle.tables.specs.declared.table.Table.{Table}
-use Rattle.link.specs.Memory.{turnOf}
-use Rattle.link.specs.Decoder.{syndromeOf}
-use Rattle.link.specs.Runs.{Call, sentBy, takenBy}
-use Rattle.link.specs.Recovery.{Right, DecoderTables}
+use Rattle.link.specs.Memory.{turnOf, syndromeOf}
+use Rattle.link.specs.Refusals.{decoderFault}
+use Rattle.link.specs.Runs.{Call, sentBy, takenBy, DecoderTables, placed}
+use Rattle.link.specs.Recovery.{Right}
 use Rattle.link.specs.Guard.{syndromeEntry, syndromesBy, syndromeAt, GUARD}
-use Rattle.link.proofs.Runs.{decoderBefore, taken-place}
+use Rattle.link.proofs.Runs.{decoderBefore, taken-place, decoder-placed}
 use Rattle.link.proofs.OneTable.{from-one, taken-table}
 use Rattle.link.proofs.Fade.{guarded}
 use Rattle.link.proofs.Recovery.{linked}
@@ -21,7 +21,8 @@ syndrome-taken : (t : Table) (s : List ℕ) (ds : List Call) → DecoderTables t
     → syndromeAt (syndromesBy s ds) (suc p) ≡ syndromeOf t (decoderBefore s ds p) (turnOf (decoderBefore s ds p))
 syndrome-taken t s ds tables p h =
     let M = decoderBefore s ds p in
-    ap (λ (k : ℕ). getD (syndromesBy s ds) k 0) (from-one p) ∙ taken-place s ds p h .is syndromeEntry 0
+    ap (λ (k : ℕ). getD (syndromesBy s ds) k 0) (from-one p)
+    ∙ taken-place s ds p h .is (placed decoderFault syndromeEntry) syndromeEntry (decoder-placed syndromeEntry) 0
     ∙ ap (λ (N : ℕ). getD M (2 + turnOf M * (N + 1) + 1) 0) (taken-table t s ds tables p h .span)
 
 pub guard : GUARD
@@ -38,4 +39,5 @@ guard t coder decoder cs ds f (suc p) i few from to right =
     let place : suc p - back * m ≡ suc (r + k * m) = omega (arith, ap (λ (x : ℕ). x * m) whole, add-mul back k m) in
     subst (Right (sentBy coder cs) (takenBy decoder ds)) place (right back (omega arith) (omega arith))) in
     subst (λ (x : ℕ). x < 2 ^ (w - i)) (sym (syndrome-taken t decoder ds (f .decoder-tables) p (omega arith)))
-    (subst (λ (q : ℕ). syndromeOf t (decoderBefore decoder ds q) (turnOf (decoderBefore decoder ds q)) < 2 ^ (w - i)) here (g .1))
+    (subst (λ (q : ℕ). syndromeOf t (decoderBefore decoder ds q) (turnOf (decoderBefore decoder ds q)) < 2 ^ (w - i))
+    here (g .1))

@@ -1,6 +1,6 @@
 -- The four marks, by the cases of what was found. Assumes nothing.
 use mathlib.Core.Path.{_≡_, refl, sym, ap, _∙_, subst}
-use mathlib.Core.Bool.{Bool, true, false}
+use mathlib.Core.Bool.{Bool, true, false, cond}
 use mathlib.Core.Logic.{_≢_, _↔_}
 use mathlib.Core.List.{List}
 use Prim.Native.Nat.{ℕ, _^_, zero-le}
@@ -33,11 +33,13 @@ module _ (rows : List ℕ) (x : ℕ) where
 
   found-least : (e : ℕ) → Least-is (Found e) → found rows x ≡ Found e
   found-least e l =
-      least-unique (λ (c : ℕ). combination rows c ≡ x) 0 (2 ^ length rows) (found rows x) (Found e) (least-coefficients rows x) l
+      least-unique (λ (c : ℕ). combination rows c ≡ x) 0 (2 ^ length rows) (found rows x) (Found e)
+      (least-coefficients rows x) l
 
   found-none : NoError rows x → found rows x ≡ Missing
   found-none n =
-      least-unique (λ (c : ℕ). combination rows c ≡ x) 0 (2 ^ length rows) (found rows x) Missing (least-coefficients rows x) (λ d from to p. n d to p)
+      least-unique (λ (c : ℕ). combination rows c ≡ x) 0 (2 ^ length rows) (found rows x) Missing
+      (least-coefficients rows x) (λ d from to p. n d to p)
 
   none-found : found rows x ≡ Missing → NoError rows x
   none-found e c below p = least Missing e c zero-le below p
@@ -66,7 +68,10 @@ module _ (rows : List ℕ) (x : ℕ) where
 
   told-corrected : (e : ℕ) → e ≢ 0 → found rows x ≡ Found e → Told (Corrected e)
   told-corrected e some h = (
-    (λ m. let z : _≡_ {A = ℕ} 0 1 = cc in absurd (omega arith), λ p. let q = zero-clean p in let z : e ≡ 0 = cc in absurd (some z)),
+    (
+      λ m. let z : _≡_ {A = ℕ} 0 1 = cc in absurd (omega arith),
+      λ p. let q = zero-clean p in let z : e ≡ 0 = cc in absurd (some z),
+    ),
     λ c. (
       λ m. let same : e ≡ c = cc in subst (λ (d : ℕ). (d ≢ 0) × Least-is (Found d)) same (some, least (Found e) h),
       λ l. let q = found-least c (l .1) in let same : e ≡ c = cc in ap Corrected same,
@@ -78,28 +83,40 @@ module _ (rows : List ℕ) (x : ℕ) where
   told-doubtful : found rows x ≡ Missing → odd x ≡ true → Told Doubtful
   told-doubtful h o = (
     (λ m. let z : _≡_ {A = ℕ} 0 1 = cc in absurd (omega arith), λ p. never (found rows x) 0 (zero-clean p) h),
-    λ c. (λ m. let z : _≡_ {A = ℕ} 0 1 = cc in absurd (omega arith), λ l. never (found rows x) c (found-least c (l .1)) h),
+    λ c. (
+      λ m. let z : _≡_ {A = ℕ} 0 1 = cc in absurd (omega arith),
+      λ l. never (found rows x) c (found-least c (l .1)) h,
+    ),
     (λ m. (none-found h, o), λ n. refl),
-    (λ m. let z : _≡_ {A = ℕ} 0 1 = cc in absurd (omega arith), λ n. let q = n .1 in let z : _≡_ {A = ℕ} 0 1 = cc in absurd (omega arith)),
+    (
+      λ m. let z : _≡_ {A = ℕ} 0 1 = cc in absurd (omega arith),
+      λ n. let q = n .1 in let z : _≡_ {A = ℕ} 0 1 = cc in absurd (omega arith),
+    ),
   )
 
   told-held : found rows x ≡ Missing → odd x ≡ false → Told Held
   told-held h o = (
     (λ m. let z : _≡_ {A = ℕ} 0 1 = cc in absurd (omega arith), λ p. never (found rows x) 0 (zero-clean p) h),
-    λ c. (λ m. let z : _≡_ {A = ℕ} 0 1 = cc in absurd (omega arith), λ l. never (found rows x) c (found-least c (l .1)) h),
-    (λ m. let z : _≡_ {A = ℕ} 0 1 = cc in absurd (omega arith), λ n. let q = n .1 in let z : _≡_ {A = ℕ} 0 1 = cc in absurd (omega arith)),
+    λ c. (
+      λ m. let z : _≡_ {A = ℕ} 0 1 = cc in absurd (omega arith),
+      λ l. never (found rows x) c (found-least c (l .1)) h,
+    ),
+    (
+      λ m. let z : _≡_ {A = ℕ} 0 1 = cc in absurd (omega arith),
+      λ n. let q = n .1 in let z : _≡_ {A = ℕ} 0 1 = cc in absurd (omega arith),
+    ),
     (λ m. (none-found h, o), λ n. refl),
   )
 
   told : (f : Least) → found rows x ≡ f → Told (markOf f x)
   told (Found e) h = go (eqb e 0) refl
     where
-      go : (b : Bool) → eqb e 0 ≡ b → Told (elim b [ true ↦ Clean | false ↦ Corrected e ])
+      go : (b : Bool) → eqb e 0 ≡ b → Told (cond b Clean (Corrected e))
       go true q = told-clean (h ∙ ap Found (eqb-true e 0 q))
       go false q = told-corrected e (eqb-false e 0 q) h
   told Missing h = go (odd x) refl
     where
-      go : (b : Bool) → odd x ≡ b → Told (elim b [ true ↦ Doubtful | false ↦ Held ])
+      go : (b : Bool) → odd x ≡ b → Told (cond b Doubtful Held)
       go true q = told-doubtful h q
       go false q = told-held h q
 

@@ -16,8 +16,8 @@ use Rattle.tables.specs.Table.{rowsOf, fit, infoRows}
 use Rattle.tables.proofs.Reading.{accepted-suitable}
 use Rattle.tables.proofs.Made.{made}
 use Rattle.link.specs.Recovery.{Origin}
-use Rattle.tables.proofs.Bounds.{Fitting, fit-facts}
-use Rattle.tables.proofs.ParsedRoom.{parse-room}
+use Rattle.tables.proofs.Fit.{Fits, fit-facts}
+use Rattle.tables.proofs.Parsed.{parse-room}
 use Rattle.tables.proofs.MadeWhole.{making-room}
 use Rattle.link.proofs.Suitable.{Corrects, suitable-corrects}
 
@@ -36,7 +36,7 @@ origin-known t (inr (n, m, answer, same)) =
 
 -- N = w + 1, and the information's rows, n − 1 of them, with the parity's after them
 pub record Coding (t : Table) : Type 0 where
-  pub sizes : Fitting t
+  pub sizes : Fits (t .symbols) (t .span) (t .depth) (infoRows t)
   pub infos : length (infoRows t) ≡ t .symbols - 1
   pub corrects : Corrects (t .symbols) (t .span - 1) (infoRows t ++ (1 ∷ []))
 
@@ -54,13 +54,15 @@ pub origin-coding : (t : Table) → Origin t → Coding t
 origin-coding t o =
     let k = origin-known t o in
     let z = fit-facts t (k .fits) in
-    let size : length (infoRows t) ≡ t .symbols - 1 = length-take-le (t .symbols - 1) (t .rows) (let r = k .room in omega arith) in
+    let size : length (infoRows t) ≡ t .symbols - 1 =
+    length-take-le (t .symbols - 1) (t .rows) (let r = k .room in omega arith) in
     let N : t .span ≡ suc (t .span - 1) = omega arith in
     record {
       sizes = z;
       infos = size;
       corrects =
-          suitable-corrects (t .span - 1) (rowsOf t) (omega arith) (subst (λ (x : ℕ). Suitable x (rowsOf t)) N (k .suits)) (t .symbols)
+          suitable-corrects (t .span - 1) (rowsOf t) (omega arith)
+          (subst (λ (x : ℕ). Suitable x (rowsOf t)) N (k .suits)) (t .symbols)
           (length-append (infoRows t) (1 ∷ []) ∙ (let e : length (infoRows t) + 1 ≡ t .symbols = omega arith in e))
           (subst (λ (x : ℕ). Below x (rowsOf t)) N (below-snoc (t .span) (infoRows t) (omega arith) (z .below)));
     }

@@ -16,7 +16,8 @@ use lib.Seq.{getD-take, getD-drop, take-add, drop-at, drop-drop, length-take-le}
 pub mid-word : (s : List ℕ) (a e j : ℕ) → a + j < e → getD (midOf a (e - a) s) j 0 ≡ getD s (a + j) 0
 mid-word s a e j h = getD-take (e - a) (drop a s) j 0 (omega arith) ∙ getD-drop a s j 0
 
-pub put-word : (s part : List ℕ) (a v : ℕ) → a < length s → part ≡ set (midOf a (a + 1 - a) s) 0 v → putMid a (a + 1 - a) s part ≡ set s a v
+pub put-word : (s part : List ℕ) (a v : ℕ) → a < length s → part ≡ set (midOf a (a + 1 - a) s) 0 v
+    → putMid a (a + 1 - a) s part ≡ set s a v
 put-word s part a v h e =
     ap (putMid a (a + 1 - a) s) e
     ∙ set-mid-at a (a + 1 - a) 0 s v (let l = mid-len a (a + 1) s (omega arith) in omega arith)
@@ -30,4 +31,5 @@ pub mid-drop : (s : List ℕ) (a e j : ℕ) → a ≤ e → e ≤ length s → d
 mid-drop s a e j h room =
     let whole : take e s ≡ take a s ++ midOf a (e - a) s =
     ap (λ (k : ℕ). take k s) (let q : e ≡ a + (e - a) = omega arith in q) ∙ take-add a (e - a) s in
-    ap (drop j) (sym (drop-at (take a s) (midOf a (e - a) s) a (length-take-le a s (omega arith))) ∙ ap (drop a) (sym whole)) ∙ drop-drop j a (take e s)
+    ap (drop j) (sym (drop-at (take a s) (midOf a (e - a) s) a (length-take-le a s (omega arith)))
+    ∙ ap (drop a) (sym whole)) ∙ drop-drop j a (take e s)

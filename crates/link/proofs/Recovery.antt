@@ -2,9 +2,9 @@
 --
 --   separated, linked    the premises
 --   recovered            the claim
---   running              the premises of `Running` among those of `Fades`
---   recovery-any-memory, recovery   the theorems
-use mathlib.Core.Path.{_≡_, subst}
+--   recovery-any-memory, recovery, recovery-later, doubtful   the theorems
+--   same-delivery        two deliveries that are equal have equal information and marks
+use mathlib.Core.Path.{_≡_, sym, _∙_, subst}
 use mathlib.Core.Logic.{_⊎_, inl, inr}
 use mathlib.Core.List.{List}
 use Prim.Native.Nat.{ℕ, zero, suc, _+_, _-_, _*_, _≤_, _<_}
@@ -12,14 +12,18 @@ use native.Mathlib.Omega.{arith}
 use lib.ListN.{length}
 use Rattle.tables.specs.declared.table.Table.{Table}
 use Rattle.tables.specs.Table.{infoRows}
+use Rattle.link.specs.declared.decode.Delivered.{Delivered}
 use Rattle.link.specs.declared.decode.DecodeAnswer.{DecodeAnswer}
-use Rattle.link.specs.Decoder.{delayOf}
-use Rattle.link.specs.Runs.{Call, Sent, Taken, sentBy, takenBy, sentAt, takenAt}
-use Rattle.link.specs.Recovery.{Wrong, Fades, Recovered, RECOVERY, Running, Separated, RECOVERY-ANY-MEMORY}
+use Rattle.link.specs.declared.decode.DecodeAnswer.the-variants.{Delivery}
+use Rattle.link.specs.Memory.{delayOf}
+use Rattle.link.specs.Runs.{Call, Sent, Taken, sentBy, takenBy, sentAt, takenAt, coderAfter, decoderAfter}
+use Rattle.link.specs.Recovery.{Wrong, Recovered, RECOVERY, RECOVERY-LATER, DOUBTFUL, Running, Separated}
+use Rattle.link.specs.Recovery.{RECOVERY-ANY-MEMORY}
 use Rattle.link.specs.Massey.{infoSent, blockSent, blockTaken}
 use Rattle.link.proofs.Origin.{origin-coding}
 use Rattle.link.proofs.Runs.{coderBefore, decoderBefore}
 use Rattle.link.proofs.OneTable.{coded, decoded}
+use Rattle.link.proofs.Formed.{formed-throughout}
 use Rattle.link.proofs.Bursts.{bursts-separated}
 use Rattle.link.proofs.Fade.{Linked, WrongApart, Sure, recovers}
 
@@ -37,11 +41,13 @@ module _ {t : Table} {coder decoder : List ℕ} {cs ds : List Call} (f : Running
       → WrongApart (blockTaken taken) (blockSent sent) (t .depth) (delayOf t) (length taken)
   separated apart p q l h u v = go (apart (suc p) (suc q) (omega arith) (omega arith) (omega arith) u v)
     where
-      go : (suc q < suc p + t .depth) ⊎ (suc p + t .depth * (t .span - 1) < suc q) → (q < p + t .depth) ⊎ (p + t .depth * (t .span - 1) < q)
+      go : (suc q < suc p + t .depth) ⊎ (suc p + t .depth * (t .span - 1) < suc q)
+          → (q < p + t .depth) ⊎ (p + t .depth * (t .span - 1) < q)
       go (inl z) = inl (omega arith)
       go (inr z) = inr (omega arith)
 
-  pub linked : Linked (t .symbols) (t .span) (t .depth) (infoRows t) (decoderBefore decoder ds) (coderBefore coder cs) (blockTaken taken)
+  pub linked : Linked (t .symbols) (t .span) (t .depth) (infoRows t) (decoderBefore decoder ds) (coderBefore coder cs)
+      (blockTaken taken)
       (infoSent sent) (blockSent sent) answer (length taken)
   linked =
       let c = origin-coding t (f .origin) in
@@ -52,13 +58,15 @@ module _ {t : Table} {coder decoder : List ℕ} {cs ds : List Call} (f : Running
         size = c .infos;
         code = c .corrects;
         decoding = decoded t decoder ds (f .decoder-tables);
-        coding = record { codes = λ p h. let many = f .enough in coded t coder cs (f .coder-tables) .codes p (omega arith) };
+        coding =
+            record { codes = λ p h. let many = f .enough in coded t coder cs (f .coder-tables) .codes p (omega arith) };
       }
 
   pub recovered : (p : ℕ) → delayOf t ≤ p → ((q : ℕ) → q + delayOf t ≡ p → Sure (answer p) (infoSent sent q))
       → Recovered sent taken (delayOf t) (suc p)
   recovered p late sure =
-      subst (λ (x : ℕ). Sure (answer p) (sentAt sent x .info)) (let e : suc (p - delayOf t) ≡ suc p - delayOf t = omega arith in e)
+      subst (λ (x : ℕ). Sure (answer p) (sentAt sent x .info))
+      (let e : suc (p - delayOf t) ≡ suc p - delayOf t = omega arith in e)
       (sure (p - delayOf t) (omega arith))
 
 pub recovery-any-memory : RECOVERY-ANY-MEMORY
@@ -66,13 +74,32 @@ recovery-any-memory t coder decoder cs ds f guard apart zero late h = absurd (om
 recovery-any-memory t coder decoder cs ds f guard apart (suc p) late h =
     recovered f p (omega arith)
     (λ q e.
-    recovers (linked f) (separated f apart) (λ i early inside. guard (suc i) (omega arith) (omega arith) (omega arith)) p q (omega arith) (omega arith) e)
-
-pub running : {t : Table} {coder decoder : List ℕ} {cs ds : List Call} → Fades t coder decoder cs ds → Running t coder decoder cs ds
-running f = record { origin = f .origin; coder-tables = f .coder-tables; decoder-tables = f .decoder-tables; enough = f .enough }
+    recovers (linked f) (separated f apart)
+    (λ i early inside. guard (suc i) (omega arith) (omega arith) (omega arith)) p q (omega arith) (omega arith) e)
 
 -- well-formed memories are not needed, and chosen bursts keep the wrong places apart
 pub recovery : RECOVERY
 recovery t coder decoder cs ds f =
-    recovery-any-memory t coder decoder cs ds (running f) (f .guard)
-    (bursts-separated (Wrong (sentBy coder cs) (takenBy decoder ds)) (t .depth) (delayOf t) (length (takenBy decoder ds)) (f .bursts))
+    recovery-any-memory t coder decoder cs ds (f .running) (f .guard)
+    (bursts-separated (Wrong (sentBy coder cs) (takenBy decoder ds)) (t .depth) (delayOf t)
+    (length (takenBy decoder ds)) (f .bursts))
+
+pub recovery-later : RECOVERY-LATER
+recovery-later t coder decoder cs0 ds0 cs ds c d ct dt running right bursts =
+    recovery t (coderAfter coder cs0) (decoderAfter decoder ds0) cs ds (record {
+      running = running;
+      coder-formed = formed-throughout t coder cs0 .0 c ct;
+      decoder-formed = formed-throughout t decoder ds0 .1 d dt;
+      guard = right;
+      bursts = bursts;
+    })
+
+pub same-delivery : (a b : Delivered) → _≡_ {A = DecodeAnswer} (Delivery a) (Delivery b)
+    → (a .info ≡ b .info) × (a .mark ≡ b .mark)
+same-delivery a b e = (cc, cc)
+
+pub doubtful : DOUBTFUL
+doubtful t coder decoder cs ds c d running right p info late h answer bursts =
+    let r = recovery t coder decoder cs ds
+    (record { running = running; coder-formed = c; decoder-formed = d; guard = right; bursts = bursts }) p late h in
+    r .2 (same-delivery _ _ (sym (r .1) ∙ answer) .1)

@@ -1,5 +1,6 @@
--- One stream as sequences, its blocks counted from 0: s is the syndrome word, raw the raw term and g the register, of N = w + 1 bits. From a block
--- with the syndrome word 0 on, and as long as the word is the register halved, the register holds the raw terms. Assumes nothing.
+-- One stream as sequences, its blocks counted from 0: s is the syndrome word, raw the raw term and g the register, of
+-- N = w + 1 bits. From a block with the syndrome word 0 on, and as long as the word is the register halved, the
+-- register holds the raw terms. Assumes nothing.
 --
 --   register-lt     it has N bits
 --   register-bit    and those are the raw terms
@@ -24,7 +25,8 @@ leb-add c k i = go (decLt i k)
     go (yes h) = lt-leb k i h ∙ sym (lt-leb (c + k) (c + i) (omega arith))
     go (no h) = le-leb k i (omega arith) ∙ sym (le-leb (c + k) (c + i) (omega arith))
 
-module _ (w : ℕ) (s g : ℕ → ℕ) (raw : ℕ → Bool) (c b : ℕ) (clear : s c ≡ 0) (joins : (d : ℕ) → c ≤ d → d ≤ b → g d ≡ s d + digit (raw d) * 2 ^ w)
+module _ (w : ℕ) (s g : ℕ → ℕ) (raw : ℕ → Bool) (c b : ℕ) (clear : s c ≡ 0)
+    (joins : (d : ℕ) → c ≤ d → d ≤ b → g d ≡ s d + digit (raw d) * 2 ^ w)
     (halves : (d : ℕ) → c ≤ d → d < b → s (suc d) ≡ g d / 2) where
   topped : (i : ℕ) → c + i ≤ b → s (c + i) < 2 ^ w → g (c + i) < 2 ^ suc w
   topped i h l = rw (joins (c + i) (omega arith) h) (topped-lt w (s (c + i)) (raw (c + i)) l)
@@ -52,14 +54,16 @@ module _ (w : ℕ) (s g : ℕ → ℕ) (raw : ℕ → Bool) (c b : ℕ) (clear :
   register-bits : (i a k : ℕ) → a + k ≡ w → c + i ≤ b → bit a (g (c + i)) ≡ cond (leb k i) (raw (c + i - k)) false
   register-bits i a zero e h =
       register-top i a h (omega arith)
-      ∙ ap₂ (λ (t : Bool) (p : ℕ). cond t (raw p) false) (sym (leb·zero i)) (let p : c + i ≡ c + i - 0 = omega arith in p)
+      ∙ ap₂ (λ (t : Bool) (p : ℕ). cond t (raw p) false) (sym (leb·zero i))
+      (let p : c + i ≡ c + i - 0 = omega arith in p)
   register-bits zero a (suc k) e h =
       register-rest 0 a h (omega arith) ∙ ap (bit a) (ap s (add-zero c) ∙ clear) ∙ bit-none a 0 (pow-pos a)
       ∙ ap (λ (t : Bool). cond t (raw (c + 0 - suc k)) false) (sym (leb·suc-zero k))
   register-bits (suc i) a (suc k) e h =
       register-rest (suc i) a h (omega arith) ∙ ap (bit a) (halved i h) ∙ sym (bit-suc a (g (c + i)))
       ∙ register-bits i (suc a) k (omega arith) (omega arith)
-      ∙ ap₂ (λ (t : Bool) (p : ℕ). cond t (raw p) false) (sym (leb·suc-suc k i)) (let p : c + i - k ≡ c + suc i - suc k = omega arith in p)
+      ∙ ap₂ (λ (t : Bool) (p : ℕ). cond t (raw p) false) (sym (leb·suc-suc k i))
+      (let p : c + i - k ≡ c + suc i - suc k = omega arith in p)
 
   module _ (from : c ≤ b) where
     pub register-lt : g b < 2 ^ suc w
@@ -70,5 +74,7 @@ module _ (w : ℕ) (s g : ℕ → ℕ) (raw : ℕ → Bool) (c b : ℕ) (clear :
     -- bit w − k is the term of k blocks ago, as far back as block c
     pub register-bit : (a k : ℕ) → a + k ≡ w → bit a (g b) ≡ cond (leb (c + k) b) (raw (b - k)) false
     register-bit a k e =
-        subst (λ (d : ℕ). bit a (g d) ≡ cond (leb (c + k) d) (raw (d - k)) false) (let p : c + (b - c) ≡ b = omega arith in p)
-        (register-bits (b - c) a k e (omega arith) ∙ ap (λ (t : Bool). cond t (raw (c + (b - c) - k)) false) (leb-add c k (b - c)))
+        subst (λ (d : ℕ). bit a (g d) ≡ cond (leb (c + k) d) (raw (d - k)) false)
+        (let p : c + (b - c) ≡ b = omega arith in p)
+        (register-bits (b - c) a k e (omega arith)
+        ∙ ap (λ (t : Bool). cond t (raw (c + (b - c) - k)) false) (leb-add c k (b - c)))

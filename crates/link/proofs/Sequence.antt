@@ -1,6 +1,7 @@
--- One stream as sequences, its blocks counted from 0, from any block of the stream on: D is the exclusive or of both pending words, s the
--- syndrome word, e the error. Right blocks make both words 0: that is the guard. From a block at which they are 0 on, each error is alone among
--- the blocks of the stream that are still delayed, is found as it leaves, and nothing is found before. Assumes nothing.
+-- One stream as sequences, its blocks counted from 0, from any block of the stream on: D is the exclusive or of both
+-- pending words, s the syndrome word, e the error. Right blocks make both words 0: that is the guard. From a block at
+-- which they are 0 on, each error is alone among the blocks of the stream that are still delayed, is found as it
+-- leaves, and nothing is found before. Assumes nothing.
 use mathlib.Core.Path.{_≡_, sym, ap, _∙_, subst}
 use mathlib.Core.Bool.{Bool, false}
 use mathlib.Core.Logic.{_≢_, _⊎_, inl, inr}
@@ -33,7 +34,8 @@ pub record Stream (n w : ℕ) (rows : List ℕ) (D s e : ℕ → ℕ) (count : �
   pub some : 1 ≤ w
   pub error-lt : (k : ℕ) → k < count → e k < 2 ^ n
   pub joint-next : (k : ℕ) → suc k < count → D (suc k) ≡ joint rows D e k / 2
-  pub syndrome-next : (k : ℕ) → suc k < count → s (suc k) ≡ keptOf (found rows (registered w rows D e s k)) (registered w rows D e s k)
+  pub syndrome-next : (k : ℕ) → suc k < count
+      → s (suc k) ≡ keptOf (found rows (registered w rows D e s k)) (registered w rows D e s k)
   pub joint-lt : D 0 < 2 ^ w
   pub syndrome-lt : (k : ℕ) → k < count → s k < 2 ^ w
 
@@ -44,7 +46,8 @@ kept-lt Missing x j h = omega arith
 module _ {n w : ℕ} {rows : List ℕ} {D s e : ℕ → ℕ} {count : ℕ} (S : Stream n w rows D s e count) where
   -- a right block adds nothing
   joint-right : (k : ℕ) → e k ≡ 0 → joint rows D e k ≡ D k
-  joint-right k h = ap (λ (x : ℕ). D k ⊕ combination rows x) h ∙ ap (λ (x : ℕ). D k ⊕ x) (combination-zero rows) ∙ xor-zero-r (D k)
+  joint-right k h =
+      ap (λ (x : ℕ). D k ⊕ combination rows x) h ∙ ap (λ (x : ℕ). D k ⊕ x) (combination-zero rows) ∙ xor-zero-r (D k)
 
   -- ---- the guard: the first `quiet` blocks are right
 
@@ -75,15 +78,18 @@ module _ {n w : ℕ} {rows : List ℕ} {D s e : ℕ → ℕ} {count : ℕ} (S : 
         let place : w + suc i ≡ suc (w + i) = omega arith in
         let zero-joint : joint rows D e (w + i) ≡ 0 =
         joint-right (w + i) (right (w + i) (omega arith) (omega arith)) ∙ guard-clean i (omega arith) (omega arith) in
-        let even : odd (joint rows D e (w + i)) ≡ false = odd-of false (joint rows D e (w + i)) (ap (λ (x : ℕ). x % 2) zero-joint) in
+        let even : odd (joint rows D e (w + i)) ≡ false =
+        odd-of false (joint rows D e (w + i)) (ap (λ (x : ℕ). x % 2) zero-joint) in
         let same : registered w rows D e s (w + i) ≡ s (w + i) =
-        ap (λ (b : Bool). s (w + i) + digit b * 2 ^ w) even ∙ ap (λ (x : ℕ). s (w + i) + x) (zero-mul (2 ^ w)) ∙ add-zero (s (w + i)) in
+        ap (λ (b : Bool). s (w + i) + digit b * 2 ^ w) even ∙ ap (λ (x : ℕ). s (w + i) + x) (zero-mul (2 ^ w))
+        ∙ add-zero (s (w + i)) in
         subst (λ (x : ℕ). x < 2 ^ j) (sym (ap s place ∙ S .syndrome-next (w + i) (omega arith)))
         (kept-lt (found rows (registered w rows D e s (w + i))) (registered w rows D e s (w + i)) j (rw same before))
 
   -- ---- errors
 
-  -- Before block k is judged, with its error joined: all errors of the last w blocks and this one are 0 but that of block j.
+  -- Before block k is judged, with its error joined: all errors of the last w blocks and this one are 0 but that of
+  -- block j.
   record Mid (k : ℕ) : Type 0 where
     j : ℕ
     a : ℕ
@@ -102,13 +108,16 @@ module _ {n w : ℕ} {rows : List ℕ} {D s e : ℕ → ℕ} {count : ℕ} (S : 
     l = w;
     whole = omega arith;
     place = omega arith;
-    rest = ap (λ (x : ℕ). x ⊕ combination rows (e k)) d ∙ xor-zero-l (combination rows (e k)) ∙ sym (div-one (combination rows (e k)));
+    rest =
+        ap (λ (x : ℕ). x ⊕ combination rows (e k)) d ∙ xor-zero-l (combination rows (e k))
+        ∙ sym (div-one (combination rows (e k)));
     lower = z ∙ sym (ap (λ (x : ℕ). x * 2 ^ w) (mod-one (combination rows (e k))) ∙ zero-mul (2 ^ w));
     others = others;
   }
 
   -- what is known of the blocks that stay, one block later
-  others-later : (k j : ℕ) → ((i d : ℕ) → i + d ≡ k → d ≤ w → i ≢ j → e i ≡ 0) → (i d : ℕ) → i + d ≡ suc k → d ≤ w → i ≢ suc k → i ≢ j → e i ≡ 0
+  others-later : (k j : ℕ) → ((i d : ℕ) → i + d ≡ k → d ≤ w → i ≢ j → e i ≡ 0) → (i d : ℕ) → i + d ≡ suc k → d ≤ w
+      → i ≢ suc k → i ≢ j → e i ≡ 0
   others-later k j others i d p q ne other = others i (d - 1) (omega arith) (omega arith) other
 
   mid-left : (k j : ℕ) → suc k < count → j + w ≡ k → joint rows D e k ≡ combination rows (e j) / 2 ^ w
@@ -121,7 +130,8 @@ module _ {n w : ℕ} {rows : List ℕ} {D s e : ℕ → ℕ} {count : ℕ} (S : 
   judged : (k x j a l : ℕ) → k < count → ((i : ℕ) → i + w ≡ k → e i ≡ x) → (k < w → x ≡ 0) → a + l ≡ w → j + a ≡ k
       → joint rows D e k ≡ combination rows (e j) / 2 ^ a → s k ≡ combination rows (e j) % 2 ^ a * 2 ^ l
       → ((i d : ℕ) → i + d ≡ k → d ≤ w → i ≢ j → e i ≡ 0)
-      → (errorOf (found rows (registered w rows D e s k)) ≡ x) × (markOf (found rows (registered w rows D e s k)) (registered w rows D e s k) ≢ Doubtful)
+      → (errorOf (found rows (registered w rows D e s k)) ≡ x)
+      × (markOf (found rows (registered w rows D e s k)) (registered w rows D e s k) ≢ Doubtful)
   judged k x j a zero h leaves none whole place rest lower others =
       let all : a ≡ w = omega arith in
       let out = leaving n w rows (S .code) (e j) (joint rows D e k) (s k) (S .error-lt j (omega arith))
@@ -129,17 +139,20 @@ module _ {n w : ℕ} {rows : List ℕ} {D s e : ℕ → ℕ} {count : ℕ} (S : 
       (subst (λ (y : ℕ). s k ≡ combination rows (e j) % 2 ^ y * 2 ^ 0) all lower) in
       (out .0 .error-is ∙ leaves j (omega arith), out .0 .sure)
   judged k x j a (suc l) h leaves none whole place rest lower others =
-      let out = staying n w rows (S .code) (e j) (joint rows D e k) (s k) a l (S .error-lt j (omega arith)) whole rest lower in
+      let out =
+      staying n w rows (S .code) (e j) (joint rows D e k) (s k) a l (S .error-lt j (omega arith)) whole rest lower in
       (out .0 .error-is ∙ sym (go (decLt k w)), out .0 .sure)
     where
       go : Dec (k < w) → x ≡ 0
       go (yes b) = none b
       go (no b) =
-          sym (leaves (k - w) (omega arith)) ∙ others (k - w) w (omega arith) (omega arith) (λ (same : k - w ≡ j). omega arith)
+          sym (leaves (k - w) (omega arith))
+          ∙ others (k - w) w (omega arith) (omega arith) (λ (same : k - w ≡ j). omega arith)
 
   -- of two blocks of the stream, at most w apart, one is right
   module _ (apart : (i d : ℕ) → 1 ≤ d → d ≤ w → i + d < count → (e i ≡ 0) ⊎ (e (i + d) ≡ 0)) where
-    mid-stayed : (k j a l : ℕ) → suc k < count → a + suc l ≡ w → j + a ≡ k → D (suc k) ≡ combination rows (e j) / 2 ^ suc a
+    mid-stayed : (k j a l : ℕ) → suc k < count → a + suc l ≡ w → j + a ≡ k
+        → D (suc k) ≡ combination rows (e j) / 2 ^ suc a
         → s (suc k) ≡ combination rows (e j) % 2 ^ suc a * 2 ^ l → ((i d : ℕ) → i + d ≡ k → d ≤ w → i ≢ j → e i ≡ 0)
         → ((e (suc k) ≡ 0) ⊎ (0 < e (suc k))) → Mid (suc k)
     mid-stayed k j a l h whole place rest lower others (inl right) = record {
@@ -158,8 +171,10 @@ module _ {n w : ℕ} {rows : List ℕ} {D s e : ℕ → ℕ} {count : ℕ} (S : 
         right-or-later i d p q ne (inr z) = others-later k j others i d p q (λ (same : i ≡ suc k). omega arith) ne
     mid-stayed k j a l h whole place rest lower others (inr wrong) =
         mid-clean (suc k)
-        (rest ∙ ap (λ (x : ℕ). combination rows x / 2 ^ suc a) none ∙ ap (λ (x : ℕ). x / 2 ^ suc a) (combination-zero rows) ∙ zero-div (2 ^ suc a))
-        (lower ∙ ap (λ (x : ℕ). combination rows x % 2 ^ suc a * 2 ^ l) none ∙ ap (λ (x : ℕ). x % 2 ^ suc a * 2 ^ l) (combination-zero rows)
+        (rest ∙ ap (λ (x : ℕ). combination rows x / 2 ^ suc a) none
+        ∙ ap (λ (x : ℕ). x / 2 ^ suc a) (combination-zero rows) ∙ zero-div (2 ^ suc a))
+        (lower ∙ ap (λ (x : ℕ). combination rows x % 2 ^ suc a * 2 ^ l) none
+        ∙ ap (λ (x : ℕ). x % 2 ^ suc a * 2 ^ l) (combination-zero rows)
         ∙ ap (λ (x : ℕ). x * 2 ^ l) (zero-mod (2 ^ suc a)) ∙ zero-mul (2 ^ l))
         (λ i d p q ne. alone i d (omega arith) q p (apart i d (omega arith) q (omega arith)))
       where
@@ -168,7 +183,9 @@ module _ {n w : ℕ} {rows : List ℕ} {D s e : ℕ → ℕ} {count : ℕ} (S : 
         alone i d from to p (inr z) = let y : e (suc k) ≡ 0 = ap e (sym p) ∙ z in absurd (omega arith)
 
         none : e j ≡ 0
-        none = alone j (suc a) (omega arith) (omega arith) (omega arith) (apart j (suc a) (omega arith) (omega arith) (omega arith))
+        none =
+            alone j (suc a) (omega arith) (omega arith) (omega arith)
+            (apart j (suc a) (omega arith) (omega arith) (omega arith))
 
     mid-step : (k j a l : ℕ) → suc k < count → a + l ≡ w → j + a ≡ k → joint rows D e k ≡ combination rows (e j) / 2 ^ a
         → s k ≡ combination rows (e j) % 2 ^ a * 2 ^ l → ((i d : ℕ) → i + d ≡ k → d ≤ w → i ≢ j → e i ≡ 0) → Mid (suc k)
@@ -177,21 +194,27 @@ module _ {n w : ℕ} {rows : List ℕ} {D s e : ℕ → ℕ} {count : ℕ} (S : 
         mid-left k j h (omega arith) (subst (λ (x : ℕ). joint rows D e k ≡ combination rows (e j) / 2 ^ x) all rest)
         (subst (λ (x : ℕ). s k ≡ combination rows (e j) % 2 ^ x * 2 ^ 0) all lower) others
     mid-step k j a (suc l) h whole place rest lower others =
-        let out = staying n w rows (S .code) (e j) (joint rows D e k) (s k) a l (S .error-lt j (omega arith)) whole rest lower in
-        mid-stayed k j a l h whole place (S .joint-next k h ∙ out .1) (S .syndrome-next k h ∙ out .0 .kept-is) others (eq-zero-or-pos (e (suc k)))
+        let out =
+        staying n w rows (S .code) (e j) (joint rows D e k) (s k) a l (S .error-lt j (omega arith)) whole rest lower in
+        mid-stayed k j a l h whole place (S .joint-next k h ∙ out .1) (S .syndrome-next k h ∙ out .0 .kept-is) others
+        (eq-zero-or-pos (e (suc k)))
 
     -- The stream is clean at block c, and the blocks before it that are still delayed are right.
-    module _ (c : ℕ) (joint-none : D c ≡ 0) (syndrome-none : s c ≡ 0) (before : (i d : ℕ) → i + d ≡ c → 1 ≤ d → d ≤ w → e i ≡ 0) where
+    module _ (c : ℕ) (joint-none : D c ≡ 0) (syndrome-none : s c ≡ 0)
+        (before : (i d : ℕ) → i + d ≡ c → 1 ≤ d → d ≤ w → e i ≡ 0) where
       mid : (d : ℕ) → c + d < count → Mid (c + d)
-      mid zero h = subst Mid (omega arith) (mid-clean c joint-none syndrome-none (λ i d p q ne. before i d p (omega arith) q))
+      mid zero h =
+          subst Mid (omega arith) (mid-clean c joint-none syndrome-none (λ i d p q ne. before i d p (omega arith) q))
       mid (suc d) h =
           let m = mid d (omega arith) in
           subst Mid (omega arith)
           (mid-step (c + d) (m .j) (m .a) (m .l) (omega arith) (m .whole) (m .place) (m .rest) (m .lower) (m .others))
 
-      -- when block k is judged, the error of block k − w is found, or 0 if that is none of the blocks, and the mark is not doubtful
+      -- when block k is judged, the error of block k − w is found, or 0 if that is none of the blocks, and the mark is
+      -- not doubtful
       pub stream-judged : (k x : ℕ) → c ≤ k → k < count → ((i : ℕ) → i + w ≡ k → e i ≡ x) → (k < w → x ≡ 0)
-          → (errorOf (found rows (registered w rows D e s k)) ≡ x) × (markOf (found rows (registered w rows D e s k)) (registered w rows D e s k) ≢ Doubtful)
+          → (errorOf (found rows (registered w rows D e s k)) ≡ x)
+          × (markOf (found rows (registered w rows D e s k)) (registered w rows D e s k) ≢ Doubtful)
       stream-judged k x from h leaves none =
           let at : c + (k - c) ≡ k = omega arith in
           let m = subst Mid at (mid (k - c) (omega arith)) in

@@ -1,8 +1,9 @@
--- 01's bounds are sharp: the three runs are computed, and all else that is said of their places follows from that. Assumes nothing.
+-- 01's bounds are sharp: the three runs are computed, and all else that is said of their places follows from that.
+-- Assumes nothing.
 use mathlib.Core.Path.{_≡_, refl, sym, ap, _∙_}
 use mathlib.Core.Bool.{true, xor}
 use mathlib.Core.Logic.{inl, inr}
-use mathlib.Core.List.{List, [], _∷_, map}
+use mathlib.Core.List.{List, [], _∷_, _++_, map}
 use Prim.Native.Nat.{ℕ, _+_, _-_, _*_, _≤_, _<_}
 use native.Mathlib.Omega.{arith}
 use lib.ListN.{length, getD, replicate, length-replicate, List·getD-map}
@@ -18,32 +19,76 @@ use Rattle.tables.specs.Reading.{reading}
 use Rattle.link.proofs.Examples.{examples-hold}
 use Rattle.link.specs.declared.decode.DecodeAnswer.{DecodeAnswer}
 use Rattle.link.specs.declared.decode.DecodeAnswer.the-variants.{NothingYet}
-use Rattle.link.specs.Stream.{joining}
-use Rattle.link.specs.Start.{started}
-use Rattle.link.specs.Memory.{coderWords}
-use Rattle.link.specs.Coder.{coderFault, coderJoining, codedBlock, coderNext, CoderFormed}
-use Rattle.link.specs.Decoder.{delayOf, pendingOf, syndromeOf, delayedOf, someAbove, decoderFault, decoderJoining, decoderRegister, decoderFound, partNext, decoderNext, delivered, delivery, DecoderFormed}
-use Rattle.link.specs.Runs.{Call, Sent, Taken, run, noneSent, noneTaken, sentAt, takenAt}
+use Rattle.link.specs.declared.decode.Mark.the-variants.{Clean, Doubtful, Held}
+use Rattle.link.specs.Memory.{joining, started, coderWords, delayOf, pendingOf, syndromeOf, delayedOf}
+use Rattle.link.specs.Refusals.{stepFault, coderFault, someAbove, decoderFault, answered, leaves}
+use Rattle.link.specs.Coder.{coderJoining, codedBlock, coderNext, codeAnswer, codeMemory}
+use Rattle.link.specs.Formed.{CoderFormed, DecoderFormed}
+use Rattle.link.specs.Decoder.{decoderJoining, decoderRegister, decoderFound, partNext, decoderNext, delivered}
+use Rattle.link.specs.Decoder.{delivery, decodeAnswer, decodeMemory}
+use Rattle.link.specs.Runs.{Call, Sent, Taken, run, sentBy, takenBy, noneSent, noneTaken, sentAt, takenAt}
 use Rattle.link.specs.Recovery.{Origin, Wrong, Stretch, Burst, Chosen, Within}
-use Rattle.link.specs.Computed.{Z, calls, delivers, differing}
+use Rattle.link.specs.Computed.{Z, calls, delivers, differing, sentBlocks, takenBlocks, answersOf}
 use Rattle.link.specs.Examples.{bytesOfZ}
-use Rattle.link.specs.Sharp.{filled, zerosSent, received, Shows, lateGuard, closeBursts, longBurst, SHARP-RUNS, RecoveryWith, BOUNDS, GUARD-SHARP, GAP-SHARP, LENGTH-SHARP}
+use Rattle.link.specs.Sharp.{RecoveryWith, GUARD-SHARP, GAP-SHARP, LENGTH-SHARP}
 use Rattle.link.proofs.Formed.{started-formed}
 use Rattle.link.proofs.Fade.{Sure}
-use Rattle.link.proofs.Recovery.{recovery}
-use Rattle.link.proofs.Premises.{fades, same-delivery}
-use Rattle.link.proofs.Computed.{each-at, key, In, Places, count, guarded-by, burst-by, bursts-by}
+use Rattle.link.proofs.Recovery.{same-delivery}
+use Rattle.link.proofs.Computed.{each-at, key, In, Places, count, running-by, right-by, burst-by, bursts-by}
+
+-- ---- the runs
+
+-- a decoder memory of Z with that pending word, its fill complete and all else 0; what the coder sends; what the
+-- decoder makes of these blocks; and that these blocks are taken, wrong at these places, and so answered
+abbrev filled : ℕ → List ℕ
+filled pending = 0 ∷ 3 ∷ pending ∷ replicate 4 0
+
+abbrev zerosSent : ℕ → List Sent
+zerosSent count = sentBy (started (coderWords (Z 1))) (calls (Z 1) (replicate count 0))
+
+abbrev received : ℕ → List ℕ → List Taken
+received pending blocks = takenBy (filled pending) (calls (Z 1) blocks)
+
+abbrev Shows : ℕ → List ℕ → List ℕ → List DecodeAnswer → Type 0
+Shows pending blocks wrong answers =
+    (sentBlocks (zerosSent (length blocks)) ≡ replicate (length blocks) 0)
+    × (takenBlocks (received pending blocks) ≡ blocks)
+    × (differing 1 (takenBlocks (received pending blocks)) (sentBlocks (zerosSent (length blocks))) ≡ wrong)
+    × (answersOf (received pending blocks) ≡ answers)
+
+abbrev lateGuard : List ℕ
+lateGuard = replicate 5 0 ++ (2 ∷ [])
+
+abbrev closeBursts : List ℕ
+closeBursts = replicate 6 0 ++ (1 ∷ 0 ∷ 0 ∷ 2 ∷ [])
+
+abbrev longBurst : List ℕ
+longBurst = replicate 6 0 ++ (1 ∷ 2 ∷ 0 ∷ 0 ∷ [])
+
+-- Places 1 to 5 are right and 6 is doubtful; places 7 and 10 are wrong, two places between them, and 10 delivers 1 in
+-- place of the 0 that was sent at 7; places 7 and 8 are wrong, and 10 delivers 1 again.
+abbrev Runs-shown : Type 0
+Runs-shown =
+    Shows 4 lateGuard (6 ∷ [])
+    (replicate 2 (delivers 0 Clean) ++ replicate 3 (delivers 0 Held) ++ (delivers 0 Doubtful ∷ []))
+    × Shows 0 closeBursts (7 ∷ 10 ∷ [])
+    (replicate 7 (delivers 0 Clean) ++ replicate 2 (delivers 0 Held) ++ (delivers 1 Held ∷ []))
+    × Shows 0 longBurst (7 ∷ 8 ∷ []) (replicate 9 (delivers 0 Clean) ++ (delivers 1 Held ∷ []))
 
 -- ---- what is computed
 
 -- a step of either run is handed Z, and zeros are sent
 record Handed (pending : ℕ) (blocks : List ℕ) : Type 0 where
-  sent : map (λ (x : Sent). key 1 (x .table)) (zerosSent (length blocks)) ≡ replicate (length (replicate {A = ℕ} (length blocks) 0)) (key 1 (Z 1))
+  sent : map (λ (x : Sent). key 1 (x .table)) (zerosSent (length blocks))
+      ≡ replicate (length (replicate {A = ℕ} (length blocks) 0)) (key 1 (Z 1))
   taken : map (λ (x : Taken). key 1 (x .table)) (received pending blocks) ≡ replicate (length blocks) (key 1 (Z 1))
   infos : map (λ (x : Sent). x .info) (zerosSent (length blocks)) ≡ replicate (length blocks) 0
 
-computed : SHARP-RUNS × (Handed 4 lateGuard × Handed 0 closeBursts × Handed 0 longBurst)
-unfolding run differing coderFault coderJoining codedBlock coderNext decoderFault someAbove decoderJoining decoderRegister decoderFound partNext decoderNext delivered delivery joining firstOf fit sizesFit rowsFit leastCoefficients leastFrom combination bit odd xor _⊕_
+computed : Runs-shown × (Handed 4 lateGuard × Handed 0 closeBursts × Handed 0 longBurst)
+unfolding run differing codeAnswer codeMemory decodeAnswer decodeMemory answered leaves stepFault coderFault
+    coderJoining codedBlock coderNext decoderFault someAbove decoderJoining decoderRegister decoderFound partNext
+    decoderNext delivered delivery joining firstOf fit sizesFit rowsFit leastCoefficients leastFrom combination bit odd
+    xor _⊕_
 computed = (
   ((refl, refl, refl, refl), (refl, refl, refl, refl), (refl, refl, refl, refl)),
   (
@@ -53,7 +98,7 @@ computed = (
   ),
 )
 
-pub sharp-runs : SHARP-RUNS
+sharp-runs : Runs-shown
 sharp-runs = computed .0
 
 -- ---- Z and the memories
@@ -77,13 +122,16 @@ filled-formed pending h = record {
   pending = each-at (λ k. pendingOf (Z 1) (filled pending) k < 8) 1 (h, tt);
   syndrome = each-at (λ k. syndromeOf (Z 1) (filled pending) k < 8) 1 (omega arith, tt);
   delayed = λ k i a b.
-      each-at (λ k. delayedOf (Z 1) (filled pending) k i < 2) 1
-      (each-at (λ i. delayedOf (Z 1) (filled pending) 0 i < 2) 3 (omega arith, (omega arith, (omega arith, tt))) i b, tt) k a;
+      each-at (λ k. delayedOf (Z 1) (filled pending) k i < 2) 1 (
+        each-at (λ i. delayedOf (Z 1) (filled pending) 0 i < 2) 3 (omega arith, (omega arith, (omega arith, tt))) i b,
+        tt,
+      ) k a;
 }
 
 -- ---- what recovery with other numbers would say of such a run
 
-module _ (pending : ℕ) (blocks wrong : List ℕ) (answers : List DecodeAnswer) (shows : Shows pending blocks wrong answers) (h : Handed pending blocks) where
+module _ (pending : ℕ) (blocks wrong : List ℕ) (answers : List DecodeAnswer)
+    (shows : Shows pending blocks wrong answers) (h : Handed pending blocks) where
   abbrev coder : List ℕ
   coder = started (coderWords (Z 1))
 
@@ -114,34 +162,43 @@ module _ (pending : ℕ) (blocks wrong : List ℕ) (answers : List DecodeAnswer)
       sym (List·getD-map (λ (x : Sent). x .info) (zerosSent (length blocks)) (p - 1) noneSent)
       ∙ ap (λ (l : List ℕ). getD l (p - 1) 0) (h .infos) ∙ zeros-at (length blocks) (p - 1)
 
-  burst : (long a b : ℕ) → 1 ≤ a → a ≤ b → b < a + long → b ≤ length blocks → 0 < getD blocks (a - 1) 0 → 0 < getD blocks (b - 1) 0
-      → Burst (Wrong (zerosSent (length blocks)) (received pending blocks)) long (length (received pending blocks)) (record { first = a; last = b })
+  burst : (long a b : ℕ) → 1 ≤ a → a ≤ b → b < a + long → b ≤ length blocks → 0 < getD blocks (a - 1) 0
+      → 0 < getD blocks (b - 1) 0
+      → Burst (Wrong (zerosSent (length blocks)) (received pending blocks)) long (length (received pending blocks))
+      (record { first = a; last = b })
   burst long a b from order short inside u v =
       burst-by places long a b from order short inside
-      (λ e. let z = zeros-at (length blocks) (a - 1) in omega arith) (λ e. let z = zeros-at (length blocks) (b - 1) in omega arith)
+      (λ e. let z = zeros-at (length blocks) (a - 1) in omega arith)
+      (λ e. let z = zeros-at (length blocks) (b - 1) in omega arith)
 
   would-answer : (right long gap : Table → ℕ) → RecoveryWith right long gap → pending < 8 → (chosen : List Stretch)
-      → Chosen (Wrong (zerosSent (length blocks)) (received pending blocks)) (long (Z 1)) (gap (Z 1)) (length (received pending blocks)) chosen
+      → Chosen (Wrong (zerosSent (length blocks)) (received pending blocks)) (long (Z 1)) (gap (Z 1))
+      (length (received pending blocks)) chosen
       → ((p : ℕ) → In p wrong → Within p chosen × (right (Z 1) < p)) → (p : ℕ) → right (Z 1) < p → p ≤ length blocks
       → Sure (getD answers (p - 1) NothingYet) 0
   would-answer right long gap r small chosen apart covered p late to =
       let all = count places in
-      let w = r (Z 1) coder (filled pending) cs ds coder-formed (filled-formed pending small)
-      (guarded-by places (Z 1) (right (Z 1)) Z-origin (h .sent) (h .taken) (λ q i. covered q i .1))
-      (bursts-by places (long (Z 1)) (gap (Z 1)) chosen apart (λ q i. covered q i .0))
-      p late (omega arith) in
+      let w = r (Z 1) coder (filled pending) cs ds (record {
+        running = running-by places (Z 1) Z-origin (h .sent) (h .taken);
+        coder-formed = coder-formed;
+        decoder-formed = filled-formed pending small;
+        guard = right-by places (right (Z 1)) (λ q i. covered q i .1);
+        bursts = bursts-by places (long (Z 1)) (gap (Z 1)) chosen apart (λ q i. covered q i .0);
+      }) p late (omega arith) in
       (w .0, sym (answer-at p) ∙ w .1 ∙ ap (λ (x : ℕ). delivers x (w .0)) (info-at (p - delayOf (Z 1))), w .2)
 
 -- ---- the bounds
 
-pub bounds : BOUNDS
-bounds t coder decoder cs ds c d g b = recovery t coder decoder cs ds (fades t coder decoder cs ds c d g b)
-
 pub guard-sharp : GUARD-SHARP
 guard-sharp r =
-    let w = would-answer 4 lateGuard _ _ (sharp-runs .0) (computed .1 .0) (λ t. 2 * delayOf t - 1) (λ t. t .depth) (λ t. delayOf t) r (omega arith)
-    (record { first = 6; last = 6 } ∷ [])
-    (burst 4 lateGuard _ _ (sharp-runs .0) (computed .1 .0) 1 6 6 (omega arith) (omega arith) (omega arith) (omega arith) (omega arith) (omega arith), tt, tt)
+    let w = would-answer 4 lateGuard _ _ (sharp-runs .0) (computed .1 .0) (λ t. 2 * delayOf t - 1) (λ t. t .depth)
+    (λ t. delayOf t) r (omega arith)
+    (record { first = 6; last = 6 } ∷ []) (
+      burst 4 lateGuard _ _ (sharp-runs .0) (computed .1 .0) 1 6 6 (omega arith) (omega arith) (omega arith)
+          (omega arith) (omega arith) (omega arith),
+      tt,
+      tt,
+    )
     covered 6 (omega arith) (omega arith) in
     w .2 (same-delivery _ _ (sym (w .1)) .1)
   where
@@ -151,26 +208,39 @@ guard-sharp r =
 
 pub gap-sharp : GAP-SHARP
 gap-sharp r =
-    let w = would-answer 0 closeBursts _ _ (sharp-runs .1) (computed .1 .1) (λ t. 2 * delayOf t) (λ t. t .depth) (λ t. delayOf t - 1) r (omega arith)
+    let w = would-answer 0 closeBursts _ _ (sharp-runs .1) (computed .1 .1) (λ t. 2 * delayOf t) (λ t. t .depth)
+    (λ t. delayOf t - 1) r (omega arith)
     (record { first = 7; last = 7 } ∷ record { first = 10; last = 10 } ∷ []) (
-      burst 0 closeBursts _ _ (sharp-runs .1) (computed .1 .1) 1 7 7 (omega arith) (omega arith) (omega arith) (omega arith) (omega arith) (omega arith),
+      burst 0 closeBursts _ _ (sharp-runs .1) (computed .1 .1) 1 7 7 (omega arith) (omega arith) (omega arith)
+          (omega arith) (omega arith) (omega arith),
       omega arith,
-      (burst 0 closeBursts _ _ (sharp-runs .1) (computed .1 .1) 1 10 10 (omega arith) (omega arith) (omega arith) (omega arith) (omega arith) (omega arith), tt, tt),
+      (
+        burst 0 closeBursts _ _ (sharp-runs .1) (computed .1 .1) 1 10 10 (omega arith) (omega arith) (omega arith)
+            (omega arith) (omega arith) (omega arith),
+        tt,
+        tt,
+      ),
     )
     covered 10 (omega arith) (omega arith) in
     let z : _≡_ {A = ℕ} 1 0 = same-delivery _ _ (w .1) .0 in
     omega arith
   where
-    covered : (p : ℕ) → In p (7 ∷ 10 ∷ []) → Within p (record { first = 7; last = 7 } ∷ record { first = 10; last = 10 } ∷ []) × (6 < p)
+    covered : (p : ℕ) → In p (7 ∷ 10 ∷ [])
+        → Within p (record { first = 7; last = 7 } ∷ record { first = 10; last = 10 } ∷ []) × (6 < p)
     covered p (inl e) = (inl (omega arith, omega arith), omega arith)
     covered p (inr (inl e)) = (inr (inl (omega arith, omega arith)), omega arith)
     covered p (inr (inr z)) = absurd z
 
 pub length-sharp : LENGTH-SHARP
 length-sharp r =
-    let w = would-answer 0 longBurst _ _ (sharp-runs .2) (computed .1 .2) (λ t. 2 * delayOf t) (λ t. t .depth + 1) (λ t. delayOf t) r (omega arith)
-    (record { first = 7; last = 8 } ∷ [])
-    (burst 0 longBurst _ _ (sharp-runs .2) (computed .1 .2) 2 7 8 (omega arith) (omega arith) (omega arith) (omega arith) (omega arith) (omega arith), tt, tt)
+    let w = would-answer 0 longBurst _ _ (sharp-runs .2) (computed .1 .2) (λ t. 2 * delayOf t) (λ t. t .depth + 1)
+    (λ t. delayOf t) r (omega arith)
+    (record { first = 7; last = 8 } ∷ []) (
+      burst 0 longBurst _ _ (sharp-runs .2) (computed .1 .2) 2 7 8 (omega arith) (omega arith) (omega arith)
+          (omega arith) (omega arith) (omega arith),
+      tt,
+      tt,
+    )
     covered 10 (omega arith) (omega arith) in
     let z : _≡_ {A = ℕ} 1 0 = same-delivery _ _ (w .1) .0 in
     omega arith

@@ -1,8 +1,9 @@
--- The words of one step of coder and decoder, with the parity's row in the image: pending word and image of the block, halved, are the new
--- pending word; what is dropped is 0 for the coder and the raw term for the decoder. So for the exclusive or of both, with the image of the
--- error. Then what a step finds, where its register is a shifted image. Assumes nothing.
+-- The words of one step of coder and decoder, with the parity's row in the image: pending word and image of the block,
+-- halved, are the new pending word; what is dropped is 0 for the coder and the raw term for the decoder. So for the
+-- exclusive or of both, with the image of the error. Then what a step finds, where its register is a shifted image.
+-- Assumes nothing.
 use mathlib.Core.Path.{_≡_, refl, sym, ap, ap₂, _∙_, subst}
-use mathlib.Core.Bool.{Bool, true, false, xor}
+use mathlib.Core.Bool.{Bool, true, false, xor, cond}
 use mathlib.Core.Logic.{_≢_, _⊎_, inl, inr}
 use mathlib.Core.List.{List, [], _∷_, _++_}
 use Prim.Native.Nat.{ℕ, suc, _+_, _*_, _/_, _%_, _^_, _<_}
@@ -18,43 +19,48 @@ use Rattle.span.specs.declared.eliminate.Least.the-variants.{Found, Missing}
 use Rattle.span.specs.Word.{_⊕_, odd, bit, sel, digit, shifted}
 use Rattle.span.specs.Combination.{combination}
 use Rattle.span.specs.Relation.{leastCoefficients}
-use Rattle.span.proofs.Word.{xor-self-bool, xor-assoc, xor-swap, xor-zero-r, xor-half, odd-xor, odd-digit, odd-mod, odd-of, xor-false-r, bit-odd, shifted-mod, shifted-inside}
+use Rattle.span.proofs.Word.{xor-self-bool, xor-assoc, xor-swap, xor-zero-r, xor-half, odd-xor, odd-digit, odd-mod}
+use Rattle.span.proofs.Word.{odd-of, xor-false-r, bit-odd, shifted-mod, shifted-inside, digit-half}
 use Rattle.span.proofs.Combination.{combination-last, combination-low, combination-xor}
 use Rattle.link.specs.declared.decode.Mark.the-variants.{Clean, Corrected, Doubtful, Held}
-use Rattle.link.specs.Stream.{joining}
+use Rattle.link.specs.Memory.{joining}
 use Rattle.link.specs.Step.{found, errorOf, keptOf, markOf}
 use Rattle.link.proofs.Suitable.{Corrects}
 
-digit-half : (s : Bool) → digit s / 2 ≡ 0
-digit-half true = refl
-digit-half false = refl
-
--- a number below 2^ν with s as bit ν: a coded block, its parity above the information, and a register, its raw term above the syndrome word
+-- a number below 2^ν with s as bit ν: a coded block, its parity above the information, and a register, its raw term
+-- above the syndrome word
 module _ (ν b : ℕ) (s : Bool) (h : b < 2 ^ ν) where
   pub topped-low : (b + digit s * 2 ^ ν) % 2 ^ ν ≡ b
   topped-low = ap (λ (x : ℕ). x % 2 ^ ν) (add-comm b (digit s * 2 ^ ν)) ∙ low (digit s) ν h
 
   pub topped-bit : bit ν (b + digit s * 2 ^ ν) ≡ s
   topped-bit =
-      bit-odd ν (b + digit s * 2 ^ ν) ∙ ap odd (ap (λ (x : ℕ). x / 2 ^ ν) (add-comm b (digit s * 2 ^ ν)) ∙ high (digit s) ν h) ∙ odd-digit s
+      bit-odd ν (b + digit s * 2 ^ ν)
+      ∙ ap odd (ap (λ (x : ℕ). x / 2 ^ ν) (add-comm b (digit s * 2 ^ ν)) ∙ high (digit s) ν h) ∙ odd-digit s
 
 module _ (infos : List ℕ) (ν : ℕ) (size : length infos ≡ ν) where
   image-split : (r : ℕ) → combination (infos ++ (1 ∷ [])) r ≡ combination infos (r % 2 ^ ν) ⊕ digit (bit ν r)
   image-split r =
       combination-last infos 1 r
-      ∙ ap₂ (λ (x : ℕ) (k : ℕ). x ⊕ sel (bit k r) 1) (sym (combination-low infos r) ∙ ap (λ (k : ℕ). combination infos (r % 2 ^ k)) size) size
+      ∙ ap₂ (λ (x : ℕ) (k : ℕ). x ⊕ sel (bit k r) 1)
+      (sym (combination-low infos r) ∙ ap (λ (k : ℕ). combination infos (r % 2 ^ k)) size) size
 
-  joined : (pending r : ℕ) → pending ⊕ combination (infos ++ (1 ∷ [])) r ≡ joining infos pending (r % 2 ^ ν) ⊕ digit (bit ν r)
+  joined : (pending r : ℕ)
+      → pending ⊕ combination (infos ++ (1 ∷ [])) r ≡ joining infos pending (r % 2 ^ ν) ⊕ digit (bit ν r)
   unfolding joining
   joined pending r =
-      ap (λ (x : ℕ). pending ⊕ x) (image-split r) ∙ sym (xor-assoc pending (combination infos (r % 2 ^ ν)) (digit (bit ν r)))
+      ap (λ (x : ℕ). pending ⊕ x) (image-split r)
+      ∙ sym (xor-assoc pending (combination infos (r % 2 ^ ν)) (digit (bit ν r)))
 
-  pub joined-half : (pending r : ℕ) → (pending ⊕ combination (infos ++ (1 ∷ [])) r) / 2 ≡ joining infos pending (r % 2 ^ ν) / 2
+  pub joined-half : (pending r : ℕ)
+      → (pending ⊕ combination (infos ++ (1 ∷ [])) r) / 2 ≡ joining infos pending (r % 2 ^ ν) / 2
   joined-half pending r =
       ap (λ (x : ℕ). x / 2) (joined pending r) ∙ xor-half (joining infos pending (r % 2 ^ ν)) (digit (bit ν r))
-      ∙ ap (λ (x : ℕ). joining infos pending (r % 2 ^ ν) / 2 ⊕ x) (digit-half (bit ν r)) ∙ xor-zero-r (joining infos pending (r % 2 ^ ν) / 2)
+      ∙ ap (λ (x : ℕ). joining infos pending (r % 2 ^ ν) / 2 ⊕ x) (digit-half (bit ν r))
+      ∙ xor-zero-r (joining infos pending (r % 2 ^ ν) / 2)
 
-  pub joined-odd : (pending r : ℕ) → odd (pending ⊕ combination (infos ++ (1 ∷ [])) r) ≡ xor (odd (joining infos pending (r % 2 ^ ν))) (bit ν r)
+  pub joined-odd : (pending r : ℕ)
+      → odd (pending ⊕ combination (infos ++ (1 ∷ [])) r) ≡ xor (odd (joining infos pending (r % 2 ^ ν))) (bit ν r)
   joined-odd pending r =
       ap odd (joined pending r) ∙ odd-xor (joining infos pending (r % 2 ^ ν)) (digit (bit ν r))
       ∙ ap (λ (s : Bool). xor (odd (joining infos pending (r % 2 ^ ν))) s) (odd-digit (bit ν r))
@@ -70,7 +76,8 @@ module _ (infos : List ℕ) (ν : ℕ) (size : length infos ≡ ν) where
     pub coder-even : odd (pc ⊕ combination (infos ++ (1 ∷ [])) c) ≡ false
     coder-even =
         joined-odd pc c
-        ∙ ap₂ xor (ap (λ (x : ℕ). odd (joining infos pc x)) coder-info) (ap (bit ν) coded ∙ topped-bit ν b (odd (joining infos pc b)) h)
+        ∙ ap₂ xor (ap (λ (x : ℕ). odd (joining infos pc x)) coder-info)
+        (ap (bit ν) coded ∙ topped-bit ν b (odd (joining infos pc b)) h)
         ∙ xor-self-bool (odd (joining infos pc b))
 
     both : pd ⊕ pc ⊕ combination (infos ++ (1 ∷ [])) (r ⊕ c)
@@ -79,13 +86,15 @@ module _ (infos : List ℕ) (ν : ℕ) (size : length infos ≡ ν) where
         ap (λ (x : ℕ). pd ⊕ pc ⊕ x) (combination-xor (infos ++ (1 ∷ [])) r c)
         ∙ xor-swap pd pc (combination (infos ++ (1 ∷ [])) r) (combination (infos ++ (1 ∷ [])) c)
 
-    pub both-half : (pd ⊕ pc ⊕ combination (infos ++ (1 ∷ [])) (r ⊕ c)) / 2 ≡ joining infos pd (r % 2 ^ ν) / 2 ⊕ joining infos pc b / 2
+    pub both-half : (pd ⊕ pc ⊕ combination (infos ++ (1 ∷ [])) (r ⊕ c)) / 2
+        ≡ joining infos pd (r % 2 ^ ν) / 2 ⊕ joining infos pc b / 2
     both-half =
         ap (λ (x : ℕ). x / 2) both
         ∙ xor-half (pd ⊕ combination (infos ++ (1 ∷ [])) r) (pc ⊕ combination (infos ++ (1 ∷ [])) c)
         ∙ ap₂ _⊕_ (joined-half pd r) coder-half
 
-    pub both-odd : odd (pd ⊕ pc ⊕ combination (infos ++ (1 ∷ [])) (r ⊕ c)) ≡ xor (odd (joining infos pd (r % 2 ^ ν))) (bit ν r)
+    pub both-odd : odd (pd ⊕ pc ⊕ combination (infos ++ (1 ∷ [])) (r ⊕ c))
+        ≡ xor (odd (joining infos pd (r % 2 ^ ν))) (bit ν r)
     both-odd =
         ap odd both
         ∙ odd-xor (pd ⊕ combination (infos ++ (1 ∷ [])) r) (pc ⊕ combination (infos ++ (1 ∷ [])) c)
@@ -101,24 +110,29 @@ pub record Outcome (f : Least) (x error kept : ℕ) : Type 0 where
   pub kept-is : keptOf f x ≡ kept
   pub sure : markOf f x ≢ Doubtful
 
-mark-found : (s : Bool) (e : ℕ) → elim s [ true ↦ Clean | false ↦ Corrected e ] ≢ Doubtful
+mark-found : (s : Bool) (e : ℕ) → cond s Clean (Corrected e) ≢ Doubtful
 mark-found true e h = let z : _≡_ {A = ℕ} 0 1 = cc in omega arith
 mark-found false e h = let z : _≡_ {A = ℕ} 0 1 = cc in omega arith
 
-mark-missing : (s : Bool) → s ≡ false → elim s [ true ↦ Doubtful | false ↦ Held ] ≢ Doubtful
+mark-missing : (s : Bool) → s ≡ false → cond s Doubtful Held ≢ Doubtful
 mark-missing true e h = let z : _≡_ {A = ℕ} 0 1 = cc in omega arith
 mark-missing false e h = let z : _≡_ {A = ℕ} 0 1 = cc in omega arith
 
 outcome-found : (f : Least) (x e : ℕ) → f ≡ Found e → Outcome f x e 0
-outcome-found f x e q = subst (λ (g : Least). Outcome g x e 0) (sym q) (record { error-is = refl; kept-is = refl; sure = mark-found (eqb e 0) e })
+outcome-found f x e q =
+    subst (λ (g : Least). Outcome g x e 0) (sym q)
+    (record { error-is = refl; kept-is = refl; sure = mark-found (eqb e 0) e })
 
 outcome-missing : (f : Least) (x : ℕ) → f ≡ Missing → odd x ≡ false → Outcome f x 0 (x / 2)
 outcome-missing f x q even =
-    subst (λ (g : Least). Outcome g x 0 (x / 2)) (sym q) (record { error-is = refl; kept-is = refl; sure = mark-missing (odd x) even })
+    subst (λ (g : Least). Outcome g x 0 (x / 2)) (sym q)
+    (record { error-is = refl; kept-is = refl; sure = mark-missing (odd x) even })
 
 module _ (n w : ℕ) (rows : List ℕ) (code : Corrects n w rows) where
-  -- The error block x came a blocks ago, and l are to come before it leaves: v is what is left of its image, and its lower part is the syndrome.
-  module _ (x v s a l : ℕ) (whole : a + l ≡ w) (rest : v ≡ combination rows x / 2 ^ a) (lower : s ≡ combination rows x % 2 ^ a * 2 ^ l) where
+  -- The error block x came a blocks ago, and l are to come before it leaves: v is what is left of its image, and its
+  -- lower part is the syndrome.
+  module _ (x v s a l : ℕ) (whole : a + l ≡ w) (rest : v ≡ combination rows x / 2 ^ a)
+      (lower : s ≡ combination rows x % 2 ^ a * 2 ^ l) where
     register-part : s + digit (odd v) * 2 ^ w ≡ combination rows x % 2 ^ suc a * 2 ^ l
     register-part =
         let y = combination rows x in
@@ -127,13 +141,16 @@ module _ (n w : ℕ) (rows : List ℕ) (code : Corrects n w rows) where
         ap (λ (k : ℕ). y % 2 ^ k) (sym (one-add a)) ∙ mod-pow-add y 1 a
         ∙ ap (λ (z : ℕ). z % 2 * 2 ^ a + y % 2 ^ a) (sym rest) ∙ ap (λ (z : ℕ). z * 2 ^ a + y % 2 ^ a) d in
         let top : digit (odd v) * 2 ^ a * 2 ^ l ≡ digit (odd v) * 2 ^ w =
-        mul-assoc (digit (odd v)) (2 ^ a) (2 ^ l) ∙ ap (λ (z : ℕ). digit (odd v) * z) (sym (pow-add 2 a l) ∙ ap (λ (k : ℕ). 2 ^ k) whole) in
-        add-comm s (digit (odd v) * 2 ^ w) ∙ ap₂ _+_ (sym top) lower ∙ sym (add-mul (digit (odd v) * 2 ^ a) (y % 2 ^ a) (2 ^ l))
+        mul-assoc (digit (odd v)) (2 ^ a) (2 ^ l)
+        ∙ ap (λ (z : ℕ). digit (odd v) * z) (sym (pow-add 2 a l) ∙ ap (λ (k : ℕ). 2 ^ k) whole) in
+        add-comm s (digit (odd v) * 2 ^ w) ∙ ap₂ _+_ (sym top) lower
+        ∙ sym (add-mul (digit (odd v) * 2 ^ a) (y % 2 ^ a) (2 ^ l))
         ∙ ap (λ (z : ℕ). z * 2 ^ l) (sym parts)
 
     register-shifted : s + digit (odd v) * 2 ^ w ≡ shifted (suc w) l (combination rows x)
     register-shifted =
-        register-part ∙ sym (shifted-mod (suc a) l (combination rows x)) ∙ ap (λ (k : ℕ). shifted k l (combination rows x)) (omega arith)
+        register-part ∙ sym (shifted-mod (suc a) l (combination rows x))
+        ∙ ap (λ (k : ℕ). shifted k l (combination rows x)) (omega arith)
 
   -- the error leaves: it is found, and the stream is clean again
   pub leaving : (x v s : ℕ) → x < 2 ^ n → v ≡ combination rows x / 2 ^ w → s ≡ combination rows x % 2 ^ w * 2 ^ 0
@@ -141,14 +158,21 @@ module _ (n w : ℕ) (rows : List ℕ) (code : Corrects n w rows) where
   leaving x v s h rest lower =
       let y = combination rows x in
       let same : s + digit (odd v) * 2 ^ w ≡ y =
-      register-shifted x v s w 0 (omega arith) rest lower ∙ shifted-inside (suc w) 0 (suc w) y (code .image-lt x) (omega arith) ∙ mul-one y in
+      register-shifted x v s w 0 (omega arith) rest lower
+      ∙ shifted-inside (suc w) 0 (suc w) y (code .image-lt x) (omega arith) ∙ mul-one y in
       let none : v / 2 ≡ 0 =
-      ap (λ (z : ℕ). z / 2) rest ∙ shr-shr y w 1 ∙ ap (λ (k : ℕ). y / 2 ^ k) (add-one w) ∙ div-eq-of-lt (code .image-lt x) in
-      (outcome-found (leastCoefficients rows (s + digit (odd v) * 2 ^ w)) (s + digit (odd v) * 2 ^ w) x (ap (leastCoefficients rows) same ∙ code .image-found x h), none)
+      ap (λ (z : ℕ). z / 2) rest ∙ shr-shr y w 1 ∙ ap (λ (k : ℕ). y / 2 ^ k) (add-one w)
+      ∙ div-eq-of-lt (code .image-lt x) in (
+        outcome-found (leastCoefficients rows (s + digit (odd v) * 2 ^ w)) (s + digit (odd v) * 2 ^ w) x
+            (ap (leastCoefficients rows) same ∙ code .image-found x h),
+        none,
+      )
 
   -- it stays: nothing is found but 0, and the words move on
-  pub staying : (x v s a l : ℕ) → x < 2 ^ n → a + suc l ≡ w → v ≡ combination rows x / 2 ^ a → s ≡ combination rows x % 2 ^ a * 2 ^ suc l
-      → Outcome (found rows (s + digit (odd v) * 2 ^ w)) (s + digit (odd v) * 2 ^ w) 0 (combination rows x % 2 ^ suc a * 2 ^ l)
+  pub staying : (x v s a l : ℕ) → x < 2 ^ n → a + suc l ≡ w → v ≡ combination rows x / 2 ^ a
+      → s ≡ combination rows x % 2 ^ a * 2 ^ suc l
+      → Outcome (found rows (s + digit (odd v) * 2 ^ w)) (s + digit (odd v) * 2 ^ w) 0
+      (combination rows x % 2 ^ suc a * 2 ^ l)
       × (v / 2 ≡ combination rows x / 2 ^ suc a)
   staying x v s a l h whole rest lower = (go (code .shifted-found (suc l) x (omega arith) (omega arith) h), on)
     where
@@ -178,6 +202,8 @@ module _ (n w : ℕ) (rows : List ℕ) (code : Corrects n w rows) where
           → Outcome (leastCoefficients rows reg) reg 0 (y % 2 ^ suc a * 2 ^ l)
       go (inl z) =
           let none : y % 2 ^ suc a * 2 ^ l ≡ 0 = sym half ∙ ap (λ (u : ℕ). u / 2) (same ∙ z .0) in
-          subst (Outcome (leastCoefficients rows reg) reg 0) (sym none) (outcome-found (leastCoefficients rows reg) reg 0 (ap (leastCoefficients rows) same ∙ z .1))
+          subst (Outcome (leastCoefficients rows reg) reg 0) (sym none)
+          (outcome-found (leastCoefficients rows reg) reg 0 (ap (leastCoefficients rows) same ∙ z .1))
       go (inr z) =
-          subst (Outcome (leastCoefficients rows reg) reg 0) half (outcome-missing (leastCoefficients rows reg) reg (ap (leastCoefficients rows) same ∙ z) even)
+          subst (Outcome (leastCoefficients rows reg) reg 0) half
+          (outcome-missing (leastCoefficients rows reg) reg (ap (leastCoefficients rows) same ∙ z) even)

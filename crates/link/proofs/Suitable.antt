@@ -1,5 +1,5 @@
--- What the link needs of a code, as one record, and why a suitable table has it: the image of an error block gives back that block, and a
--- shifted image is 0 or the image of no block. Assumes nothing.
+-- What the link needs of a code, as one record, and why a suitable table has it: the image of an error block gives back
+-- that block, and a shifted image is 0 or the image of no block. Assumes nothing.
 use mathlib.Core.Path.{_≡_, refl, sym, ap, _∙_, subst}
 use mathlib.Core.Logic.{_⊎_, inl, inr}
 use mathlib.Core.List.{List}
@@ -23,11 +23,13 @@ pub record Corrects (n w : ℕ) (rows : List ℕ) : Type 0 where
   pub image-lt : (e : ℕ) → combination rows e < 2 ^ suc w
   pub image-found : (e : ℕ) → e < 2 ^ n → leastCoefficients rows (combination rows e) ≡ Found e
   pub shifted-found : (l e : ℕ) → 1 ≤ l → l ≤ w → e < 2 ^ n
-      → ((shifted (suc w) l (combination rows e) ≡ 0) × (leastCoefficients rows (shifted (suc w) l (combination rows e)) ≡ Found 0))
+      → ((shifted (suc w) l (combination rows e) ≡ 0)
+      × (leastCoefficients rows (shifted (suc w) l (combination rows e)) ≡ Found 0))
       ⊎ (leastCoefficients rows (shifted (suc w) l (combination rows e)) ≡ Missing)
 
 module _ (w : ℕ) (rows : List ℕ) (some : 1 ≤ w) (suits : Suitable (suc w) rows) where
-  least-is : (x : ℕ) (f : Least) → leastCoefficients rows x ≡ f → IsLeast (λ (c : ℕ). combination rows c ≡ x) 0 (2 ^ length rows) f
+  least-is : (x : ℕ) (f : Least) → leastCoefficients rows x ≡ f
+      → IsLeast (λ (c : ℕ). combination rows c ≡ x) 0 (2 ^ length rows) f
   least-is x f e = subst (IsLeast (λ (c : ℕ). combination rows c ≡ x) 0 (2 ^ length rows)) e (least-coefficients rows x)
 
   -- the rows are independent: e1 = 0 is allowed in a clash
@@ -41,7 +43,8 @@ module _ (w : ℕ) (rows : List ℕ) (some : 1 ≤ w) (suits : Suitable (suc w) 
       xor-eq c e (rows-independent (c ⊕ e) (xor-lt (length rows) c e hc he)
       (combination-xor rows c e ∙ ap (λ (x : ℕ). x ⊕ combination rows e) same ∙ xor-self (combination rows e)))
 
-  suitable-found : (e : ℕ) → e < 2 ^ length rows → (f : Least) → leastCoefficients rows (combination rows e) ≡ f → f ≡ Found e
+  suitable-found : (e : ℕ) → e < 2 ^ length rows → (f : Least)
+      → leastCoefficients rows (combination rows e) ≡ f → f ≡ Found e
   suitable-found e h (Found c) q =
       let l = least-is (combination rows e) (Found c) q in
       ap Found (same-image c e (l .1) h (l .2))

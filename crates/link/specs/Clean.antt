@@ -1,8 +1,11 @@
--- From a clean memory no guard is needed: bursts from place 1 on are all corrected, and no mark is doubtful. (000, III.B: correction of a burst's
--- last block "completely clears the decoder of erroneous symbols and the decoder is ready to accept the beginning of a new burst".)
+-- From a clean memory no guard is needed: bursts from place 1 on are all corrected, and no mark is doubtful. (000,
+-- III.B: correction of a burst's last block "completely clears the decoder of erroneous symbols and the decoder is
+-- ready to accept the beginning of a new burst".)
 --
---   Clean t coder decoder   no stream's syndrome word has a one, and coder and decoder have the same pending words, stream by stream in turn
---   Undisturbed t decoder taken p   the answer at a place too early for a block that was taken: a block of the first memory leaves as it was
+--   Clean t coder decoder   no stream's syndrome word has a one, and coder and decoder have the same pending words,
+--                           stream by stream in turn
+--   Undisturbed t decoder taken p   the answer at a place too early for a block that was taken: a block of the first
+--                                   memory leaves as it was
 --   CLEAN                   the theorem
 --   STARTED-CLEAN           it applies to started memories
 use mathlib.Core.Path.{_≡_}
@@ -16,15 +19,13 @@ use Rattle.tables.specs.Table.{fit}
 use Rattle.link.specs.declared.decode.Mark.{Mark}
 use Rattle.link.specs.declared.decode.Mark.the-variants.{Doubtful}
 use Rattle.link.specs.declared.decode.DecodeAnswer.the-variants.{Delivery, NothingYet}
-use Rattle.link.specs.Start.{started}
-use Rattle.link.specs.Memory.{coderWords, turnOf, decoderWords}
-use Rattle.link.specs.Coder.{pendingAt}
-use Rattle.link.specs.Decoder.{delayOf, pendingOf, syndromeOf, delayedOf}
+use Rattle.link.specs.Memory.{started, coderWords, turnOf, decoderWords, pendingAt, delayOf, pendingOf}
+use Rattle.link.specs.Memory.{syndromeOf, delayedOf}
 use Rattle.link.specs.Runs.{Call, Taken, sentBy, takenBy, takenAt}
 use Rattle.link.specs.Recovery.{Wrong, Bursts, Recovered, Running}
 
--- The stream that has its turn d places on is stream turn + d mod m; the coder's turn need not be the decoder's. The delayed blocks may be any,
--- and so may the fill.
+-- The stream that has its turn d places on is stream turn + d mod m; the coder's turn need not be the decoder's. The
+-- delayed blocks may be any, and so may the fill.
 pub record Clean (t : Table) (coder decoder : List ℕ) : Type 0 where
   pub coder-turn : turnOf coder < t .depth
   pub decoder-turn : turnOf decoder < t .depth
@@ -32,18 +33,21 @@ pub record Clean (t : Table) (coder decoder : List ℕ) : Type 0 where
   pub pending : (d : ℕ) → d < t .depth
       → pendingOf t decoder ((turnOf decoder + d) % t .depth) ≡ pendingAt coder ((turnOf coder + d) % t .depth)
 
--- Place p has the stream turn + (p − 1) mod m, and before it (p − 1) div m blocks of that stream have left: the next is delivered, if anything is.
--- "Blocks from before the start are judged too": they count as right.
+-- Place p has the stream turn + (p − 1) mod m, and before it (p − 1) div m blocks of that stream have left: the next is
+-- delivered, if anything is. "Blocks from before the start are judged too": they count as right.
 abbrev pub Undisturbed : Table → List ℕ → List Taken → ℕ → Type 0
 Undisturbed t decoder taken p =
     (takenAt taken p .answer ≡ NothingYet)
     ⊎ ((mark : Mark)
     × (takenAt taken p .answer
-    ≡ Delivery (record { info = delayedOf t decoder ((turnOf decoder + (p - 1)) % t .depth) ((p - 1) / t .depth); mark = mark }))
+    ≡ Delivery (record {
+      info = delayedOf t decoder ((turnOf decoder + (p - 1)) % t .depth) ((p - 1) / t .depth);
+      mark = mark;
+    }))
     × (mark ≢ Doubtful))
 
--- For every place at which a block is taken: past m × (N − 1) the step delivers what was sent m × (N − 1) blocks back; up to there, a block that
--- stood in the memory.
+-- For every place at which a block is taken: past m × (N − 1) the step delivers what was sent m × (N − 1) blocks back;
+-- up to there, a block that stood in the memory.
 abbrev pub CLEAN : Type 0
 CLEAN =
     (t : Table) (coder decoder : List ℕ) (cs ds : List Call) → Running t coder decoder cs ds → Clean t coder decoder

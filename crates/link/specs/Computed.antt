@@ -3,12 +3,13 @@
 --   code n N m rows             the table of these sizes and rows
 --   Z m                         that of 01's examples, with m streams
 --   calls t blocks              steps that are handed the table t and these blocks
---   answersBy answer memory s cs   what every call answers, refused or not, each on the memory that the one before it left
+--   answersBy answer memory s cs   what every call answers, refused or not, each on the memory that the one before it
+--                                  left
 --   sentBlocks, takenBlocks     the blocks of the steps that are not refused
 --   answersOf                   what they answer
 --   delivers info mark          the answer that is a delivery
 --   differing k xs ys           the places, counted from k, at which two lists of blocks differ
-use mathlib.Core.Bool.{true, false}
+use mathlib.Core.Bool.{cond}
 use mathlib.Core.List.{List, [], _∷_, _++_, map}
 use Prim.Native.Nat.{ℕ, suc, _-_}
 use lib.Dec.{eqb}
@@ -31,9 +32,11 @@ Z m = code 2 4 m (10 ∷ [])
 abbrev pub calls : Table → List ℕ → List Call
 calls t blocks = map (λ (b : ℕ). record { table = t; block = b }) blocks
 
-unfoldable pub answersBy : {X : Type 0} (answer : Table → List ℕ → ℕ → X) (memory : Table → List ℕ → ℕ → List ℕ) → List ℕ → List Call → List X
+unfoldable pub answersBy : {X : Type 0} (answer : Table → List ℕ → ℕ → X) (memory : Table → List ℕ → ℕ → List ℕ)
+    → List ℕ → List Call → List X
 answersBy answer memory s [] = []
-answersBy answer memory s (c ∷ cs) = answer (c .table) s (c .block) ∷ answersBy answer memory (memory (c .table) s (c .block)) cs
+answersBy answer memory s (c ∷ cs) =
+    answer (c .table) s (c .block) ∷ answersBy answer memory (memory (c .table) s (c .block)) cs
 
 abbrev pub sentBlocks : List Sent → List ℕ
 sentBlocks xs = map (λ (x : Sent). x .block) xs
@@ -50,4 +53,4 @@ delivers info mark = Delivery (record { info = info; mark = mark })
 unfoldable pub differing : ℕ → List ℕ → List ℕ → List ℕ
 differing k [] ys = []
 differing k (x ∷ xs) [] = []
-differing k (x ∷ xs) (y ∷ ys) = elim (eqb x y) [ true ↦ differing (suc k) xs ys | false ↦ k ∷ differing (suc k) xs ys ]
+differing k (x ∷ xs) (y ∷ ys) = cond (eqb x y) [] (k ∷ []) ++ differing (suc k) xs ys

@@ -12,10 +12,10 @@ use Prim.Native.Nat.{ℕ, _-_, _*_}
 use lib.ListN.{replicate}
 use Rattle.tables.specs.declared.table.Table.{Table}
 use Rattle.tables.specs.Table.{table, zeroTable}
-use Rattle.tables.specs.Reading.{Says}
+use Rattle.tables.specs.Reading.{ReadNumbers}
 use Rattle.tables.specs.declared.make.MakeAnswer.the-variants.{Made}
 use Rattle.tables.specs.Made.{making}
-use Rattle.link.specs.Start.{started}
+use Rattle.link.specs.Memory.{started}
 use Rattle.link.specs.declared.code.CodeAnswer.{CodeAnswer}
 use Rattle.link.specs.declared.code.CodeAnswer.the-variants.{Coded}
 use Rattle.link.specs.Coder.{codeAnswer, codeMemory}
@@ -25,7 +25,8 @@ use Rattle.link.specs.declared.decode.DecodeAnswer.the-variants.{Nothing
 use Rattle.link.specs.Decoder.{decodeAnswer, decodeMemory}
 use Rattle.link.specs.Computed.{calls, answersBy, delivers}
 
--- of reading, the bytes; of making, n; of steps, the bytes of the table, the first memory and the blocks handed to the calls; and what is answered
+-- of reading, the bytes; of making, n; of steps, the bytes of the table, the first memory and the blocks handed to the
+-- calls; and what is answered
 pub data Example : Type 0 where
   accepts : List ℕ → Table → Example
   refuses : List ℕ → ℕ → ℕ → Example
@@ -34,15 +35,17 @@ pub data Example : Type 0 where
   codes : List ℕ → List ℕ → List ℕ → List CodeAnswer → Example
   decodes : List ℕ → List ℕ → List ℕ → List DecodeAnswer → Example
 
--- the bytes are accepted as the table; refused with a number and a place; refused for 10, which the triple shows; n and m = 1 make these rows;
--- the bytes are accepted, and with their table the calls so answer
+-- the bytes are accepted as the table; refused with a number and a place; refused for 10, which the triple shows; n and
+-- m = 1 make these rows; the bytes are accepted, and with their table the calls so answer
 abbrev pub Holds : Example → Type 0
-Holds (accepts bytes t) = Says bytes [] t
-Holds (refuses bytes k p) = Says bytes (k ∷ p ∷ []) zeroTable
-Holds (clashes bytes l e0 e1) = Says bytes (10 ∷ l ∷ e0 ∷ e1 ∷ []) zeroTable
+Holds (accepts bytes t) = ReadNumbers bytes (0 ∷ []) t
+Holds (refuses bytes k p) = ReadNumbers bytes (k ∷ p ∷ []) zeroTable
+Holds (clashes bytes l e0 e1) = ReadNumbers bytes (10 ∷ l ∷ e0 ∷ e1 ∷ []) zeroTable
 Holds (makes n rows) = making n 1 ≡ record { answer = Made; table = table n (2 * n) 1 (rows ++ replicate (16 - n) 0) }
-Holds (codes bytes s bs cs) = (t : Table) × Says bytes [] t × (answersBy codeAnswer codeMemory s (calls t bs) ≡ cs)
-Holds (decodes bytes s rs ds) = (t : Table) × Says bytes [] t × (answersBy decodeAnswer decodeMemory s (calls t rs) ≡ ds)
+Holds (codes bytes s bs cs) =
+    (t : Table) × ReadNumbers bytes (0 ∷ []) t × (answersBy codeAnswer codeMemory s (calls t bs) ≡ cs)
+Holds (decodes bytes s rs ds) =
+    (t : Table) × ReadNumbers bytes (0 ∷ []) t × (answersBy decodeAnswer decodeMemory s (calls t rs) ≡ ds)
 
 abbrev pub AllHold : List Example → Type 0
 AllHold [] = Unit {0}
@@ -75,14 +78,17 @@ examples =
     ∷ makes 5 (976 ∷ 392 ∷ 772 ∷ 514 ∷ [])
     -- T9: n = 5, N = 10, rows 976, 904, 772, 514
     ∷ clashes ((1 ∷ 5 ∷ 10 ∷ 1 ∷ []) ++ row 1 208 3 ++ row 2 136 3 ++ row 3 4 3 ++ row 4 2 2 ++ (0 ∷ [])) 3 3 26
-    -- T10 to T12. A coder of Z has 2 words and a decoder 7: turn, fill, pending word, syndrome word, and 3 delayed blocks.
-    -- T10: "Z codes 1, 1, 0, 0, 0 as 1, 3, 2, 2, 2."
+    -- T10 to T12. A coder of Z has 2 words and a decoder 7: turn, fill, pending word, syndrome word, and 3 delayed
+    -- blocks. T10: "Z codes 1, 1, 0, 0, 0 as 1, 3, 2, 2, 2."
     ∷ codes bytesOfZ (started 2) (1 ∷ 1 ∷ 0 ∷ 0 ∷ 0 ∷ []) (Coded 1 ∷ Coded 3 ∷ Coded 2 ∷ Coded 2 ∷ Coded 2 ∷ [])
     -- T11: "Z, started, receives 2, 2, 0, 0: three times nothing yet, then 0, doubtful."
-    ∷ decodes bytesOfZ (started 7) (2 ∷ 2 ∷ 0 ∷ 0 ∷ []) (NothingYet ∷ NothingYet ∷ NothingYet ∷ delivers 0 Doubtful ∷ [])
-    -- T12: "Z, fill 3, pending word 4, all else 0, receives zeros: calls 1 to 5 deliver 0, call 6 delivers 0 marked corrected 2, call 7 is clean."
+    ∷ decodes bytesOfZ (started 7) (2 ∷ 2 ∷ 0 ∷ 0 ∷ [])
+    (NothingYet ∷ NothingYet ∷ NothingYet ∷ delivers 0 Doubtful ∷ [])
+    -- T12: "Z, fill 3, pending word 4, all else 0, receives zeros: calls 1 to 5 deliver 0, call 6 delivers 0 marked
+    -- corrected 2, call 7 is clean."
     ∷ decodes bytesOfZ (0 ∷ 3 ∷ 4 ∷ 0 ∷ 0 ∷ 0 ∷ 0 ∷ []) (replicate 7 0)
-    (delivers 0 Clean ∷ delivers 0 Clean ∷ delivers 0 Held ∷ delivers 0 Held ∷ delivers 0 Held ∷ delivers 0 (Corrected 2) ∷ delivers 0 Clean ∷ [])
+    (delivers 0 Clean ∷ delivers 0 Clean ∷ delivers 0 Held ∷ delivers 0 Held ∷ delivers 0 Held
+    ∷ delivers 0 (Corrected 2) ∷ delivers 0 Clean ∷ [])
     ∷ []
 
 abbrev pub EXAMPLES : Type 0

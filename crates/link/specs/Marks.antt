@@ -18,8 +18,8 @@ use Rattle.link.specs.Step.{found, markOf}
 abbrev pub NoError : List ℕ → ℕ → Type 0
 NoError rows x = (e : ℕ) → e < 2 ^ length rows → combination rows e ≢ x
 
--- "clean (register 0); corrected, carrying e (e not 0); doubtful (no e, bit 0 of the register is 1); held (no e, bit 0 is 0)": e is "the least
--- such e" that has the register as image
+-- "clean (register 0); corrected, carrying e (e not 0); doubtful (no e, bit 0 of the register is 1); held (no e, bit 0
+-- is 0)": e is "the least such e" that has the register as image
 abbrev pub MARKS : Type 0
 MARKS =
     (rows : List ℕ) (x : ℕ) →

@@ -2,38 +2,45 @@
 --
 --   Call                     what a step is handed: a table and a block
 --   Sent, Taken              what is kept of a coder step, and of a decoder step, that is not refused
---   run fault next entry     the steps that are not refused, in order
---   sentEntry, takenEntry    what is kept of one
---   sentBy s cs, takenBy s ds   those of the coder and those of the decoder, from the memory s on
---   ran fault next           the memory after all the steps
+--   sentOf, takenOf          the same of an answer; nothing of a refusal
+--   run memory kept s cs     what is kept of the calls cs, in order, from the memory s on
+--   sentBy s cs, takenBy s ds   of the calls of `code` and of `decode`
+--   ran memory s cs          the memory after all the calls
 --   coderAfter s cs, decoderAfter s ds   that of the coder and that of the decoder
+--   placed fault entry       something told of each step that is not refused
 --   sentAt xs p, takenAt xs p   entry p of such a list, counted from 1; past its end noneSent and noneTaken
---   RUN-CODES, RUN-DECODES   the steps of a run are the calls of the functions
---   RUN-APPEND               a run over two lists is one over the first, and then one over the second from the memory after it
+--   CoderTables, DecoderTables   each step that is not refused uses a table that is the same as t
+--   RUN-APPEND               a run over two lists is one over the first, and then one over the second from the memory
+--                            after it
 use mathlib.Core.Path.{_≡_}
-use mathlib.Core.Bool.{true, false}
-use mathlib.Core.Logic.{_≢_}
+use mathlib.Core.Bool.{cond}
 use mathlib.Core.List.{List, [], _∷_, _++_}
-use Prim.Native.Nat.{ℕ, _-_}
+use Prim.Native.Nat.{ℕ, _-_, _≤_}
 use lib.Dec.{eqb}
-use lib.ListN.{getD}
+use lib.ListN.{length, getD}
 use Rattle.tables.specs.declared.table.Table.{Table}
-use Rattle.tables.specs.Table.{zeroTable}
-use Rattle.link.specs.declared.decode.DecodeAnswer.{DecodeAnswer}
-use Rattle.link.specs.declared.decode.DecodeAnswer.the-variants.{NothingYet, Refused as DecodeRefused}
+use Rattle.tables.specs.Table.{zeroTable, SameTable}
+use Rattle.link.specs.declared.code.CodeAnswer.{CodeAnswer}
 use Rattle.link.specs.declared.code.CodeAnswer.the-variants.{Coded, Refused as CodeRefused}
-use Rattle.link.specs.Coder.{coderFault, codedBlock, coderNext, codeAnswer, codeMemory}
-use Rattle.link.specs.Decoder.{decoderFault, delivery, decoderNext, decodeAnswer, decodeMemory}
+use Rattle.link.specs.declared.decode.DecodeAnswer.{DecodeAnswer}
+use Rattle.link.specs.declared.decode.DecodeAnswer.the-variants.{Delivery, NothingYet, Refused as DecodeRefused}
+use Rattle.link.specs.Coder.{codeAnswer, codeMemory}
+use Rattle.link.specs.Decoder.{decodeAnswer, decodeMemory}
 
 pub record Call : Type 0 where
   pub table : Table
   pub block : ℕ
 
--- "Sent block p is the answer of the p-th coder step that is not refused; the information sent in it is what that step was handed."
+-- "Sent block p is the answer of the p-th coder step that is not refused; the information sent in it is what that step
+-- was handed."
 pub record Sent : Type 0 where
   pub table : Table
   pub info : ℕ
   pub block : ℕ
+
+abbrev pub sentOf : Table → ℕ → CodeAnswer → List Sent
+sentOf t b (Coded c) = record { table = t; info = b; block = c } ∷ []
+sentOf t b (CodeRefused k) = []
 
 -- "Taken block p is what the p-th decoder step that is not refused was handed."
 pub record Taken : Type 0 where
@@ -41,39 +48,37 @@ pub record Taken : Type 0 where
   pub block : ℕ
   pub answer : DecodeAnswer
 
--- "A refused step may stand anywhere in either list, whatever it is refused for. It has no place in the count." It leaves the memory as it was.
-unfoldable pub run : {X : Type 0} (fault : Table → List ℕ → ℕ → ℕ) (next : Table → List ℕ → ℕ → List ℕ) (entry : Table → List ℕ → ℕ → X) → List ℕ
+abbrev pub takenOf : Table → ℕ → DecodeAnswer → List Taken
+takenOf t r (Delivery d) = record { table = t; block = r; answer = Delivery d } ∷ []
+takenOf t r NothingYet = record { table = t; block = r; answer = NothingYet } ∷ []
+takenOf t r (DecodeRefused k) = []
+
+-- "Each step gets the memory as the last left it, nothing else writes it". "A refused step may stand anywhere in either
+-- list, whatever it is refused for. It has no place in the count."
+unfoldable pub run : {X : Type 0} (memory : Table → List ℕ → ℕ → List ℕ) (kept : Table → List ℕ → ℕ → List X) → List ℕ
     → List Call → List X
-run fault next entry s [] = []
-run fault next entry s (c ∷ cs) =
-    elim (eqb (fault (c .table) s (c .block)) 0) [
-      | true ↦ entry (c .table) s (c .block) ∷ run fault next entry (next (c .table) s (c .block)) cs
-      | false ↦ run fault next entry s cs
-    ]
+run memory kept s [] = []
+run memory kept s (c ∷ cs) = kept (c .table) s (c .block) ++ run memory kept (memory (c .table) s (c .block)) cs
 
-abbrev pub sentEntry : Table → List ℕ → ℕ → Sent
-sentEntry t s b = record { table = t; info = b; block = codedBlock t s b }
-
-abbrev pub takenEntry : Table → List ℕ → ℕ → Taken
-takenEntry t s r = record { table = t; block = r; answer = delivery t s r }
-
+-- answer and memory are those that `code` and `decode` promise (`Codes`, `Decodes`)
 abbrev pub sentBy : List ℕ → List Call → List Sent
-sentBy = run coderFault coderNext sentEntry
+sentBy = run codeMemory (λ t s b. sentOf t b (codeAnswer t s b))
 
 abbrev pub takenBy : List ℕ → List Call → List Taken
-takenBy = run decoderFault decoderNext takenEntry
+takenBy = run decodeMemory (λ t s r. takenOf t r (decodeAnswer t s r))
 
--- "Each step gets the memory as the last left it, nothing else writes it"
-unfoldable pub ran : (fault : Table → List ℕ → ℕ → ℕ) (next : Table → List ℕ → ℕ → List ℕ) → List ℕ → List Call → List ℕ
-ran fault next s [] = s
-ran fault next s (c ∷ cs) =
-    elim (eqb (fault (c .table) s (c .block)) 0) [ true ↦ ran fault next (next (c .table) s (c .block)) cs | false ↦ ran fault next s cs ]
+unfoldable pub ran : (memory : Table → List ℕ → ℕ → List ℕ) → List ℕ → List Call → List ℕ
+ran memory s [] = s
+ran memory s (c ∷ cs) = ran memory (memory (c .table) s (c .block)) cs
 
 abbrev pub coderAfter : List ℕ → List Call → List ℕ
-coderAfter = ran coderFault coderNext
+coderAfter = ran codeMemory
 
 abbrev pub decoderAfter : List ℕ → List Call → List ℕ
-decoderAfter = ran decoderFault decoderNext
+decoderAfter = ran decodeMemory
+
+abbrev pub placed : {X : Type 0} → (Table → List ℕ → ℕ → ℕ) → (Table → List ℕ → ℕ → X) → Table → List ℕ → ℕ → List X
+placed fault entry t s b = cond (eqb (fault t s b) 0) (entry t s b ∷ []) []
 
 -- past the end of a list
 abbrev pub noneSent : Sent
@@ -89,28 +94,16 @@ sentAt xs p = getD xs (p - 1) noneSent
 abbrev pub takenAt : List Taken → ℕ → Taken
 takenAt xs p = getD xs (p - 1) noneTaken
 
+-- "each step that is not refused uses the decoder's table"
+abbrev pub CoderTables : Table → List ℕ → List Call → Type 0
+CoderTables t s cs = (p : ℕ) → 1 ≤ p → p ≤ length (sentBy s cs) → SameTable (sentAt (sentBy s cs) p .table) t
+
+abbrev pub DecoderTables : Table → List ℕ → List Call → Type 0
+DecoderTables t s ds = (p : ℕ) → 1 ≤ p → p ≤ length (takenBy s ds) → SameTable (takenAt (takenBy s ds) p .table) t
+
 abbrev pub RUN-APPEND : Type 1
 RUN-APPEND =
-    (X : Type 0) (fault : Table → List ℕ → ℕ → ℕ) (next : Table → List ℕ → ℕ → List ℕ) (entry : Table → List ℕ → ℕ → X) (s : List ℕ) (cs cs′ : List Call)
-    → (run fault next entry s (cs ++ cs′) ≡ run fault next entry s cs ++ run fault next entry (ran fault next s cs) cs′)
-    × (ran fault next s (cs ++ cs′) ≡ ran fault next (ran fault next s cs) cs′)
-
--- The steps of a run are the calls of the functions: each gets the memory that the one before it left, and of those that are not refused the run
--- keeps the answer. (`code` and `decode` promise `codeAnswer`, `codeMemory`, `decodeAnswer` and `decodeMemory`.)
-abbrev pub RUN-CODES : Type 0
-RUN-CODES =
-    (s : List ℕ) (c : Call) (cs : List Call) →
-    let answer = codeAnswer (c .table) s (c .block) in
-    let after = codeMemory (c .table) s (c .block) in
-    ((k : ℕ) → answer ≡ CodeRefused k → sentBy s (c ∷ cs) ≡ sentBy after cs)
-    × ((x : ℕ) → answer ≡ Coded x → sentBy s (c ∷ cs) ≡ record { table = c .table; info = c .block; block = x } ∷ sentBy after cs)
-    × (coderAfter s (c ∷ cs) ≡ coderAfter after cs)
-
-abbrev pub RUN-DECODES : Type 0
-RUN-DECODES =
-    (s : List ℕ) (d : Call) (ds : List Call) →
-    let answer = decodeAnswer (d .table) s (d .block) in
-    let after = decodeMemory (d .table) s (d .block) in
-    ((k : ℕ) → answer ≡ DecodeRefused k → takenBy s (d ∷ ds) ≡ takenBy after ds)
-    × (((k : ℕ) → answer ≢ DecodeRefused k) → takenBy s (d ∷ ds) ≡ record { table = d .table; block = d .block; answer = answer } ∷ takenBy after ds)
-    × (decoderAfter s (d ∷ ds) ≡ decoderAfter after ds)
+    (X : Type 0) (memory : Table → List ℕ → ℕ → List ℕ) (kept : Table → List ℕ → ℕ → List X) (s : List ℕ)
+    (cs cs′ : List Call)
+    → (run memory kept s (cs ++ cs′) ≡ run memory kept s cs ++ run memory kept (ran memory s cs) cs′)
+    × (ran memory s (cs ++ cs′) ≡ ran memory (ran memory s cs) cs′)

@@ -5,15 +5,14 @@ use span::bits::mask;
 use tables::table::Table;
 use tables::table::lent_fits;
 ghost use mathlib.Core.Path.{_≡_};
-ghost use mathlib.Core.List.{[], _∷_};
+ghost use mathlib.Core.List.{_∷_};
 ghost use Prim.Native.Nat.{_+_, _/_, _≤_};
 ghost use lib.ListN.{length, getD, set, take};
 ghost use Rattle.span.specs.Word.{odd, digit};
 ghost use Rattle.tables.specs.Lent.{withRows, lent};
-ghost use Rattle.link.specs.Stream.{joining};
-ghost use Rattle.link.specs.Coder.{coderMalformed, coderFault, codedBlock, coderNext, codeAnswer, codeMemory};
-ghost use Rattle.link.specs.CoderAnswers.{codeNumbers};
-ghost use Rattle.link.specs.Answers.{Answered};
+ghost use Rattle.link.specs.Memory.{joining};
+ghost use Rattle.link.specs.Refusals.{coderMalformed, coderFault};
+ghost use Rattle.link.specs.Coder.{codedBlock, coderNext, Codes};
 
 pub enum CodeAnswer {
     // The coded block: information and parity.
@@ -56,8 +55,11 @@ fn fault(t: Table, rows: &[u64], state: &[u64], block: u64) -> u64
 // The turn's stream, whose part is its pending word: w halved stays there, and bit 0 of w is the parity.
 fn join(part: &mut [u64], rows: &[u64], count: usize, info: u64) -> u64
     requires { ⌜ length (now part) ≡ 1 ⌝ }
-    ensures parity { λ r. ⌜ r ≡ digit (odd (joining (take count (now (rows .entry))) (getD (now (part .entry)) 0 0) info)) ⌝ }
-    ensures part { λ r. ⌜ now (part .exit) ≡ set (now (part .entry)) 0 (joining (take count (now (rows .entry))) (getD (now (part .entry)) 0 0) info / 2) ⌝ }
+    ensures parity { λ r.
+        ⌜ r ≡ digit (odd (joining (take count (now (rows .entry))) (getD (now (part .entry)) 0 0) info)) ⌝ }
+    ensures part { λ r.
+        ⌜ now (part .exit) ≡ set (now (part .entry)) 0
+        (joining (take count (now (rows .entry))) (getD (now (part .entry)) 0 0) info / 2) ⌝ }
 {
     let pending = part[0];
     let w = joining(rows, count, pending, info);
@@ -80,11 +82,10 @@ fn taken(t: Table, rows: &[u64], state: &mut [u64], info: u64) -> u64
     info + (parity << (width as u64))
 }
 
-// A step on a table whose rows are lent beside it, so that a caller need not copy them into one. With another count than fifteen, 12 applies.
+// A step on a table whose rows are lent beside it, so that a caller need not copy them into one. With another count
+// than fifteen, 12 applies.
 pub fn code_lent(t: Table, rows: &[u64], state: &mut [u64], info: u16) -> CodeAnswer
-    ensures answer { λ r. ⌜ r ≡ codeAnswer (lent t (now (rows .entry))) (now (state .entry)) info ⌝ }
-    ensures memory { λ r. ⌜ now (state .exit) ≡ codeMemory (lent t (now (rows .entry))) (now (state .entry)) info ⌝ }
-    ensures numbers { λ r. ⌜ Answered (coderFault (lent t (now (rows .entry))) (now (state .entry)) info) (codedBlock (lent t (now (rows .entry))) (now (state .entry)) info ∷ []) (coderNext (lent t (now (rows .entry))) (now (state .entry)) info) (now (state .entry)) (codeNumbers r) (now (state .exit)) ⌝ }
+    ensures { λ r. ⌜ Codes (lent t (now (rows .entry))) (now (state .entry)) info r (now (state .exit)) ⌝ }
 {
     let block = info as u64;
     let number = fault(t, rows, state, block);
@@ -95,9 +96,7 @@ pub fn code_lent(t: Table, rows: &[u64], state: &mut [u64], info: u16) -> CodeAn
 }
 
 pub fn code(t: Table, state: &mut [u64], info: u16) -> CodeAnswer
-    ensures answer { λ r. ⌜ r ≡ codeAnswer t (now (state .entry)) info ⌝ }
-    ensures memory { λ r. ⌜ now (state .exit) ≡ codeMemory t (now (state .entry)) info ⌝ }
-    ensures numbers { λ r. ⌜ Answered (coderFault t (now (state .entry)) info) (codedBlock t (now (state .entry)) info ∷ []) (coderNext t (now (state .entry)) info) (now (state .entry)) (codeNumbers r) (now (state .exit)) ⌝ }
+    ensures { λ r. ⌜ Codes t (now (state .entry)) info r (now (state .exit)) ⌝ }
 {
     code_lent(t, &t.rows, state, info)
 }

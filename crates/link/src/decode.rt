@@ -14,11 +14,11 @@ ghost use lib.Dec.{leb, ltb};
 ghost use lib.ListN.{length, getD, take, drop};
 ghost use Rattle.tables.specs.Lent.{withRows, lent};
 ghost use Rattle.tables.specs.Table.{codeRows, fit};
-ghost use Rattle.link.specs.Step.{information, rawTerm, register, found, errorOf, keptOf, markOf, streamNext, streamInfo, streamMark};
+ghost use Rattle.link.specs.Step.{information, rawTerm, register, found, errorOf, keptOf, markOf, streamNext};
+ghost use Rattle.link.specs.Step.{streamInfo, streamMark};
 ghost use Rattle.link.specs.Memory.{decoderWords};
-ghost use Rattle.link.specs.Decoder.{someAbove, decoderMalformed, decoderFault, decoderNext, delivery, decodeAnswer, decodeMemory};
-ghost use Rattle.link.specs.DecoderAnswers.{decodeNumbers, decodeValues};
-ghost use Rattle.link.specs.Answers.{Answered};
+ghost use Rattle.link.specs.Refusals.{someAbove, decoderMalformed, decoderFault};
+ghost use Rattle.link.specs.Decoder.{decoderNext, delivery, Decodes};
 
 pub enum Mark {
     Clean,
@@ -66,7 +66,10 @@ fn some_above(words: &[u64], from: usize, count: usize, width: usize) -> bool
 // The condition of 14 on the words of the stream that begins at `at`.
 fn stream_malformed(state: &[u64], at: usize, n: usize, span: usize) -> bool
     requires { ⌜ (at + (span + 1) ≤ length (now state)) × (2 ≤ n) × (n ≤ 16) × (2 ≤ span) × (span ≤ 64) ⌝ }
-    ensures { λ r. ⌜ r ≡ leb (2 ^ (span - 1)) (getD (now (state .entry)) at 0) || leb (2 ^ (span - 1)) (getD (now (state .entry)) (at + 1) 0) || someAbove (2 ^ (n - 1)) (now (state .entry)) (at + 2) (span - 1) ⌝ }
+    ensures { λ r.
+        ⌜ r ≡ leb (2 ^ (span - 1)) (getD (now (state .entry)) at 0)
+        || leb (2 ^ (span - 1)) (getD (now (state .entry)) (at + 1) 0)
+        || someAbove (2 ^ (n - 1)) (now (state .entry)) (at + 2) (span - 1) ⌝ }
 {
     if mask(span - 1) < (state[at] | state[at + 1]) {
         return true;
@@ -143,7 +146,8 @@ fn error_words(rows: &[u64], n: usize, x: u64) -> [u64; 32]
     words
 }
 
-// Line 3: the least error block whose image is the register. The least relation that ends in the register has its coefficients below.
+// Line 3: the least error block whose image is the register. The least relation that ends in the register has its
+// coefficients below.
 fn least_error(rows: &[u64], n: usize, x: u64) -> Least
     requires { ⌜ (2 ≤ n) × (n ≤ 16) × (n - 1 ≤ length (now rows)) ⌝ }
     ensures { λ r. ⌜ r ≡ found (codeRows n (now (rows .entry))) x ⌝ }
@@ -157,7 +161,7 @@ fn least_error(rows: &[u64], n: usize, x: u64) -> Least
 }
 
 // Line 3 and the mark. A register of 0 is the image of 0: nothing is eliminated then.
-fn judge(rows: &[u64], n: usize, x: u64) -> Verdict
+fn explain(rows: &[u64], n: usize, x: u64) -> Verdict
     requires { ⌜ (2 ≤ n) × (n ≤ 16) × (n - 1 ≤ length (now rows)) ⌝ }
     ensures error { λ r. ⌜ r .error ≡ errorOf (found (codeRows n (now (rows .entry))) x) ⌝ }
     ensures kept { λ r. ⌜ r .kept ≡ keptOf (found (codeRows n (now (rows .entry))) x) x ⌝ }
@@ -166,7 +170,7 @@ fn judge(rows: &[u64], n: usize, x: u64) -> Verdict
     if x == 0 {
         return Verdict {
             error: 0,
-            kept: 0,
+            kept: x,
             mark: Mark::Clean,
         };
     }
@@ -178,16 +182,17 @@ fn judge(rows: &[u64], n: usize, x: u64) -> Verdict
             mark: Mark::Corrected(e as u16),
         };
     }
+    let kept = x >> 1;
     if x % 2 == 1 {
         return Verdict {
             error: 0,
-            kept: x >> 1,
+            kept,
             mark: Mark::Doubtful,
         };
     }
     Verdict {
         error: 0,
-        kept: x >> 1,
+        kept,
         mark: Mark::Held,
     }
 }
@@ -197,7 +202,8 @@ fn judge(rows: &[u64], n: usize, x: u64) -> Verdict
 // The oldest delayed block leaves, and another joins as the youngest.
 fn push(part: &mut [u64], youngest: u64)
     requires { ⌜ 3 ≤ length (now part) ⌝ }
-    ensures { λ r. ⌜ now (part .exit) ≡ take 2 (now (part .entry)) ++ (drop 3 (now (part .entry)) ++ (youngest ∷ [])) ⌝ }
+    ensures { λ r.
+        ⌜ now (part .exit) ≡ take 2 (now (part .entry)) ++ (drop 3 (now (part .entry)) ++ (youngest ∷ [])) ⌝ }
 {
     let last = part.len() - 1;
     let mut i = 2;
@@ -210,14 +216,21 @@ fn push(part: &mut [u64], youngest: u64)
 
 // One block of the turn's stream, whose part is its pending word, its syndrome word and its delayed blocks.
 fn step(part: &mut [u64], rows: &[u64], n: usize, span: usize, received: u64) -> Delivered
-    requires { ⌜ (length (now part) ≡ span + 1) × (2 ≤ n) × (n ≤ 16) × (2 ≤ span) × (span ≤ 64) × (n - 1 ≤ length (now rows)) × (getD (now part) 1 0 < 2 ^ (span - 1)) × (getD (now part) 2 0 < 2 ^ (n - 1)) ⌝ }
-    ensures info { λ r. ⌜ r .info ≡ streamInfo n span (now (rows .entry)) (getD (now (part .entry)) 0 0) (getD (now (part .entry)) 1 0) (getD (now (part .entry)) 2 0) received ⌝ }
-    ensures mark { λ r. ⌜ r .mark ≡ streamMark n span (now (rows .entry)) (getD (now (part .entry)) 0 0) (getD (now (part .entry)) 1 0) received ⌝ }
-    ensures part { λ r. ⌜ now (part .exit) ≡ streamNext n span (now (rows .entry)) (getD (now (part .entry)) 0 0) (getD (now (part .entry)) 1 0) (drop 3 (now (part .entry))) received ⌝ }
+    requires { ⌜ (length (now part) ≡ span + 1) × (2 ≤ n) × (n ≤ 16) × (2 ≤ span) × (span ≤ 64)
+        × (n - 1 ≤ length (now rows)) × (getD (now part) 1 0 < 2 ^ (span - 1)) × (getD (now part) 2 0 < 2 ^ (n - 1)) ⌝ }
+    ensures info { λ r.
+        ⌜ r .info ≡ streamInfo n span (now (rows .entry)) (getD (now (part .entry)) 0 0) (getD (now (part .entry)) 1 0)
+        (getD (now (part .entry)) 2 0) received ⌝ }
+    ensures mark { λ r.
+        ⌜ r .mark ≡ streamMark n span (now (rows .entry)) (getD (now (part .entry)) 0 0)
+        (getD (now (part .entry)) 1 0) received ⌝ }
+    ensures part { λ r.
+        ⌜ now (part .exit) ≡ streamNext n span (now (rows .entry)) (getD (now (part .entry)) 0 0)
+        (getD (now (part .entry)) 1 0) (drop 3 (now (part .entry))) received ⌝ }
 {
     let info = information(n, received);
     let w = joining(rows, n - 1, part[0], info);
-    let v = judge(rows, n, register(n, span, w, part[1], received));
+    let v = explain(rows, n, register(n, span, w, part[1], received));
     let error = v.error as u64;
     let mark = v.mark;
     let oldest = part[2];
@@ -240,7 +253,8 @@ fn next_fill(delay: u64, fill: u64) -> u64
 fn taken(t: Table, rows: &[u64], state: &mut [u64], received: u64) -> DecodeAnswer
     requires { ⌜ (decoderFault (withRows t (now rows)) (now state) received ≡ 0) × (length (now rows) ≡ 15) ⌝ }
     ensures answer { λ r. ⌜ r ≡ delivery (withRows t (now (rows .entry))) (now (state .entry)) received ⌝ }
-    ensures memory { λ r. ⌜ now (state .exit) ≡ decoderNext (withRows t (now (rows .entry))) (now (state .entry)) received ⌝ }
+    ensures memory { λ r.
+        ⌜ now (state .exit) ≡ decoderNext (withRows t (now (rows .entry))) (now (state .entry)) received ⌝ }
 {
     let turn = state[0];
     let fill = state[1];
@@ -257,11 +271,10 @@ fn taken(t: Table, rows: &[u64], state: &mut [u64], received: u64) -> DecodeAnsw
     }
 }
 
-// A step on a table whose rows are lent beside it, so that a caller need not copy them into one. With another count than fifteen, 12 applies.
+// A step on a table whose rows are lent beside it, so that a caller need not copy them into one. With another count
+// than fifteen, 12 applies.
 pub fn decode_lent(t: Table, rows: &[u64], state: &mut [u64], received: u16) -> DecodeAnswer
-    ensures answer { λ r. ⌜ r ≡ decodeAnswer (lent t (now (rows .entry))) (now (state .entry)) received ⌝ }
-    ensures memory { λ r. ⌜ now (state .exit) ≡ decodeMemory (lent t (now (rows .entry))) (now (state .entry)) received ⌝ }
-    ensures numbers { λ r. ⌜ Answered (decoderFault (lent t (now (rows .entry))) (now (state .entry)) received) (decodeValues (lent t (now (rows .entry))) (now (state .entry)) received) (decoderNext (lent t (now (rows .entry))) (now (state .entry)) received) (now (state .entry)) (decodeNumbers r) (now (state .exit)) ⌝ }
+    ensures { λ r. ⌜ Decodes (lent t (now (rows .entry))) (now (state .entry)) received r (now (state .exit)) ⌝ }
 {
     let block = received as u64;
     let number = fault(t, rows, state, block);
@@ -272,9 +285,7 @@ pub fn decode_lent(t: Table, rows: &[u64], state: &mut [u64], received: u16) -> 
 }
 
 pub fn decode(t: Table, state: &mut [u64], received: u16) -> DecodeAnswer
-    ensures answer { λ r. ⌜ r ≡ decodeAnswer t (now (state .entry)) received ⌝ }
-    ensures memory { λ r. ⌜ now (state .exit) ≡ decodeMemory t (now (state .entry)) received ⌝ }
-    ensures numbers { λ r. ⌜ Answered (decoderFault t (now (state .entry)) received) (decodeValues t (now (state .entry)) received) (decoderNext t (now (state .entry)) received) (now (state .entry)) (decodeNumbers r) (now (state .exit)) ⌝ }
+    ensures { λ r. ⌜ Decodes t (now (state .entry)) received r (now (state .exit)) ⌝ }
 {
     decode_lent(t, &t.rows, state, received)
 }

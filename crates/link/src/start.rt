@@ -3,13 +3,11 @@ use tables::table::Table;
 use tables::table::is_fit;
 ghost use mathlib.Core.Path.{_≡_};
 ghost use mathlib.Core.Bool.{true};
-ghost use mathlib.Core.List.{[]};
 ghost use lib.ListN.{length, replicate};
 ghost use Rattle.tables.specs.declared.table.Table.{Table};
 ghost use Rattle.tables.specs.Table.{fit};
-ghost use Rattle.link.specs.Start.{startFault, started, startAnswer, startMemory};
 ghost use Rattle.link.specs.Memory.{coderWords, decoderWords};
-ghost use Rattle.link.specs.Answers.{startNumbers, Answered};
+ghost use Rattle.link.specs.Start.{startAnswer, startMemory, Starts};
 
 pub enum StartAnswer {
     Started,
@@ -36,7 +34,8 @@ fn fits(t: Table) -> bool
 // The length is looked at once the table is known to be fit, which is why the answer is that of any fit table.
 fn start(state: &mut [u64], words: usize) -> StartAnswer
     ensures answer { λ r. ⌜ ((t : Table) → fit t ≡ true → r ≡ startAnswer t words (now (state .entry))) ⌝ }
-    ensures memory { λ r. ⌜ ((t : Table) → fit t ≡ true → now (state .exit) ≡ startMemory t words (now (state .entry))) ⌝ }
+    ensures memory { λ r.
+        ⌜ ((t : Table) → fit t ≡ true → now (state .exit) ≡ startMemory t words (now (state .entry))) ⌝ }
 {
     if state.len() != words {
         return StartAnswer::Refused(13);
@@ -46,9 +45,7 @@ fn start(state: &mut [u64], words: usize) -> StartAnswer
 }
 
 pub fn start_coder(t: Table, state: &mut [u64]) -> StartAnswer
-    ensures answer { λ r. ⌜ r ≡ startAnswer t (coderWords t) (now (state .entry)) ⌝ }
-    ensures memory { λ r. ⌜ now (state .exit) ≡ startMemory t (coderWords t) (now (state .entry)) ⌝ }
-    ensures numbers { λ r. ⌜ Answered (startFault t (coderWords t) (now (state .entry))) [] (started (coderWords t)) (now (state .entry)) (startNumbers r) (now (state .exit)) ⌝ }
+    ensures { λ r. ⌜ Starts t (coderWords t) (now (state .entry)) r (now (state .exit)) ⌝ }
 {
     if fits(t) {
         start(state, 1 + t.depth)
@@ -58,9 +55,7 @@ pub fn start_coder(t: Table, state: &mut [u64]) -> StartAnswer
 }
 
 pub fn start_decoder(t: Table, state: &mut [u64]) -> StartAnswer
-    ensures answer { λ r. ⌜ r ≡ startAnswer t (decoderWords t) (now (state .entry)) ⌝ }
-    ensures memory { λ r. ⌜ now (state .exit) ≡ startMemory t (decoderWords t) (now (state .entry)) ⌝ }
-    ensures numbers { λ r. ⌜ Answered (startFault t (decoderWords t) (now (state .entry))) [] (started (decoderWords t)) (now (state .entry)) (startNumbers r) (now (state .exit)) ⌝ }
+    ensures { λ r. ⌜ Starts t (decoderWords t) (now (state .entry)) r (now (state .exit)) ⌝ }
 {
     if fits(t) {
         start(state, 2 + t.depth * (t.span + 1))

@@ -3,7 +3,7 @@ use span::combine::combination;
 ghost use mathlib.Core.Path.{_≡_};
 ghost use Prim.Native.Nat.{_≤_, _<_};
 ghost use lib.ListN.{take};
-ghost use Rattle.link.specs.Stream.{joining, nextTurn};
+ghost use Rattle.link.specs.Memory.{joining, nextTurn};
 
 // The word w of a step: the pending word and the rows of the ones in the information, each row fetched once.
 pub(crate) fn joining(rows: &[u64], count: usize, pending: u64, info: u64) -> u64

@@ -1,5 +1,6 @@
-// The listing program of 01: it reads n, m and received blocks, and prints what the decoder of the made table delivers. What is printed, and
-// from which memory and number the next part goes on, is decided in `report`; here bytes move between the input, the buffers and the output.
+// The listing program of 01: it reads n, m and received blocks, and prints what the decoder of the made table delivers.
+// What is printed, and from which memory and number the next part goes on, is decided in `report`; here bytes move
+// between the input, the buffers and the output.
 use libc::STDIN_FILENO;
 use libc::STDOUT_FILENO;
 use report::opening::opening;
@@ -18,7 +19,8 @@ fn print(out: &[u8], end: usize) -> bool {
     false
 }
 
-// One part of the input: it is read and its lines are written. Where the program is to go on, the next delivery's number is returned.
+// One part of the input: it is read and its lines are written. Where the program is to go on, the next delivery's
+// number is returned.
 fn turn(t: Table, state: &mut [u64], number: u64) -> Progress {
     let mut bytes = [0u8; PART];
     let mut out = io::large_buffer();

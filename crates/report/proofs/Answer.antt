@@ -15,7 +15,8 @@ use Rattle.report.specs.Listing.{Printed}
 use Rattle.report.proofs.Written.{wrote-nothing}
 
 -- with room, what is put is written
-pub put-wrote : {out r : List ℕ} {at e : ℕ} (bs : List ℕ) → at + longest ≤ length out → e ≡ putEnd out at bs → r ≡ put out at bs → Wrote out at bs r e
+pub put-wrote : {out r : List ℕ} {at e : ℕ} (bs : List ℕ) → at + longest ≤ length out → e ≡ putEnd out at bs
+    → r ≡ put out at bs → Wrote out at bs r e
 unfolding put putEnd
 put-wrote {out} {r} {at} {e} bs h p q = record {
   bytes = q ∙ rw (le-leb (at + longest) (length out) h, put);
@@ -23,7 +24,8 @@ put-wrote {out} {r} {at} {e} bs h p q = record {
 }
 
 -- what a call writes and answers for an answer of the decoder
-pub printed-delivery : {out r : List ℕ} {at e : ℕ} (k : ℕ) (a : DecodeAnswer) (d : Delivered) → a ≡ Delivery d → at + longest ≤ length out
+pub printed-delivery : {out r : List ℕ} {at e : ℕ} (k : ℕ) (a : DecodeAnswer) (d : Delivered) → a ≡ Delivery d
+    → at + longest ≤ length out
     → e ≡ putEnd out at (lineOf k d) → r ≡ put out at (lineOf k d) → e ≤ at + longest
     → Printed out at k a r e (k + 1) false
 printed-delivery {out} {r} {at} {e} k a d told h p q n =
@@ -32,9 +34,11 @@ printed-delivery {out} {r} {at} {e} k a d told h p q n =
 
 pub printed-nothing : (out : List ℕ) (at k : ℕ) (a : DecodeAnswer) → a ≡ NothingYet
     → Printed out at k a out at k false
-printed-nothing out at k a told = record { wrote = rw told (wrote-nothing out at); counted = rw told; stops = rw told; short = omega arith }
+printed-nothing out at k a told =
+    record { wrote = rw told (wrote-nothing out at); counted = rw told; stops = rw told; short = omega arith }
 
-pub printed-refusal : {out r : List ℕ} {at e : ℕ} (k : ℕ) (a : DecodeAnswer) (f : ℕ) → a ≡ Refused f → at + longest ≤ length out
+pub printed-refusal : {out r : List ℕ} {at e : ℕ} (k : ℕ) (a : DecodeAnswer) (f : ℕ) → a ≡ Refused f
+    → at + longest ≤ length out
     → e ≡ putEnd out at (refusedLine f) → r ≡ put out at (refusedLine f) → length (refusedLine f) ≤ longest
     → Printed out at k a r e k true
 printed-refusal {out} {r} {at} {e} k a f told h p q n =

@@ -19,7 +19,8 @@ continued-prefixed t ps l false bs e = rw (e, append-assoc)
 
 continued-after : (t : Table) (a : DecodeAnswer) (s : List ℕ) (k : ℕ) (xs bs : List ℕ)
     → ((next : ℕ) → listed t s next (xs ++ bs) ≡ continued t (listed t s next xs) bs)
-    → listedAfter a s k (λ next. listed t s next (xs ++ bs)) ≡ continued t (listedAfter a s k (λ next. listed t s next xs)) bs
+    → listedAfter a s k (λ next. listed t s next (xs ++ bs))
+    ≡ continued t (listedAfter a s k (λ next. listed t s next xs)) bs
 continued-after t (Delivery d) s k xs bs h =
     ap (prefixed (lineOf k d)) (h (k + 1)) ∙ sym (continued-prefixed t (lineOf k d) (listed t s (k + 1) xs) _ bs refl)
 continued-after t NothingYet s k xs bs h = h k ∙ sym (continued-prefixed t [] (listed t s k xs) _ bs refl)

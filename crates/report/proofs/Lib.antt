@@ -1,4 +1,4 @@
--- Digits and lines, then answers printed, listing in parts, the opening, the whole listing and the example. Lowest first.
+-- Digits and lines, then answers printed, listing in parts, the opening, and the whole listing. Lowest first.
 mod Digits
 mod Written
 mod Longest
@@ -8,4 +8,3 @@ mod Loop
 mod Room
 mod Opens
 mod Parts
-mod Example

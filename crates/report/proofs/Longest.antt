@@ -5,13 +5,15 @@ use Prim.Native.Nat.{ℕ, _^_, _≤_, _<_}
 use native.Mathlib.Omega.{arith}
 use lib.ListN.{length, length-append}
 use Rattle.link.specs.declared.decode.Delivered.{Delivered}
-use Rattle.link.specs.DecoderAnswers.{markWord, markError}
+use Rattle.link.specs.Decoder.{markError}
+use Rattle.report.specs.Text.{markWord}
 use Rattle.report.specs.Text.{decimalOf, space, newline, lineOf, refusedLine}
 use Rattle.report.specs.Writing.{longest, LONGEST}
 use Rattle.report.proofs.Digits.{digits-64, digits-16}
 use Rattle.report.proofs.Written.{field-length, word-length, line-fields}
 
-line-longest : (k : ℕ) (d : Delivered) → k < 2 ^ 64 → d .info < 2 ^ 16 → markError (d .mark) < 2 ^ 16 → length (lineOf k d) ≤ longest
+line-longest : (k : ℕ) (d : Delivered) → k < 2 ^ 64 → d .info < 2 ^ 16 → markError (d .mark) < 2 ^ 16
+    → length (lineOf k d) ≤ longest
 line-longest k d a b c =
     let number = decimalOf k ++ (space ∷ []) in
     let info = decimalOf (d .info) ++ (space ∷ []) in

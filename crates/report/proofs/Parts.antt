@@ -12,7 +12,8 @@ use Rattle.tables.specs.declared.make.MakeAnswer.the-variants.{Made, OutOfRange
 use Rattle.tables.specs.Made.{making}
 use Rattle.report.specs.Text.{headerLine, refusedLine}
 use Rattle.report.specs.Listing.{Listed, prefixed, madeListing, listed, listing, continued}
-use Rattle.report.specs.Opening.{openedMade, headed, opened, joined, wholeBlocks, partsListed, nothingListed, afterOpening, LISTING, openingRoom, PROGRAM-ROOM}
+use Rattle.report.specs.Opening.{openedMade, headed, opened, joined, wholeBlocks, partsListed, nothingListed}
+use Rattle.report.specs.Opening.{afterOpening, LISTING, openingRoom, PROGRAM-ROOM}
 use Rattle.report.proofs.Room.{part-room, listed-there}
 use Rattle.report.proofs.Opens.{opened-there}
 use Rattle.report.proofs.Continued.{continued-prefixed, parts}
@@ -31,14 +32,17 @@ continued-twice t l false p q e (inl even) =
 continued-twice t l false p q e (inr none) =
     rw (none, append-nil) (continued-nothing t (continued t l p) _ refl)
 
-pub parts-listed : (t : Table) (l : Listed) (ps : List (List ℕ)) → wholeBlocks ps → partsListed t l ps ≡ continued t l (joined ps)
+pub parts-listed : (t : Table) (l : Listed) (ps : List (List ℕ)) → wholeBlocks ps
+    → partsListed t l ps ≡ continued t l (joined ps)
 parts-listed t l [] w = sym (continued-nothing t l _ refl)
-parts-listed t l (p ∷ ps) w = parts-listed t (continued t l p) ps (w .1) ∙ continued-twice t l _ p (joined ps) refl (w .0)
+parts-listed t l (p ∷ ps) w =
+    parts-listed t (continued t l p) ps (w .1) ∙ continued-twice t l _ p (joined ps) refl (w .0)
 
 opened-listing : (a : MakeAnswer) (t : Table) (parts : List (List ℕ)) → wholeBlocks parts
     → let o = headed (openedMade a t) in
     headerLine ++ madeListing a t (joined parts) ≡ o .text ++ afterOpening o parts
-opened-listing Made t parts w = ap (λ (l : Listed). headerLine ++ l .text) (sym (parts-listed t (nothingListed t) parts w))
+opened-listing Made t parts w =
+    ap (λ (l : Listed). headerLine ++ l .text) (sym (parts-listed t (nothingListed t) parts w))
 opened-listing OutOfRange t parts w = sym (append-nil (headerLine ++ refusedLine 11))
 
 -- under two bytes there is no part

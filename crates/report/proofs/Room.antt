@@ -44,5 +44,6 @@ pub listed-nowhere : (t : Table) (s : List ℕ) (k : ℕ) (bs out : List ℕ) �
     → Lists (partListed t s k bs (length out)) out out s 0 k true
 unfolding partListed
 listed-nowhere t s k bs out h =
-    let e : partListed t s k bs (length out) ≡ record { text = []; memory = s; number = k; stopped = true } = rw (h, partListed) in
+    let e : partListed t s k bs (length out) ≡ record { text = []; memory = s; number = k; stopped = true } =
+    rw (h, partListed) in
     rw e (record { wrote = wrote-nothing out 0; left = refl; counted = refl; stops = refl })

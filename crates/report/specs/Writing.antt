@@ -8,13 +8,13 @@
 --   putEnd out at bs        the position after it: where there is no room, it stays
 --   Longest, LONGEST        no line is longer
 use mathlib.Core.Path.{_≡_}
-use mathlib.Core.Bool.{Bool, true, false}
+use mathlib.Core.Bool.{Bool, true, false, cond}
 use mathlib.Core.List.{List, _++_}
 use Prim.Native.Nat.{ℕ, _+_, _^_, _≤_, _<_}
 use lib.Dec.{leb}
 use lib.ListN.{length, take, drop}
 use Rattle.link.specs.declared.decode.Delivered.{Delivered}
-use Rattle.link.specs.DecoderAnswers.{markError}
+use Rattle.link.specs.Decoder.{markError}
 use Rattle.report.specs.Text.{headerLine, lineOf, refusedLine, oddLine}
 
 unfoldable pub written : List ℕ → ℕ → List ℕ → List ℕ
@@ -32,14 +32,15 @@ abbrev pub room : List ℕ → ℕ → Bool
 room out at = leb (at + longest) (length out)
 
 unfoldable pub put : List ℕ → ℕ → List ℕ → List ℕ
-put out at bs = elim (room out at) [ true ↦ written out at bs | false ↦ out ]
+put out at bs = cond (room out at) (written out at bs) out
 
 unfoldable pub putEnd : List ℕ → ℕ → List ℕ → ℕ
-putEnd out at bs = elim (room out at) [ true ↦ at + length bs | false ↦ at ]
+putEnd out at bs = cond (room out at) (at + length bs) at
 
 -- so where there is room every line is written whole
 pub record Longest : Type 0 where
-  pub delivery : (k : ℕ) (d : Delivered) → k < 2 ^ 64 → d .info < 2 ^ 16 → markError (d .mark) < 2 ^ 16 → length (lineOf k d) ≤ longest
+  pub delivery : (k : ℕ) (d : Delivered) → k < 2 ^ 64 → d .info < 2 ^ 16 → markError (d .mark) < 2 ^ 16
+      → length (lineOf k d) ≤ longest
   pub refusal : (k : ℕ) → k < 2 ^ 64 → length (refusedLine k) ≤ longest
   pub odd : length oddLine ≤ longest
   pub header : length headerLine ≤ longest

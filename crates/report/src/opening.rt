@@ -16,7 +16,8 @@ ghost use Rattle.link.specs.Memory.{decoderWords};
 ghost use Rattle.report.specs.Writing.{longest};
 ghost use Rattle.report.specs.Opening.{openingRoom, memoryWords, startedIn, openedMade, openedWithin, Opens};
 
-// The table, the words of its decoder, the count of bytes written, the number of the next delivery, and whether the program stopped.
+// The table, the words of its decoder, the count of bytes written, the number of the next delivery, and whether the
+// program stopped.
 pub struct Opened {
     pub table: Table,
     pub words: usize,
@@ -65,7 +66,9 @@ fn started(t: Table, memory: &mut [u64], end: usize) -> Opened
 // After the header: a table and its decoder, or refusal 11.
 fn after_header(n: usize, m: usize, memory: &mut [u64], out: &mut [u8], end: usize) -> Opened
     requires { ⌜ (memoryWords ≤ length (now memory)) × (end + longest ≤ length (now out)) ⌝ }
-    ensures { λ r. ⌜ Opens (openedMade (making n m .answer) (making n m .table)) end (now (memory .entry)) (now (memory .exit)) (now (out .entry)) (now (out .exit)) r ⌝ }
+    ensures { λ r.
+        ⌜ Opens (openedMade (making n m .answer) (making n m .table)) end (now (memory .entry)) (now (memory .exit))
+        (now (out .entry)) (now (out .exit)) r ⌝ }
 {
     let made = make(n, m);
     let table = made.table;
@@ -76,9 +79,12 @@ fn after_header(n: usize, m: usize, memory: &mut [u64], out: &mut [u8], end: usi
     }
 }
 
-// `sizes` are the first two bytes of the input, or all that it has; of more, those after the second are not looked at. Without room nothing is written, and the program is to stop.
+// `sizes` are the first two bytes of the input, or all that it has; of more, those after the second are not looked at.
+// Without room nothing is written, and the program is to stop.
 pub fn opening(sizes: &[u8], memory: &mut [u64], out: &mut [u8]) -> Opened
-    ensures { λ r. ⌜ Opens (openedWithin (length (now (memory .entry))) (length (now (out .entry))) (now (sizes .entry))) 0 (now (memory .entry)) (now (memory .exit)) (now (out .entry)) (now (out .exit)) r ⌝ }
+    ensures { λ r.
+        ⌜ Opens (openedWithin (length (now (memory .entry))) (length (now (out .entry))) (now (sizes .entry))) 0
+        (now (memory .entry)) (now (memory .exit)) (now (out .entry)) (now (out .exit)) r ⌝ }
 {
     if !has_room(memory.len(), out.len()) {
         return stopped(0);

@@ -53,7 +53,9 @@ fn answer_line(answer: DecodeAnswer, number: u64, out: &mut [u8], at: usize) -> 
 // Every block, and then an odd byte. There is room for all of their lines.
 fn list(t: Table, state: &mut [u64], bytes: &[u8], number: u64, out: &mut [u8]) -> Progress
     requires { ⌜ (number ≤ 2 ^ 63) × (longest * (length (now bytes) / 2 + 1) ≤ length (now out)) ⌝ }
-    ensures { λ r. ⌜ Lists (listed t (now (state .entry)) number (now (bytes .entry))) (now (out .entry)) (now (out .exit)) (now (state .exit)) (r .end) (r .number) (r .stopped) ⌝ }
+    ensures { λ r.
+        ⌜ Lists (listed t (now (state .entry)) number (now (bytes .entry))) (now (out .entry)) (now (out .exit))
+        (now (state .exit)) (r .end) (r .number) (r .stopped) ⌝ }
 {
     let mut end = 0;
     let mut next = number;
@@ -93,11 +95,13 @@ fn fits(number: u64, bytes: usize, room: usize) -> bool
     (number <= 9223372036854775808) & (bytes / 2 + 1 <= room / 43)
 }
 
-// A part of the input, an even one unless it is the last, listed into `out` from its start on. The listing goes on from the memory, with the
-// number that is returned. Where its lines have no room, or the number is above 2^63, nothing is listed, no word is written, and the listing
-// stops.
+// A part of the input, an even one unless it is the last, listed into `out` from its start on. The listing goes on from
+// the memory, with the number that is returned. Where its lines have no room, or the number is above 2^63, nothing is
+// listed, no word is written, and the listing stops.
 pub fn part(t: Table, state: &mut [u64], bytes: &[u8], number: u64, out: &mut [u8]) -> Progress
-    ensures { λ r. ⌜ Lists (partListed t (now (state .entry)) number (now (bytes .entry)) (length (now (out .entry)))) (now (out .entry)) (now (out .exit)) (now (state .exit)) (r .end) (r .number) (r .stopped) ⌝ }
+    ensures { λ r.
+        ⌜ Lists (partListed t (now (state .entry)) number (now (bytes .entry)) (length (now (out .entry))))
+        (now (out .entry)) (now (out .exit)) (now (state .exit)) (r .end) (r .number) (r .stopped) ⌝ }
 {
     if fits(number, bytes.len(), out.len()) {
         return list(t, state, bytes, number, out);

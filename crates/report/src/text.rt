@@ -1,12 +1,13 @@
-// Lines, written into lent bytes from a position on. Each public function returns the position after them; where there is no
-// room for the longest line it writes nothing, and the position stays.
+// Lines, written into lent bytes from a position on. Each public function returns the position after them; where there
+// is no room for the longest line it writes nothing, and the position stays.
 use link::decode::Delivered;
 use link::decode::Mark;
 ghost use mathlib.Core.Path.{_≡_};
 ghost use mathlib.Core.List.{[], _∷_, _++_};
 ghost use Prim.Native.Nat.{_+_, _≤_};
 ghost use lib.ListN.{length};
-ghost use Rattle.link.specs.DecoderAnswers.{markWord, markError};
+ghost use Rattle.link.specs.Decoder.{markError};
+ghost use Rattle.report.specs.Text.{markWord};
 ghost use Rattle.report.specs.Text.{decimalOf, space, headerLine, lineOf, refusedLine, oddLine};
 ghost use Rattle.report.specs.Writing.{Wrote, longest, room, put, putEnd};
 

@@ -1,4 +1,5 @@
--- The laws of linear combinations: linear in the coefficients, carried by every linear map, and split over append. Assumes nothing.
+-- The laws of linear combinations: linear in the coefficients, carried by every linear map, and split over append.
+-- Assumes nothing.
 use mathlib.Core.Path.{_≡_, refl, sym, ap, ap₂, _∙_, subst}
 use mathlib.Core.Bool.{Bool, true, false}
 use mathlib.Core.List.{List, [], _∷_, _++_, map}
@@ -12,7 +13,8 @@ use lib.Seq.{getD-append-seam, getD-take, length-take-le, take-all, take-take}
 use Rattle.span.specs.Word.{_⊕_, odd, bit, sel}
 use Rattle.span.specs.Combination.{combination, Below, counted}
 use Rattle.span.specs.Laws.{COMBINATION-LINEAR}
-use Rattle.span.proofs.Word.{xor-zero-l, xor-zero-r, xor-assoc, xor-swap, xor-lt, xor-half, odd-of, odd-mod, odd-xor, sel-xor, sel-lt, bit-none, xor-comm, pow-add-xor}
+use Rattle.span.proofs.Word.{xor-zero-l, xor-zero-r, xor-assoc, xor-swap, xor-lt, xor-half, odd-of, odd-mod}
+use Rattle.span.proofs.Word.{odd-xor, sel-xor, sel-lt, bit-none, xor-comm, pow-add-xor}
 
 pub combination-zero : (ws : List ℕ) → combination ws 0 ≡ 0
 unfolding combination odd
@@ -29,16 +31,19 @@ combination-xor (w ∷ ws) c d =
     ∙ xor-swap (sel (odd c) w) (sel (odd d) w) (combination ws (c / 2)) (combination ws (d / 2))
 
 -- the words of the second list are selected by the bits above those of the first
-pub combination-append : (us vs : List ℕ) (c : ℕ) → combination (us ++ vs) c ≡ combination us c ⊕ combination vs (c / 2 ^ length us)
+pub combination-append : (us vs : List ℕ) (c : ℕ)
+    → combination (us ++ vs) c ≡ combination us c ⊕ combination vs (c / 2 ^ length us)
 unfolding combination
 combination-append [] vs c = ap (combination vs) (sym (div-one c)) ∙ sym (xor-zero-l (combination vs (c / 1)))
 combination-append (u ∷ us) vs c =
     ap (λ (x : ℕ). sel (odd c) u ⊕ x)
     (combination-append us vs (c / 2)
-    ∙ ap (λ (x : ℕ). combination us (c / 2) ⊕ combination vs x) (shr-shr c 1 (length us) ∙ ap (λ (k : ℕ). c / 2 ^ k) (one-add (length us))))
+    ∙ ap (λ (x : ℕ). combination us (c / 2) ⊕ combination vs x)
+    (shr-shr c 1 (length us) ∙ ap (λ (k : ℕ). c / 2 ^ k) (one-add (length us))))
     ∙ sym (xor-assoc (sel (odd c) u) (combination us (c / 2)) (combination vs (c / 2 ^ suc (length us))))
 
-pub combination-last : (ws : List ℕ) (w c : ℕ) → combination (ws ++ (w ∷ [])) c ≡ combination ws c ⊕ sel (bit (length ws) c) w
+pub combination-last : (ws : List ℕ) (w c : ℕ)
+    → combination (ws ++ (w ∷ [])) c ≡ combination ws c ⊕ sel (bit (length ws) c) w
 unfolding combination bit
 combination-last ws w c =
     combination-append ws (w ∷ []) c
@@ -80,16 +85,19 @@ combination-lt N (w ∷ ws) c h =
 -- a last word whose bit is not set changes nothing, and one whose bit is set joins in
 pub combination-below : (ws : List ℕ) (w c : ℕ) → c < 2 ^ length ws → combination (ws ++ (w ∷ [])) c ≡ combination ws c
 combination-below ws w c h =
-    combination-last ws w c ∙ ap (λ (s : Bool). combination ws c ⊕ sel s w) (bit-none (length ws) c h) ∙ xor-zero-r (combination ws c)
+    combination-last ws w c ∙ ap (λ (s : Bool). combination ws c ⊕ sel s w) (bit-none (length ws) c h)
+    ∙ xor-zero-r (combination ws c)
 
-pub combination-above : (ws : List ℕ) (w c : ℕ) → c < 2 ^ length ws → combination (ws ++ (w ∷ [])) (2 ^ length ws + c) ≡ combination ws c ⊕ w
+pub combination-above : (ws : List ℕ) (w c : ℕ) → c < 2 ^ length ws
+    → combination (ws ++ (w ∷ [])) (2 ^ length ws + c) ≡ combination ws c ⊕ w
 combination-above ws w c h =
     ap (combination (ws ++ (w ∷ []))) (pow-add-xor (length ws) c h ∙ xor-comm (2 ^ length ws) c)
     ∙ combination-xor (ws ++ (w ∷ [])) c (2 ^ length ws)
     ∙ ap₂ _⊕_ (combination-below ws w c h) (combination-pow (ws ++ (w ∷ [])) (length ws) ∙ getD-append-seam ws w [] 0)
 
 -- coefficients below 2^i select among the first i words only
-pub combination-take : (ws : List ℕ) (i c : ℕ) → c < 2 ^ i → i ≤ length ws → combination (take i ws) c ≡ combination ws c
+pub combination-take : (ws : List ℕ) (i c : ℕ) → c < 2 ^ i → i ≤ length ws
+    → combination (take i ws) c ≡ combination ws c
 combination-take ws i c h l =
     let none : c / 2 ^ length (take i ws) ≡ 0 = rw (length-take-le i ws l) (div-eq-of-lt h) in
     sym (ap (λ (l : List ℕ). combination l c) (sym (take-append-drop i ws))
@@ -127,8 +135,10 @@ pub counted-take : (n : ℕ) (ws : List ℕ) → take (min (min n (length ws)) 3
 counted-take n ws =
     let e = min (min n (length ws)) 32 in
     let l = counted-length n ws in
-    sym (take-take e n ws (omega arith)) ∙ sym (take-take e 32 (take n ws) (omega arith)) ∙ take-all e (counted n ws) (omega arith)
+    sym (take-take e n ws (omega arith)) ∙ sym (take-take e 32 (take n ws) (omega arith))
+    ∙ take-all e (counted n ws) (omega arith)
 
 -- the words of a list are below a bound, and so those of its front
 pub below-left : (N : ℕ) (us vs : List ℕ) → Below N (us ++ vs) → Below N us
-below-left N us vs h i l = subst (λ (x : ℕ). x < 2 ^ N) (List·getD-append us vs 0 i l) (h i (rw (length-append us vs) (omega arith)))
+below-left N us vs h i l =
+    subst (λ (x : ℕ). x < 2 ^ N) (List·getD-append us vs 0 i l) (h i (rw (length-append us vs) (omega arith)))

@@ -1,5 +1,5 @@
--- Words below 2^N without a relation are at most N, and N of them span everything below 2^N: their combinations are all different, and
--- there is no room for more than 2^N different numbers below 2^N. Assumes nothing.
+-- Words below 2^N without a relation are at most N, and N of them span everything below 2^N: their combinations are all
+-- different, and there is no room for more than 2^N different numbers below 2^N. Assumes nothing.
 use mathlib.Core.Path.{_≡_, refl, sym, ap, _∙_}
 use mathlib.Core.Bool.{Bool, true, false}
 use mathlib.Core.Logic.{_≢_}
@@ -38,7 +38,8 @@ instead true z y = z
 instead false z y = y
 
 -- a value z that is not taken stands in for the greatest, b, so that b is free
-module _ (f : ℕ → ℕ) (a b z : ℕ) (into : Into f a (suc b)) (different : Different f a) (below : z < suc b) (unhit : Unhit f a z) where
+module _ (f : ℕ → ℕ) (a b z : ℕ) (into : Into f a (suc b)) (different : Different f a) (below : z < suc b)
+    (unhit : Unhit f a z) where
   moved : ℕ → ℕ
   moved x = instead (eqb (f x) b) z (f x)
 
@@ -68,12 +69,14 @@ pigeonhole (suc b) (suc a) f into different =
     let d : Different f a = λ x y hx hy. different x y (omega arith) (omega arith) in
     let l : f a < suc b = into a (le-refl (suc a)) in
     let u : Unhit f a (f a) = λ x h e. let p = different x a (omega arith) (le-refl (suc a)) e in omega arith in
-    suc-le-suc (pigeonhole b a (moved f a b (f a) i d l u) (moved-into f a b (f a) i d l u) (moved-different f a b (f a) i d l u))
+    suc-le-suc
+    (pigeonhole b a (moved f a b (f a) i d l u) (moved-into f a b (f a) i d l u) (moved-different f a b (f a) i d l u))
 
 onto : (a : ℕ) (f : ℕ → ℕ) → Into f a a → Different f a → (z : ℕ) → z < a → Unhit f a z → ⊥
 onto zero f into different z h unhit = omega arith
 onto (suc b) f into different z h unhit =
-    lt-irrefl b (pigeonhole b (suc b) (moved f (suc b) b z into different h unhit) (moved-into f (suc b) b z into different h unhit)
+    lt-irrefl b
+    (pigeonhole b (suc b) (moved f (suc b) b z into different h unhit) (moved-into f (suc b) b z into different h unhit)
     (moved-different f (suc b) b z into different h unhit))
 
 -- ---- combinations
@@ -103,7 +106,8 @@ module _ (N : ℕ) (ws : List ℕ) (bound : Below N ws) (independent : Independe
       go : (r : Least) → IsLeast (λ (c : ℕ). combination ws c ≡ y) 0 (2 ^ length ws) r → Member ws y
       go (Found c) l = (c, l .1, l .2)
       go Missing l =
-          absurd (onto (2 ^ length ws) (combination ws) (rw (← e) at into) different y (rw e h) (λ x u p. l x zero-le u p))
+          absurd
+          (onto (2 ^ length ws) (combination ws) (rw (← e) at into) different y (rw e h) (λ x u p. l x zero-le u p))
 
 pub dimension : DIMENSION
 dimension = within

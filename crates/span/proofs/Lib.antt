@@ -6,3 +6,4 @@ pub mod Relation
 mod Elimination
 pub mod Basis
 pub mod Dimension
+pub mod Linear

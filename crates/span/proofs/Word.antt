@@ -1,10 +1,12 @@
--- The laws of words: exclusive or is an abelian group in which each word is its own inverse, and halves, bits, shifts and masks pass
--- through it; parity with a fixed word is linear. Each law follows from a number's lowest bit and its half. Assumes nothing.
+-- The laws of words: exclusive or is an abelian group in which each word is its own inverse, and halves, bits, shifts
+-- and masks pass through it; parity with a fixed word is linear. Each law follows from a number's lowest bit and its
+-- half. Assumes nothing.
 use mathlib.Core.Path.{_≡_, refl, sym, ap, ap₂, _∙_, subst}
 use mathlib.Core.Bool.{Bool, true, false, xor, _&&_}
 use mathlib.Core.Logic.{_≢_}
 use Prim.Native.Nat.{ℕ, zero, suc, _+_, _-_, _*_, _/_, _%_, _^_, _≤_, _<_}
-use native.Mathlib.Nat.{add-zero, zero-mul, one-mul, mul-assoc, mul-mod-left, suc-mul, zero-mod, mod-mod, mod-lt, div-one, div-eq-of-lt, div-eq-of-lt-le}
+use native.Mathlib.Nat.{add-zero, zero-mul, one-mul, mul-assoc, mul-mod-left, suc-mul, zero-mod, mod-mod, mod-lt}
+use native.Mathlib.Nat.{div-one, div-eq-of-lt, div-eq-of-lt-le}
 use native.Mathlib.Numerals.{add-one, one-add}
 use native.Mathlib.Omega.{arith}
 use borrow.Author.Tests.{eq-eqb, ne-eqb, eqb-true, eqb-false}
@@ -57,6 +59,10 @@ and-xor true false u = sym (xor-false-r u)
 and-xor false true u = sym (xor-false-l u)
 and-xor false false u = refl
 
+pub and-false : (s : Bool) → s && false ≡ false
+and-false true = refl
+and-false false = refl
+
 and-comm-bool : (s t : Bool) → s && t ≡ t && s
 and-comm-bool true true = refl
 and-comm-bool true false = refl
@@ -64,7 +70,8 @@ and-comm-bool false true = refl
 and-comm-bool false false = refl
 
 -- under an operation that is associative and commutative, the two in the middle change places
-swap-middle : {A : Type 0} (op : A → A → A) → ((a b c : A) → op (op a b) c ≡ op a (op b c)) → ((a b : A) → op a b ≡ op b a)
+swap-middle : {A : Type 0} (op : A → A → A) → ((a b c : A) → op (op a b) c ≡ op a (op b c))
+    → ((a b : A) → op a b ≡ op b a)
     → (a b c d : A) → op (op a b) (op c d) ≡ op (op a c) (op b d)
 swap-middle op assoc com′ a b c d =
     assoc a b (op c d)
@@ -93,6 +100,10 @@ pub odd-digit : (s : Bool) → odd (digit s) ≡ s
 unfolding odd
 odd-digit true = refl
 odd-digit false = refl
+
+pub digit-half : (s : Bool) → digit s / 2 ≡ 0
+digit-half true = refl
+digit-half false = refl
 
 -- a number is its half, doubled, and its lowest bit
 by-halves : (a b : ℕ) → odd a ≡ odd b → a / 2 ≡ b / 2 → a ≡ b
@@ -215,7 +226,8 @@ bit-part : (j p x : ℕ) → bit p (x % 2 ^ (suc j + p)) ≡ bit p x
 unfolding bit
 bit-part j p x =
     ap odd (field x (suc j) p)
-    ∙ odd-of (odd (x / 2 ^ p)) (x / 2 ^ p % 2 ^ suc j) (rw (← add-one j) (mod-mod-pow (x / 2 ^ p) j 1) ∙ odd-mod (x / 2 ^ p))
+    ∙ odd-of (odd (x / 2 ^ p)) (x / 2 ^ p % 2 ^ suc j)
+    (rw (← add-one j) (mod-mod-pow (x / 2 ^ p) j 1) ∙ odd-mod (x / 2 ^ p))
 
 pub bit-low : (p n x : ℕ) → p < n → bit p (x % 2 ^ n) ≡ bit p x
 bit-low p n x h = subst (λ (k : ℕ). bit p (x % 2 ^ k) ≡ bit p x) (omega arith) (bit-part (n - suc p) p x)
@@ -229,13 +241,19 @@ mod-top m x =
   where
     go : (s : Bool) → digit s * 2 ^ m + x % 2 ^ m ≡ x % 2 ^ m ⊕ sel s (2 ^ m)
     go true =
-        ap (λ (y : ℕ). y + x % 2 ^ m) (one-mul (2 ^ m)) ∙ pow-add-xor m (x % 2 ^ m) (mod-lt x (pow-pos m)) ∙ xor-comm (2 ^ m) (x % 2 ^ m)
+        ap (λ (y : ℕ). y + x % 2 ^ m) (one-mul (2 ^ m)) ∙ pow-add-xor m (x % 2 ^ m) (mod-lt x (pow-pos m))
+        ∙ xor-comm (2 ^ m) (x % 2 ^ m)
     go false = ap (λ (y : ℕ). y + x % 2 ^ m) (zero-mul (2 ^ m)) ∙ omega arith ∙ sym (xor-zero-r (x % 2 ^ m))
 
 pub bit-pow : (p : ℕ) → bit p (2 ^ p) ≡ true
 unfolding bit odd
 bit-pow zero = refl
 bit-pow (suc p) = bit-suc p (2 ^ suc p) ∙ ap (bit p) (omega arith) ∙ bit-pow p
+
+-- the highest one of a word
+pub bit-top : (p x : ℕ) → 2 ^ p ≤ x → x < 2 ^ suc p → bit p x ≡ true
+bit-top zero x l h = bit-zero x ∙ odd-of true x (omega arith)
+bit-top (suc p) x l h = bit-suc p x ∙ bit-top p (x / 2) (omega arith) (omega arith)
 
 pub bit-pow-other : (p q : ℕ) → p ≢ q → bit p (2 ^ q) ≡ false
 unfolding bit odd
@@ -333,7 +351,8 @@ pub parity-pow : (k p x : ℕ) → p < k → commonParity k x (2 ^ p) ≡ bit p 
 unfolding commonParity odd
 parity-pow zero p x h = absurd (omega arith)
 parity-pow (suc k) zero x h =
-    ap₂ xor (and-comm-bool (odd x) true) (parity-comm k (x / 2) 0 ∙ parity-zero-l k (x / 2)) ∙ xor-false-r (odd x) ∙ sym (bit-zero x)
+    ap₂ xor (and-comm-bool (odd x) true) (parity-comm k (x / 2) 0 ∙ parity-zero-l k (x / 2)) ∙ xor-false-r (odd x)
+    ∙ sym (bit-zero x)
 parity-pow (suc k) (suc p) x h =
     ap₂ xor
     (ap (λ (s : Bool). odd x && s) (odd-of false (2 ^ suc p) (omega arith)) ∙ and-comm-bool (odd x) false)
@@ -376,7 +395,8 @@ pub parity-ones : COMMON-ONES
 unfolding commonParity odd ones
 parity-ones zero a b h = ap (λ (x : ℕ). odd (ones (bitAnd x b))) (sym (lt-one h))
 parity-ones (suc k) a b h =
-    ap₂ xor (sym (odd-and a b)) (parity-ones k (a / 2) (b / 2) (omega arith) ∙ ap (λ (x : ℕ). odd (ones x)) (sym (and-shr a b 1)))
+    ap₂ xor (sym (odd-and a b))
+    (parity-ones k (a / 2) (b / 2) (omega arith) ∙ ap (λ (x : ℕ). odd (ones x)) (sym (and-shr a b 1)))
     ∙ sym (odd-ones (bitAnd a b))
 
 -- ---- order
@@ -385,7 +405,8 @@ parity-ones (suc k) a b h =
 pub xor-less : (p a b : ℕ) → 2 ^ p ≤ a ⊕ b → a ⊕ b < 2 ^ suc p → bit p a ≡ false → a < b
 unfolding bit odd
 xor-less p a b lo hi e =
-    let one : a / 2 ^ p ⊕ b / 2 ^ p ≡ 1 = sym (xor-shr a b p) ∙ div-eq-of-lt-le {k = 1} (2 ^ p) (omega arith) (omega arith) in
+    let one : a / 2 ^ p ⊕ b / 2 ^ p ≡ 1 =
+    sym (xor-shr a b p) ∙ div-eq-of-lt-le {k = 1} (2 ^ p) (omega arith) (omega arith) in
     let same : a / 2 ^ p / 2 ≡ b / 2 ^ p / 2 =
     xor-eq (a / 2 ^ p / 2) (b / 2 ^ p / 2) (sym (xor-half (a / 2 ^ p) (b / 2 ^ p)) ∙ ap (λ (x : ℕ). x / 2) one)
     in
@@ -396,4 +417,11 @@ xor-less p a b lo hi e =
     let even : a / 2 ^ p % 2 ≡ 0 = odd-mod (a / 2 ^ p) ∙ ap digit e in
     let uneven : b / 2 ^ p % 2 ≡ 1 = odd-mod (b / 2 ^ p) ∙ ap digit last in
     let next : b / 2 ^ p ≡ suc (a / 2 ^ p) = omega arith in
-    omega (arith, split a p, split b p, mod-lt a (pow-pos p), ap (λ (x : ℕ). x * 2 ^ p) next, suc-mul (a / 2 ^ p) (2 ^ p))
+    omega (
+      arith,
+      split a p,
+      split b p,
+      mod-lt a (pow-pos p),
+      ap (λ (x : ℕ). x * 2 ^ p) next,
+      suc-mul (a / 2 ^ p) (2 ^ p),
+    )

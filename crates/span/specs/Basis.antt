@@ -4,9 +4,8 @@
 --   reducedBy v h q r   one step of a reduction, by the triple of vector v, check word h and coefficients q
 --   reducedTo b i x     x reduced by the first i triples of b
 --   reduction b x       x reduced by all triples of b
---   pickLeast s r t     r where s holds, else t
 --   answer r            what a reduction says of the word: its coefficients where nothing is left of it
-use mathlib.Core.Bool.{Bool, true, false}
+use mathlib.Core.Bool.{cond}
 use mathlib.Core.List.{List}
 use Prim.Native.Nat.{ℕ, zero, suc, min}
 use lib.Dec.{eqb}
@@ -28,15 +27,12 @@ reducedBy v h q r =
 
 unfoldable pub reducedTo : Basis → ℕ → ℕ → Reduced
 reducedTo b zero x = record { rest = x; coefficients = 0 }
-reducedTo b (suc i) x = reducedBy (getD (b .vectors) i 0) (getD (b .checks) i 0) (getD (b .coefficients) i 0) (reducedTo b i x)
+reducedTo b (suc i) x =
+    reducedBy (getD (b .vectors) i 0) (getD (b .checks) i 0) (getD (b .coefficients) i 0) (reducedTo b i x)
 
 -- a basis has room for 32 triples: a greater size counts as 32
 unfoldable pub reduction : Basis → ℕ → Reduced
 reduction b x = reducedTo b (min (b .size) 32) x
 
-abbrev pub pickLeast : Bool → Least → Least → Least
-pickLeast true r s = r
-pickLeast false r s = s
-
 unfoldable pub answer : Reduced → Least
-answer r = pickLeast (eqb (r .rest) 0) (Found (r .coefficients)) Missing
+answer r = cond (eqb (r .rest) 0) (Found (r .coefficients)) Missing

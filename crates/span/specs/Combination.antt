@@ -12,7 +12,8 @@ use Prim.Native.Nat.{ℕ, _/_, _^_, _<_}
 use lib.ListN.{length, getD, take}
 use Rattle.span.specs.Word.{_⊕_, odd, sel}
 
--- 000, eq. 6, and 01, The code: "the image of e is the exclusive or of the rows of its ones". Bits of c past the last word select nothing.
+-- 000, eq. 6, and 01, The code: "the image of e is the exclusive or of the rows of its ones". Bits of c past the last
+-- word select nothing.
 unfoldable pub combination : List ℕ → ℕ → ℕ
 combination [] c = 0
 combination (w ∷ ws) c = sel (odd c) w ⊕ combination ws (c / 2)

@@ -1,10 +1,11 @@
--- What the crate proves of its definitions: the theorems that a reader checks against the papers. The file of `proofs/` that is named for the
--- definitions has the proof.
+-- What the crate proves of its definitions: the theorems that a reader checks against the papers. The file of `proofs/`
+-- that is named for the definitions has the proof.
 --
 --   COMMON-ONES          the exclusive or over the places is the parity of the count of common ones
 --   SHIFTED-LINEAR       shifting is linear
 --   COMBINATION-LINEAR   combination is linear in the coefficients
---   LEAST-RELATION       what the search for a relation finds is one, and no smaller one is; where it finds none, there is none
+--   LEAST-RELATION       what the search for a relation finds is one, and no smaller one is; where it finds none, there
+--                        is none
 --   LEAST-COEFFICIENTS   the same of the coefficients of a target
 --   LEAST-UNIQUE         there is only one least
 --   LEAST-RAISED         the least coefficients of a target are the least relation that ends in it
@@ -49,7 +50,8 @@ abbrev pub LEAST-UNIQUE : Type 1
 LEAST-UNIQUE = (P : ℕ → Type 0) (a b : ℕ) (r s : Least) → IsLeast P a b r → IsLeast P a b s → r ≡ s
 
 abbrev pub LEAST-RAISED : Type 0
-LEAST-RAISED = (ws : List ℕ) (x : ℕ) → leastRelation (ws ++ (x ∷ [])) (length ws) ≡ raised (length ws) (leastCoefficients ws x)
+LEAST-RAISED =
+    (ws : List ℕ) (x : ℕ) → leastRelation (ws ++ (x ∷ [])) (length ws) ≡ raised (length ws) (leastCoefficients ws x)
 
 abbrev pub MEMBERSHIP : Type 0
 MEMBERSHIP = (ws : List ℕ) (x : ℕ) → Member ws x ↔ (leastCoefficients ws x ≡ Missing → ⊥)
@@ -59,7 +61,8 @@ INDEPENDENCE = (ws : List ℕ) → Independent ws ↔ (leastRelation ws 0 ≡ Mi
 
 -- a basis has room for 32 words of 64 bits
 abbrev pub REDUCES : Type 0
-REDUCES = (ws : List ℕ) → length ws ≤ 32 → Below 64 ws → (x : ℕ) → answer (reduction (basisOf ws) x) ≡ leastCoefficients ws x
+REDUCES =
+    (ws : List ℕ) → length ws ≤ 32 → Below 64 ws → (x : ℕ) → answer (reduction (basisOf ws) x) ≡ leastCoefficients ws x
 
 abbrev pub DIMENSION : Type 0
 DIMENSION = (N : ℕ) (ws : List ℕ) → Below N ws → Independent ws → length ws ≤ N

@@ -29,8 +29,8 @@ sel false x = 0
 abbrev pub digit : Bool → ℕ
 digit s = sel s 1
 
--- 01, The code: "A sum of this kind is odd exactly if the count of common ones is odd". The sum is the exclusive or, over the places, of the
--- product of the two bits there: place 0 first, then the places above it.
+-- 01, The code: "A sum of this kind is odd exactly if the count of common ones is odd". The sum is the exclusive or,
+-- over the places, of the product of the two bits there: place 0 first, then the places above it.
 unfoldable pub commonParity : ℕ → ℕ → ℕ → Bool
 commonParity zero a b = false
 commonParity (suc k) a b = xor (odd a && odd b) (commonParity k (a / 2) (b / 2))

@@ -4,7 +4,8 @@ ghost use mathlib.Core.Path.{_≡_};
 ghost use Prim.Native.Nat.{_-_, _^_, min};
 ghost use Rattle.span.specs.Word.{sel, digit, odd, commonParity, shifted};
 
-// 1 where the count of common ones is odd, else 0. Where there are none, as in most steps of an elimination, nothing is counted.
+// 1 where the count of common ones is odd, else 0. Where there are none, as in most steps of an elimination, nothing is
+// counted.
 pub(crate) fn common_parity(a: u64, b: u64) -> u64
     ensures { λ r. ⌜ r ≡ digit (commonParity 64 a b) ⌝ }
 {

@@ -5,7 +5,8 @@ ghost use mathlib.Core.Path.{_≡_};
 ghost use lib.ListN.{take};
 ghost use Rattle.span.specs.Combination.{combination};
 
-// The exclusive or of the first `count` words that `coefficients` selects, word i by bit i. A count past the slice's end is its length.
+// The exclusive or of the first `count` words that `coefficients` selects, word i by bit i. A count past the slice's
+// end is its length.
 pub fn combination(words: &[u64], count: usize, coefficients: u64) -> u64
     ensures { λ r. ⌜ r ≡ combination (take count (now (words .entry))) coefficients ⌝ }
 {

@@ -7,11 +7,11 @@ ghost use Prim.Native.Nat.{_<_, _≤_, _^_};
 ghost use lib.ListN.{length, take};
 ghost use Rattle.span.specs.Relation.{leastRelation};
 ghost use Rattle.span.specs.Basis.{basis, reduction};
-ghost use Rattle.span.specs.Elimination.{lowestOne, basisOf};
+ghost use Rattle.span.specs.Elimination.{pivot, basisOf};
 ghost use Rattle.span.specs.Combination.{counted};
 
-// `size` triples: what was left of a word that joined, a check word that has an odd count of common ones with it, and the coefficients
-// that make it from the words.
+// `size` triples: what was left of a word that joined, a check word that has an odd count of common ones with it, and
+// the coefficients that make it from the words.
 pub struct Basis {
     pub size: usize,
     pub vectors: [u64; 32],
@@ -37,8 +37,8 @@ struct Eliminated {
     found: Least,
 }
 
-// A word reduced by the triples in their order, the arrays lent: no copy of a basis is made in a loop. Any arrays and any size have an
-// answer: a size above 32 counts as 32.
+// A word reduced by the triples in their order, the arrays lent: no copy of a basis is made in a loop. Any arrays and
+// any size have an answer: a size above 32 counts as 32.
 pub fn reduce_by<'a>(
     size: usize,
     vectors: &'a [u64; 32],
@@ -46,7 +46,8 @@ pub fn reduce_by<'a>(
     coefficients: &'a [u64; 32],
     x: u64,
 ) -> Reduced
-    ensures { λ r. ⌜ r ≡ reduction (basis size (now (vectors .entry)) (now (checks .entry)) (now (coefficients .entry))) x ⌝ }
+    ensures { λ r.
+        ⌜ r ≡ reduction (basis size (now (vectors .entry)) (now (checks .entry)) (now (coefficients .entry))) x ⌝ }
 {
     let end = min(size, 32);
     let mut rest = x;
@@ -71,15 +72,28 @@ fn one_at(place: usize) -> u64
     1 << (place as u64)
 }
 
-fn lowest_one(v: u64) -> u64
+// The place of the one of v that is nearest an end of the word: any of its ones would do.
+fn pivot(v: u64) -> usize
     requires { ⌜ 0 < v ⌝ }
-    ensures { λ r. ⌜ r ≡ lowestOne v ⌝ }
+    ensures { λ r. ⌜ (r ≡ pivot v) × (r < 64) ⌝ }
 {
-    one_at(u64::trailing_zeros(v) as usize)
+    let low = u64::trailing_zeros(v) as usize;
+    let high = u64::leading_zeros(v) as usize;
+    if low <= high {
+        return low;
+    }
+    63 - high
 }
 
-// The first `end` words taken up one by one, up to the first from `f` on that gives a relation. What is left of a word joins the basis; a
-// word below f of which nothing is left is passed over.
+fn check_word(v: u64) -> u64
+    requires { ⌜ 0 < v ⌝ }
+    ensures { λ r. ⌜ r ≡ 2 ^ pivot v ⌝ }
+{
+    one_at(pivot(v))
+}
+
+// The first `end` words taken up one by one, up to the first from `f` on that gives a relation. What is left of a word
+// joins the basis; a word below f of which nothing is left is passed over.
 fn eliminate(words: &[u64], end: usize, f: usize) -> Eliminated
     requires { ⌜ (end ≤ length (now words)) × (end ≤ 32) ⌝ }
     ensures relation { λ r. ⌜ r .found ≡ leastRelation (take end (now (words .entry))) f ⌝ }
@@ -106,7 +120,7 @@ fn eliminate(words: &[u64], end: usize, f: usize) -> Eliminated
         } else {
             let at = b.size;
             b.vectors[at] = rest;
-            b.checks[at] = lowest_one(rest);
+            b.checks[at] = check_word(rest);
             b.coefficients[at] = coefficients;
             b.size = at + 1;
         }
@@ -118,7 +132,8 @@ fn eliminate(words: &[u64], end: usize, f: usize) -> Eliminated
     }
 }
 
-// The basis of the first `count` words. A count past the slice's end is its length, and words past the 32nd do not count.
+// The basis of the first `count` words. A count past the slice's end is its length, and words past the 32nd do not
+// count.
 pub fn basis_of(words: &[u64], count: usize) -> Basis
     ensures { λ r. ⌜ r ≡ basisOf (counted count (now (words .entry))) ⌝ }
 {
@@ -126,7 +141,8 @@ pub fn basis_of(words: &[u64], count: usize) -> Basis
     eliminate(words, end, end).basis
 }
 
-// The least relation from `f` among the first `count` words, counted as for a basis. There is none where f is the count or above.
+// The least relation from `f` among the first `count` words, counted as for a basis. There is none where f is the count
+// or above.
 pub fn least_relation(words: &[u64], count: usize, f: usize) -> Least
     ensures { λ r. ⌜ r ≡ leastRelation (counted count (now (words .entry))) f ⌝ }
 {

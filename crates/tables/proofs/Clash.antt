@@ -1,5 +1,5 @@
--- The question of refusal 10 at one shift is one about the least relation: among the shifted rows and the rows, a relation from n on is a
--- clash, e0 above and e1 below. Assumes nothing.
+-- The question of refusal 10 at one shift is one about the least relation: among the shifted rows and the rows, a
+-- relation from n on is a clash, e0 above and e1 below. Assumes nothing.
 use mathlib.Core.Path.{_≡_, sym, ap, ap₂, _∙_, subst}
 use mathlib.Core.Logic.{_⊎_, inl, inr}
 use mathlib.Core.List.{List, _++_, map}
@@ -15,16 +15,19 @@ use Rattle.span.specs.Word.{_⊕_, shifted}
 use Rattle.span.specs.Combination.{combination, Relation, counted}
 use Rattle.span.specs.Relation.{leastRelation, IsLeast}
 use Rattle.span.proofs.Word.{xor-eq, xor-self, shifted-zero, shifted-xor}
-use Rattle.span.proofs.Combination.{combination-append, combination-map, combination-low, combination-pow, combination-xor}
+use Rattle.span.proofs.Combination.{combination-append, combination-map, combination-low, combination-pow}
+use Rattle.span.proofs.Combination.{combination-xor}
 use Rattle.span.proofs.Relation.{least-relation}
-use Rattle.tables.specs.Code.{image, shiftedImage, Clashes}
-use Rattle.tables.specs.Laws.{IMAGE, ALIKE}
+use Rattle.tables.specs.Code.{image, shiftedImage, Clashes, Suitable}
+use Rattle.tables.specs.Laws.{IMAGE}
 
 pub images : IMAGE
 unfolding image
 images rows = (λ j. combination-pow rows (j - 1), combination-xor rows)
 
-pub alike : ALIKE
+-- in a suitable table only the zero block has a shifted image as its image
+pub alike : (N : ℕ) (rows : List ℕ) → Suitable N rows → (l e0 e1 : ℕ) → 1 ≤ l → l < N → e0 < 2 ^ length rows
+    → e1 < 2 ^ length rows → combination rows e0 ≡ shifted N l (combination rows e1) → e0 ≡ 0
 unfolding image shiftedImage
 alike N rows suits l e0 e1 from to h0 h1 same = go (eq-zero-or-pos e0)
   where
@@ -44,21 +47,26 @@ module _ (N : ℕ) (rows : List ℕ) (l : ℕ) where
   clashWords = map (shifted N l) rows ++ rows
 
   clash-length : length clashWords ≡ length rows + length rows
-  clash-length = length-append (map (shifted N l) rows) rows ∙ ap (λ (k : ℕ). k + length rows) (length-map rows (shifted N l))
+  clash-length =
+      length-append (map (shifted N l) rows) rows ∙ ap (λ (k : ℕ). k + length rows) (length-map rows (shifted N l))
 
   -- what a coefficient number selects: shifted rows by its low bits, rows by those above
-  clash-sum : (c : ℕ) → combination clashWords c ≡ shiftedImage N rows l (c % 2 ^ length rows) ⊕ image rows (c / 2 ^ length rows)
+  clash-sum : (c : ℕ)
+      → combination clashWords c ≡ shiftedImage N rows l (c % 2 ^ length rows) ⊕ image rows (c / 2 ^ length rows)
   unfolding shiftedImage image
   clash-sum c =
       combination-append (map (shifted N l) rows) rows c
       ∙ ap₂ _⊕_
-      (combination-map (shifted N l) (shifted-zero N l) (shifted-xor N l) rows c ∙ ap (shifted N l) (sym (combination-low rows c)))
+      (combination-map (shifted N l) (shifted-zero N l) (shifted-xor N l) rows c
+      ∙ ap (shifted N l) (sym (combination-low rows c)))
       (ap (λ (k : ℕ). combination rows (c / 2 ^ k)) (length-map rows (shifted N l)))
 
-  least-clash : IsLeast (Relation clashWords) (2 ^ length rows) (2 ^ (length rows + length rows)) (leastRelation clashWords (length rows))
+  least-clash : IsLeast (Relation clashWords) (2 ^ length rows) (2 ^ (length rows + length rows))
+      (leastRelation clashWords (length rows))
   least-clash = rw clash-length at (least-relation clashWords (length rows))
 
-  pub clash-found : 1 ≤ l → l < N → (c : ℕ) → leastRelation clashWords (length rows) ≡ Found c → Clashes N rows l (c / 2 ^ length rows) (c % 2 ^ length rows)
+  pub clash-found : 1 ≤ l → l < N → (c : ℕ) → leastRelation clashWords (length rows) ≡ Found c
+      → Clashes N rows l (c / 2 ^ length rows) (c % 2 ^ length rows)
   clash-found from to c e =
       let n = length rows in
       let r = subst (IsLeast (Relation clashWords) (2 ^ n) (2 ^ (n + n))) e least-clash in
@@ -87,7 +95,8 @@ module _ (N : ℕ) (rows : List ℕ) (l : ℕ) where
       in
       none (e0 * 2 ^ n + e1) from to
       (clash-sum (e0 * 2 ^ n + e1)
-      ∙ ap₂ (λ (x y : ℕ). shiftedImage N rows l x ⊕ image rows y) (low e0 n (k .second-block)) (high e0 n (k .second-block))
+      ∙ ap₂ (λ (x y : ℕ). shiftedImage N rows l x ⊕ image rows y) (low e0 n (k .second-block))
+      (high e0 n (k .second-block))
       ∙ ap (λ (x : ℕ). shiftedImage N rows l e1 ⊕ x) (k .alike)
       ∙ xor-self (shiftedImage N rows l e1))
 

@@ -1,30 +1,39 @@
--- The theorem of Berlekamp and Preparata, which 001 leaves as Problem 21.1: a suitable table from a triangle has exactly one column that
--- makes the next one suitable. Assumes nothing.
+-- The theorem of Berlekamp and Preparata, which 001 leaves as Problem 21.1: a suitable table from a triangle has
+-- exactly one column that makes the next one suitable. Assumes nothing.
 --
--- An image of the larger table is twice one of the smaller, the column's parity with the block at the top, and the last symbol at bit 0. So
--- a clash of the larger table is a clash of the smaller, or a pair of blocks that meets at 2^k for the shift k + 1 of the smaller (`Meets`)
--- and whose first block has with the column the one parity that is not allowed (`Free`). The smaller table is suitable, so each k below n
--- has exactly one pair. The first blocks of the n pairs are independent: in a sum of them, the least k is seen at bit k, where no shifted
--- image of the sum has a one. So the n parities that are asked of the column have exactly one solution.
+-- An image of the larger table is twice one of the smaller, the column's parity with the block at the top, and the last
+-- symbol at bit 0. So a clash of the larger table is a clash of the smaller, or a pair of blocks that meets at 2^k for
+-- the shift k + 1 of the smaller (`Meets`) and whose first block has with the column the one parity that is not allowed
+-- (`Free`). The smaller table is suitable, so each k below n has exactly one pair. The first blocks of the n pairs are
+-- independent: in a sum of them, the least k is seen at bit k, where no shifted image of the sum has a one. So the n
+-- parities that are asked of the column have exactly one solution.
 use mathlib.Core.Path.{_≡_, refl, sym, ap, ap₂, _∙_, subst}
 use mathlib.Core.Bool.{Bool, true, false, xor, not, true≢false, false≢true}
 use mathlib.Core.Logic.{_≢_}
 use mathlib.Core.List.{List, [], _∷_, _++_}
 use Prim.Native.Nat.{ℕ, zero, suc, _+_, _-_, _*_, _/_, _%_, _^_, _≤_, _<_}
-use native.Mathlib.Nat.{le-refl, le-of-eq, le-of-lt, lt-of-le-of-lt, zero-lt-suc, add-zero, zero-mod, mod-one, zero-mul, mod-lt, mod-eq-of-lt, mul-div-right}
+use native.Mathlib.Nat.{le-refl, le-of-eq, le-of-lt, lt-of-le-of-lt, zero-lt-suc, add-zero, zero-mod, mod-one, zero-mul}
+use native.Mathlib.Nat.{mod-lt, mod-eq-of-lt, mul-div-right}
 use native.Mathlib.Decide.{decLe, ℕ-discrete}
 use native.Mathlib.Omega.{arith}
 use lib.ListN.{length, getD, List·getD-eq-default}
 use lib.Pow.{pow-pos, pow-lt, pow-add, shr-lt, shr-le, split}
 use Rattle.span.specs.Word.{_⊕_, odd, bit, sel, commonParity, shifted}
 use Rattle.span.specs.Combination.{combination, Below}
-use Rattle.span.proofs.Word.{xor-assoc, xor-comm, xor-self, xor-zero-l, xor-zero-r, xor-twice, xor-eq, xor-lt, xor-swap, xor-mod, xor-shr, xor-shl, odd-of, odd-digit, odd-xor, xor-half, bit-xor, bit-none, bit-pow, sel-lt, shifted-xor, shifted-lt, parity-xor, parity-pow, parity-top, xor-false-l}
+use Rattle.span.proofs.Word.{xor-assoc, xor-comm, xor-self, xor-zero-l, xor-zero-r, xor-twice, xor-eq, xor-lt, xor-swap}
+use Rattle.span.proofs.Word.{xor-mod, xor-shr, xor-shl, odd-of, odd-digit, odd-xor, xor-half, bit-xor, bit-none}
+use Rattle.span.proofs.Word.{bit-pow, sel-lt, shifted-xor, shifted-lt, parity-xor, parity-pow, parity-top, xor-false-l}
+use Rattle.span.proofs.Word.{digit-half}
 use Rattle.span.proofs.Combination.{combination-xor, combination-pow, combination-lt}
 use Rattle.tables.specs.Made.{triangleRows, Triangle}
 use Rattle.tables.specs.Triangle.{FILLING}
 use Rattle.tables.specs.Code.{image, shiftedImage, Clashes, Suitable}
-use Rattle.tables.proofs.Triangle.{Triangular, Extends, triangular, extends, image-xor, image-row, image-lt, image-low, image-zero}
-use Rattle.tables.proofs.Linear.{xor-double, xor-cancel, sel-double, shifted-low, shifted-double, shifted-out, shifted-one, parity-xor-r, top-none, bit-sel, Linear, linear-join, linear-sel, linear-same, linear-onto, linear-different, listed, length-listed, getD-listed, packed, packed-same, packed-xor, packed-bit, packed-lt, bits-none, parity-same, shifted-kernel}
+use Rattle.tables.proofs.Triangle.{Triangular, Extends, triangular, extends, image-xor, image-row, image-lt}
+use Rattle.tables.proofs.Triangle.{image-low, image-zero}
+use Rattle.span.proofs.Linear.{xor-double, xor-cancel, sel-double, shifted-low, shifted-double, shifted-out}
+use Rattle.span.proofs.Linear.{shifted-one, parity-xor-r, top-none, bit-sel, Linear, linear-join, linear-sel}
+use Rattle.span.proofs.Linear.{linear-same, linear-onto, linear-different, listed, length-listed, getD-listed, packed}
+use Rattle.span.proofs.Linear.{packed-same, packed-xor, packed-bit, packed-lt, bits-none, parity-same, shifted-kernel}
 
 -- ---- an image in the larger table has three parts
 
@@ -43,10 +52,6 @@ joined-odd n x s b =
     let w = x ⊕ sel s (2 ^ (2 * n)) in
     ap odd (joined-twice n x s b) ∙ odd-xor (2 * w) (sel b 1)
     ∙ ap₂ xor (odd-of false (2 * w) (omega arith)) (odd-digit b) ∙ xor-false-l b
-
-digit-half : (b : Bool) → sel b 1 / 2 ≡ 0
-digit-half true = refl
-digit-half false = refl
 
 joined-half : (n x : ℕ) (s b : Bool) → joined n x s b / 2 ≡ x ⊕ sel s (2 ^ (2 * n))
 joined-half n x s b =
@@ -72,7 +77,8 @@ joined-parts n x y s t b hx hy e =
 
 -- shifting drops the bit of the column, and makes room for the top bit of the smaller image
 shifted-joined : (n k x : ℕ) (s b : Bool) → k < n
-    → shifted (2 * suc n) (suc k) (joined n x s b) ≡ joined n (shifted (2 * n) (suc k) x ⊕ sel b (2 ^ k)) (bit (2 * n - suc k) x) false
+    → shifted (2 * suc n) (suc k) (joined n x s b)
+    ≡ joined n (shifted (2 * n) (suc k) x ⊕ sel b (2 ^ k)) (bit (2 * n - suc k) x) false
 unfolding joined
 shifted-joined n k x s b h =
     let m = 2 * n - suc k in
@@ -83,13 +89,16 @@ shifted-joined n k x s b h =
     let u = sel (bit m x) (2 ^ suc (2 * n)) in
     let v = sel b (2 ^ k) in
     let first : shifted (suc (suc m) + l) l (2 * x) ≡ 2 * y ⊕ u =
-    subst (λ (N : ℕ). shifted (suc (suc m) + l) l (2 * x) ≡ 2 * shifted N l x ⊕ sel (bit m x) (2 ^ suc N)) fits (shifted-double m l x)
+    subst (λ (N : ℕ). shifted (suc (suc m) + l) l (2 * x) ≡ 2 * shifted N l x ⊕ sel (bit m x) (2 ^ suc N)) fits
+    (shifted-double m l x)
     in
-    let second : shifted (suc (suc m) + l) l (sel s (2 ^ suc (2 * n))) ≡ 0 = shifted-out (suc (suc m)) l (suc (2 * n)) s (omega arith) in
+    let second : shifted (suc (suc m) + l) l (sel s (2 ^ suc (2 * n))) ≡ 0 =
+    shifted-out (suc (suc m)) l (suc (2 * n)) s (omega arith) in
     let third : shifted (suc (suc m) + l) l (sel b 1) ≡ 2 * v = shifted-one (suc m) l b ∙ sym (sel-double b k) in
     ap (λ (N : ℕ). shifted N l (2 * x ⊕ sel s (2 ^ suc (2 * n)) ⊕ sel b 1)) wide
     ∙ shifted-xor (suc (suc m) + l) l (2 * x ⊕ sel s (2 ^ suc (2 * n))) (sel b 1)
-    ∙ ap₂ _⊕_ (shifted-xor (suc (suc m) + l) l (2 * x) (sel s (2 ^ suc (2 * n))) ∙ ap₂ _⊕_ first second ∙ xor-zero-r (2 * y ⊕ u)) third
+    ∙ ap₂ _⊕_ (shifted-xor (suc (suc m) + l) l (2 * x) (sel s (2 ^ suc (2 * n))) ∙ ap₂ _⊕_ first second
+    ∙ xor-zero-r (2 * y ⊕ u)) third
     ∙ xor-assoc (2 * y) u (2 * v) ∙ ap (λ (z : ℕ). 2 * y ⊕ z) (xor-comm u (2 * v)) ∙ sym (xor-assoc (2 * y) (2 * v) u)
     ∙ ap (λ (z : ℕ). z ⊕ u) (sym (xor-double y v))
     ∙ sym (xor-zero-r (2 * (y ⊕ v) ⊕ u))
@@ -107,7 +116,8 @@ module _ (n a : ℕ) (rs ts : List ℕ) (T : Triangular n rs) (E : Extends n a r
       (linear-sel (commonParity n a) (parity-xor-r n a) (2 ^ suc (2 * n))))
       (linear-sel (bit n) (bit-xor n) 1)
 
-  parts-row : (i : ℕ) → i < n → image ts (2 ^ i) ≡ joined n (image rs (2 ^ i)) (commonParity n a (2 ^ i)) (bit n (2 ^ i))
+  parts-row : (i : ℕ) → i < n
+      → image ts (2 ^ i) ≡ joined n (image rs (2 ^ i)) (commonParity n a (2 ^ i)) (bit n (2 ^ i))
   unfolding joined
   parts-row i h =
       rw (image-row ts i, image-row rs i, parity-pow n i a h, bit-none n (2 ^ i) (pow-lt h))
@@ -121,12 +131,16 @@ module _ (n a : ℕ) (rs ts : List ℕ) (T : Triangular n rs) (E : Extends n a r
       (E .last ∙ sym (ap (λ (y : ℕ). y ⊕ 1) (xor-zero-l 0) ∙ xor-zero-l 1))
 
   parts : (e : ℕ) → e < 2 ^ suc n → image ts e ≡ joined n (image rs e) (commonParity n a e) (bit n e)
-  parts = linear-same (image ts) (λ e. joined n (image rs e) (commonParity n a e) (bit n e)) (image-xor ts) parts-xor (suc n) (λ i h. go i h (decLe (suc i) n))
+  parts =
+      linear-same (image ts) (λ e. joined n (image rs e) (commonParity n a e) (bit n e)) (image-xor ts) parts-xor
+      (suc n) (λ i h. go i h (decLe (suc i) n))
     where
-      go : (i : ℕ) → i < suc n → Dec (i < n) → image ts (2 ^ i) ≡ joined n (image rs (2 ^ i)) (commonParity n a (2 ^ i)) (bit n (2 ^ i))
+      go : (i : ℕ) → i < suc n → Dec (i < n)
+          → image ts (2 ^ i) ≡ joined n (image rs (2 ^ i)) (commonParity n a (2 ^ i)) (bit n (2 ^ i))
       go i h (yes l) = parts-row i l
       go i h (no l) =
-          subst (λ (i : ℕ). image ts (2 ^ i) ≡ joined n (image rs (2 ^ i)) (commonParity n a (2 ^ i)) (bit n (2 ^ i))) (omega arith) parts-last
+          subst (λ (i : ℕ). image ts (2 ^ i) ≡ joined n (image rs (2 ^ i)) (commonParity n a (2 ^ i)) (bit n (2 ^ i)))
+          (omega arith) parts-last
 
   -- what it takes to look alike
   alike-parts : (k e0 e1 : ℕ) → k < n → e0 < 2 ^ suc n → e1 < 2 ^ suc n
@@ -134,9 +148,11 @@ module _ (n a : ℕ) (rs ts : List ℕ) (T : Triangular n rs) (E : Extends n a r
       → (bit n e0 ≡ false) × (image rs e0 ≡ shifted (2 * n) (suc k) (image rs e1) ⊕ sel (bit n e1) (2 ^ k))
       × (commonParity n a e0 ≡ bit (2 * n - suc k) (image rs e1))
   alike-parts k e0 e1 h h0 h1 e =
-      joined-parts n (image rs e0) (shifted (2 * n) (suc k) (image rs e1) ⊕ sel (bit n e1) (2 ^ k)) (commonParity n a e0)
+      joined-parts n (image rs e0) (shifted (2 * n) (suc k) (image rs e1) ⊕ sel (bit n e1) (2 ^ k))
+      (commonParity n a e0)
       (bit (2 * n - suc k) (image rs e1)) (bit n e0) (image-lt n rs T e0)
-      (xor-lt (2 * n) (shifted (2 * n) (suc k) (image rs e1)) (sel (bit n e1) (2 ^ k)) (shifted-lt (2 * n) (suc k) (image rs e1))
+      (xor-lt (2 * n) (shifted (2 * n) (suc k) (image rs e1)) (sel (bit n e1) (2 ^ k))
+      (shifted-lt (2 * n) (suc k) (image rs e1))
       (sel-lt (2 * n) (bit n e1) (2 ^ k) (pow-lt (omega arith))))
       (sym (parts e0 h0) ∙ e ∙ ap (shifted (2 * suc n) (suc k)) (parts e1 h1)
       ∙ shifted-joined n k (image rs e1) (commonParity n a e1) (bit n e1) h)
@@ -147,7 +163,8 @@ module _ (n a : ℕ) (rs ts : List ℕ) (T : Triangular n rs) (E : Extends n a r
       → image ts e0 ≡ shifted (2 * suc n) (suc k) (image ts e1)
   parts-alike k e0 e1 h h0 h1 b i p =
       parts e0 h0
-      ∙ joined-same n (image rs e0) (shifted (2 * n) (suc k) (image rs e1) ⊕ sel (bit n e1) (2 ^ k)) (commonParity n a e0)
+      ∙ joined-same n (image rs e0) (shifted (2 * n) (suc k) (image rs e1) ⊕ sel (bit n e1) (2 ^ k))
+      (commonParity n a e0)
       (bit (2 * n - suc k) (image rs e1)) (bit n e0) false i p b
       ∙ sym (shifted-joined n k (image rs e1) (commonParity n a e1) (bit n e1) h)
       ∙ sym (ap (shifted (2 * suc n) (suc k)) (parts e1 h1))
@@ -169,7 +186,8 @@ shifted-not-pow : (N k x : ℕ) → k < N → shifted N (suc k) x ≡ 2 ^ k → 
 shifted-not-pow N k x h e =
     let p = pow-pos k in
     let z : 2 ^ k ≡ 0 =
-    sym (mod-eq-of-lt (pow-lt (le-refl (suc k)))) ∙ ap (λ (y : ℕ). y % 2 ^ suc k) (sym e) ∙ shifted-low N (suc k) (suc k) x h (le-refl (suc k))
+    sym (mod-eq-of-lt (pow-lt (le-refl (suc k)))) ∙ ap (λ (y : ℕ). y % 2 ^ suc k) (sym e)
+    ∙ shifted-low N (suc k) (suc k) x h (le-refl (suc k))
     in
     omega arith
 
@@ -195,7 +213,8 @@ module _ (n a : ℕ) (rs ts : List ℕ) (T : Triangular n rs) (U : Triangular (s
   unfolding shiftedImage
   suitable-free suitable k p q h m e =
       let wide : p < 2 ^ suc n = let l = m .first in omega arith in
-      let set : 2 ^ n ⊕ q < 2 ^ suc n = xor-lt (suc n) (2 ^ n) q (pow-lt (le-refl (suc n))) (let l = m .second in omega arith) in
+      let set : 2 ^ n ⊕ q < 2 ^ suc n =
+      xor-lt (suc n) (2 ^ n) q (pow-lt (le-refl (suc n))) (let l = m .second in omega arith) in
       let same : image rs (2 ^ n ⊕ q) ≡ image rs q =
       image-xor rs (2 ^ n) q
       ∙ ap (λ (y : ℕ). y ⊕ image rs q) (image-row rs n ∙ List·getD-eq-default rs 0 (le-of-eq (T .size)))
@@ -226,11 +245,13 @@ module _ (n a : ℕ) (rs ts : List ℕ) (T : Triangular n rs) (U : Triangular (s
         let q = e1 % 2 ^ n in
         let same : image rs q ≡ image rs e1 = image-low n rs T e1 in
         let sum : image rs e0 ⊕ shifted (2 * n) (suc k) (image rs q) ≡ 2 ^ k =
-        ap₂ (λ (x y : ℕ). x ⊕ shifted (2 * n) (suc k) y) (r .1 ∙ ap (λ (s : Bool). shifted (2 * n) (suc k) (image rs e1) ⊕ sel s (2 ^ k)) e) same
+        ap₂ (λ (x y : ℕ). x ⊕ shifted (2 * n) (suc k) y)
+        (r .1 ∙ ap (λ (s : Bool). shifted (2 * n) (suc k) (image rs e1) ⊕ sel s (2 ^ k)) e) same
         ∙ xor-comm (shifted (2 * n) (suc k) (image rs e1) ⊕ 2 ^ k) (shifted (2 * n) (suc k) (image rs e1))
         ∙ xor-twice (shifted (2 * n) (suc k) (image rs e1)) (2 ^ k)
         in
-        free k e0 q h (record { first = top-none n e0 h0 (r .0); second = mod-lt e1 (pow-pos n); sum = sum }) (rw same (r .2))
+        free k e0 q h (record { first = top-none n e0 h0 (r .0); second = mod-lt e1 (pow-pos n); sum = sum })
+        (rw same (r .2))
     no-clash k e0 e1 h some h0 h1 alike false e =
         let r = alike-parts n a rs ts T E k e0 e1 h h0 h1 alike in
         suitable (suc k) e0 e1 (record {
@@ -251,7 +272,9 @@ module _ (n a : ℕ) (rs ts : List ℕ) (T : Triangular n rs) (U : Triangular (s
         go (decLe (suc k) n)
       where
         go : Dec (k < n) → ⊥
-        go (yes h) = no-clash k e0 e1 h (c .first-some) (rw (← U .size) (c .first-block)) (rw (← U .size) (c .second-block)) (c .alike) (bit n e1) refl
+        go (yes h) =
+            no-clash k e0 e1 h (c .first-some) (rw (← U .size) (c .first-block)) (rw (← U .size) (c .second-block))
+            (c .alike) (bit n e1) refl
         go (no h) = late-shift (suc n) ts U (suc k) e0 e1 (omega arith) c
 
 -- ---- for each shift there is exactly one pair
@@ -291,7 +314,8 @@ module _ (n : ℕ) (rs : List ℕ) (T : Triangular n rs) (suitable : Suitable (2
   meets-unique : (k p q r s : ℕ) → k < n → Meets n rs k p q → Meets n rs k r s → (p ≡ r) × (q ≡ s)
   unfolding meet
   meets-unique k p q r s h m o =
-      let none = meet-none k (p ⊕ r) (q ⊕ s) h (xor-lt n p r (m .first) (o .first)) (xor-lt n q s (m .second) (o .second))
+      let none =
+      meet-none k (p ⊕ r) (q ⊕ s) h (xor-lt n p r (m .first) (o .first)) (xor-lt n q s (m .second) (o .second))
       (meet-xor k p q r s ∙ ap₂ _⊕_ (m .sum) (o .sum) ∙ xor-self (2 ^ k))
       in
       (xor-eq p r (none .0), xor-eq q s (none .1))
@@ -308,7 +332,8 @@ module _ (n : ℕ) (rs : List ℕ) (T : Triangular n rs) (suitable : Suitable (2
   both-lt : (k c : ℕ) → both k c < 2 ^ (2 * n)
   unfolding both meet
   both-lt k c =
-      xor-lt (2 * n) (image rs (c % 2 ^ n)) (shifted (2 * n) (suc k) (image rs (c / 2 ^ n))) (image-lt n rs T (c % 2 ^ n))
+      xor-lt (2 * n) (image rs (c % 2 ^ n)) (shifted (2 * n) (suc k) (image rs (c / 2 ^ n)))
+      (image-lt n rs T (c % 2 ^ n))
       (shifted-lt (2 * n) (suc k) (image rs (c / 2 ^ n)))
 
   second-lt : (c : ℕ) → c < 2 ^ (2 * n) → c / 2 ^ n < 2 ^ n
@@ -323,8 +348,12 @@ module _ (n : ℕ) (rs : List ℕ) (T : Triangular n rs) (suitable : Suitable (2
   meets-some-pair : (k : ℕ) → k < n → (p : ℕ) × (q : ℕ) × Meets n rs k p q
   unfolding both meet
   meets-some-pair k h =
-      let r = linear-onto (2 * n) (both k) (both-xor k) (λ c l. both-lt k c) (both-none k h) (2 ^ k) (pow-lt (omega arith)) in
-      (r .0 % 2 ^ n, r .0 / 2 ^ n, record { first = mod-lt (r .0) (pow-pos n); second = second-lt (r .0) (r .1); sum = r .2 })
+      let r =
+      linear-onto (2 * n) (both k) (both-xor k) (λ c l. both-lt k c) (both-none k h) (2 ^ k) (pow-lt (omega arith)) in (
+        r .0 % 2 ^ n,
+        r .0 / 2 ^ n,
+        record { first = mod-lt (r .0) (pow-pos n); second = second-lt (r .0) (r .1); sum = r .2 },
+      )
 
 -- ---- the first blocks of the pairs are independent, so they fix a column
 
@@ -371,9 +400,11 @@ module _ (n : ℕ) (rs : List ℕ) (P Q : ℕ → ℕ) (meets : (k : ℕ) → k 
   unfolding seconds shiftedOf
   balance =
       linear-same (λ c. image rs (firsts c) ⊕ seconds c) (λ c. c)
-      (linear-join (λ c. image rs (firsts c)) seconds (λ a b. ap (image rs) (firsts-xor a b) ∙ image-xor rs (firsts a) (firsts b)) seconds-xor)
+      (linear-join (λ c. image rs (firsts c)) seconds
+      (λ a b. ap (image rs) (firsts-xor a b) ∙ image-xor rs (firsts a) (firsts b)) seconds-xor)
       (λ a b. refl) n
-      (λ k h. ap₂ _⊕_ (ap (image rs) (firsts-one k h)) (combination-pow (listed shiftedOf n) k ∙ getD-listed shiftedOf n k h) ∙ meets k h .sum)
+      (λ k h. ap₂ _⊕_ (ap (image rs) (firsts-one k h))
+      (combination-pow (listed shiftedOf n) k ∙ getD-listed shiftedOf n k h) ∙ meets k h .sum)
 
   seconds-one : (m i : ℕ) → seconds (2 ^ i * 2 ^ m) % 2 ^ suc m ≡ 0
   unfolding seconds shiftedOf
@@ -386,7 +417,8 @@ module _ (n : ℕ) (rs : List ℕ) (P Q : ℕ → ℕ) (meets : (k : ℕ) → k 
       go (yes h) =
           ap (λ (y : ℕ). y % 2 ^ suc m) (getD-listed shiftedOf n (i + m) h)
           ∙ shifted-low (2 * n) (suc (i + m)) (suc m) (image rs (Q (i + m))) (omega arith) (omega arith)
-      go (no h) = ap (λ (y : ℕ). y % 2 ^ suc m) (getD-listed-past shiftedOf n (i + m) (omega arith)) ∙ zero-mod (2 ^ suc m)
+      go (no h) =
+          ap (λ (y : ℕ). y % 2 ^ suc m) (getD-listed-past shiftedOf n (i + m) (omega arith)) ∙ zero-mod (2 ^ suc m)
 
   -- the least shift m of a set is seen in it at bit m, where no shifted image of it has a one
   seconds-low : (m c : ℕ) → c < 2 ^ n → c % 2 ^ m ≡ 0 → seconds c % 2 ^ suc m ≡ 0
@@ -406,7 +438,8 @@ module _ (n : ℕ) (rs : List ℕ) (P Q : ℕ → ℕ) (meets : (k : ℕ) → k 
     where
       same : seconds c ≡ c
       same =
-          sym (xor-zero-l (seconds c)) ∙ ap (λ (y : ℕ). y ⊕ seconds c) (sym (ap (image rs) e ∙ image-zero rs)) ∙ balance c h
+          sym (xor-zero-l (seconds c))
+          ∙ ap (λ (y : ℕ). y ⊕ seconds c) (sym (ap (image rs) e ∙ image-zero rs)) ∙ balance c h
 
       low : (m : ℕ) → c % 2 ^ m ≡ 0
       low zero = mod-one c
@@ -442,7 +475,8 @@ module _ (n : ℕ) (rs : List ℕ) (P Q : ℕ → ℕ) (meets : (k : ℕ) → k 
           parity-same (λ c. commonParity n a (firsts c)) (λ _. false)
           (λ c d. ap (commonParity n a) (firsts-xor c d) ∙ parity-xor-r n a (firsts c) (firsts d))
           (λ c d. sym (xor-false-l false)) n
-          (λ k l. ap (commonParity n a) (firsts-one k l) ∙ sym (answers-bit a k l) ∙ ap (bit k) e ∙ bit-none k 0 (pow-pos k))
+          (λ k l. ap (commonParity n a) (firsts-one k l) ∙ sym (answers-bit a k l) ∙ ap (bit k) e
+          ∙ bit-none k 0 (pow-pos k))
 
       go : (i : ℕ) → i < n → bit i a ≡ false
       go i l =
@@ -454,7 +488,8 @@ module _ (n : ℕ) (rs : List ℕ) (P Q : ℕ → ℕ) (meets : (k : ℕ) → k 
       let r = linear-onto n answers answers-xor answers-lt answers-none (packed t n) (packed-lt t n) in
       (r .0, r .1, λ k h. sym (answers-bit (r .0) k h) ∙ ap (bit k) (r .2) ∙ packed-bit t n k h)
 
-  solution-unique : (a b : ℕ) → a < 2 ^ n → b < 2 ^ n → ((k : ℕ) → k < n → commonParity n a (P k) ≡ commonParity n b (P k)) → a ≡ b
+  solution-unique : (a b : ℕ) → a < 2 ^ n → b < 2 ^ n
+      → ((k : ℕ) → k < n → commonParity n a (P k) ≡ commonParity n b (P k)) → a ≡ b
   unfolding answers
   solution-unique a b ha hb same =
       linear-different n answers answers-xor answers-none a b ha hb
@@ -477,7 +512,8 @@ other false false h = absurd (h refl)
 module _ (n : ℕ) (rs : List ℕ) (T : Triangular n rs) (suitable : Suitable (2 * n) rs) where
   -- one pair for each shift is enough
   pairs-free : (a : ℕ)
-      → ((k : ℕ) → k < n → (p : ℕ) × (q : ℕ) × Meets n rs k p q × (commonParity n a p ≢ bit (2 * n - suc k) (image rs q)))
+      → ((k : ℕ) → k < n
+      → (p : ℕ) × (q : ℕ) × Meets n rs k p q × (commonParity n a p ≢ bit (2 * n - suc k) (image rs q)))
       → Free n a rs
   pairs-free a given k p q h m e =
       let g = given k h in
@@ -521,9 +557,11 @@ filling cs t suitable =
     let r = free-column n rs (triangular cs m) suitable in (
       r .0,
       r .1,
-      free-suitable n (r .0) rs (triangleRows (cs ++ (r .0 ∷ [])) (suc n)) (triangular cs m) (triangular (cs ++ (r .0 ∷ [])) n) (extends cs t (r .0)) suitable (r .2),
+      free-suitable n (r .0) rs (triangleRows (cs ++ (r .0 ∷ [])) (suc n)) (triangular cs m)
+          (triangular (cs ++ (r .0 ∷ [])) n) (extends cs t (r .0)) suitable (r .2),
       λ c h s. r .3 c h
-          (suitable-free n c rs (triangleRows (cs ++ (c ∷ [])) (suc n)) (triangular cs m) (triangular (cs ++ (c ∷ [])) n) (extends cs t c) s),
+          (suitable-free n c rs (triangleRows (cs ++ (c ∷ [])) (suc n)) (triangular cs m)
+          (triangular (cs ++ (c ∷ [])) n) (extends cs t c) s),
     )
 
 -- the certificate of a column: for each shift a pair that meets, and does not look alike under the column
@@ -531,14 +569,17 @@ pub filled : (cs : List ℕ) → Triangle cs → Suitable (2 * suc (length cs)) 
     → (a : ℕ)
     → ((l : ℕ) → 1 ≤ l → l ≤ suc (length cs)
     → (p : ℕ) × (q : ℕ) × (p < 2 ^ suc (length cs)) × (q < 2 ^ suc (length cs))
-    × (image (triangleRows cs (suc (length cs))) p ⊕ shifted (2 * suc (length cs)) l (image (triangleRows cs (suc (length cs))) q) ≡ 2 ^ (l - 1))
-    × (commonParity (suc (length cs)) a p ≢ bit (2 * suc (length cs) - l) (image (triangleRows cs (suc (length cs))) q)))
+    × (image (triangleRows cs (suc (length cs))) p
+    ⊕ shifted (2 * suc (length cs)) l (image (triangleRows cs (suc (length cs))) q) ≡ 2 ^ (l - 1))
+    × (commonParity (suc (length cs)) a p
+    ≢ bit (2 * suc (length cs) - l) (image (triangleRows cs (suc (length cs))) q)))
     → Suitable (2 * suc (suc (length cs))) (triangleRows (cs ++ (a ∷ [])) (suc (suc (length cs))))
 filled cs t suitable a given =
     let m = length cs in
     let n = suc m in
     let rs = triangleRows cs n in
-    free-suitable n a rs (triangleRows (cs ++ (a ∷ [])) (suc n)) (triangular cs m) (triangular (cs ++ (a ∷ [])) n) (extends cs t a) suitable
+    free-suitable n a rs (triangleRows (cs ++ (a ∷ [])) (suc n)) (triangular cs m) (triangular (cs ++ (a ∷ [])) n)
+    (extends cs t a) suitable
     (pairs-free n rs (triangular cs m) suitable a
     (λ k h. let g = given (suc k) (omega arith) h in
     let place : suc k - 1 ≡ k = omega arith in

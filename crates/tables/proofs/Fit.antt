@@ -10,7 +10,7 @@ use lib.ListN.{length, getD, take, replicate, length-append}
 use lib.Seq.{length-take-le}
 use Rattle.span.specs.Combination.{Below}
 use Rattle.tables.specs.declared.table.Table.{Table}
-use Rattle.tables.specs.Table.{table, codeRows, sizesFit, rowsFit, fit}
+use Rattle.tables.specs.Table.{table, infoRows, codeRows, sizesFit, rowsFit, fit}
 use Rattle.tables.specs.Laws.{ZERO-UNFIT}
 
 pub and-left : (s t : Bool) → s && t ≡ true → s ≡ true
@@ -21,15 +21,18 @@ pub and-right : (s t : Bool) → s && t ≡ true → t ≡ true
 and-right true t e = e
 and-right false t e = absurd (false≢true e)
 
-pub record Sizes (n N m : ℕ) : Type 0 where
+-- sizes in range, and rows below 2^N
+pub record Fits (n N m : ℕ) (rows : List ℕ) : Type 0 where
   pub n-from : 2 ≤ n
   pub n-to : n ≤ 16
   pub N-from : 2 ≤ N
   pub N-to : N ≤ 64
   pub m-from : 1 ≤ m
   pub m-to : m ≤ 64
+  pub below : Below N rows
 
-pub sizes-of : (n N m : ℕ) → sizesFit n N m ≡ true → Sizes n N m
+-- of sizes alone no row is asked for
+pub sizes-of : (n N m : ℕ) → sizesFit n N m ≡ true → Fits n N m []
 unfolding sizesFit
 sizes-of n N m e =
     let e5 = and-left (leb 2 n && leb n 16 && leb 2 N && leb N 64 && leb 1 m) (leb m 64) e in
@@ -43,12 +46,20 @@ sizes-of n N m e =
       N-to = leb-true N 64 (and-right (leb 2 n && leb n 16 && leb 2 N) (leb N 64) e4);
       m-from = leb-true 1 m (and-right (leb 2 n && leb n 16 && leb 2 N && leb N 64) (leb 1 m) e5);
       m-to = leb-true m 64 (and-right (leb 2 n && leb n 16 && leb 2 N && leb N 64 && leb 1 m) (leb m 64) e);
+      below = λ i l. absurd (omega arith);
     }
 
-pub sizes-fit-of : (n N m : ℕ) → Sizes n N m → sizesFit n N m ≡ true
+pub sizes-fit-of : (n N m : ℕ) (rows : List ℕ) → Fits n N m rows → sizesFit n N m ≡ true
 unfolding sizesFit
-sizes-fit-of n N m z =
-    rw (le-leb 2 n (z .n-from), le-leb n 16 (z .n-to), le-leb 2 N (z .N-from), le-leb N 64 (z .N-to), le-leb 1 m (z .m-from), le-leb m 64 (z .m-to))
+sizes-fit-of n N m rows z =
+    rw (
+      le-leb 2 n (z .n-from),
+      le-leb n 16 (z .n-to),
+      le-leb 2 N (z .N-from),
+      le-leb N 64 (z .N-to),
+      le-leb 1 m (z .m-from),
+      le-leb m 64 (z .m-to),
+    )
 
 -- rows that fit, as a bound on each
 pub rows-fit-of : (N : ℕ) (ws : List ℕ) → Below N ws → rowsFit N ws ≡ true
@@ -63,14 +74,26 @@ rows-below N [] e i l = absurd (omega arith)
 rows-below N (w ∷ ws) e zero l = ltb-true w (2 ^ N) (and-left (ltb w (2 ^ N)) (rowsFit N ws) e)
 rows-below N (w ∷ ws) e (suc i) l = rows-below N ws (and-right (ltb w (2 ^ N)) (rowsFit N ws) e) i (omega arith)
 
-pub fit-sizes : (t : Table) → fit t ≡ true → Sizes (t .symbols) (t .span) (t .depth)
+-- what a table that 12 does not refuse has
+pub fit-facts : (t : Table) → fit t ≡ true → Fits (t .symbols) (t .span) (t .depth) (infoRows t)
 unfolding fit
-fit-sizes t e =
-    sizes-of (t .symbols) (t .span) (t .depth)
-    (and-left (sizesFit (t .symbols) (t .span) (t .depth)) (rowsFit (t .span) (take (t .symbols - 1) (t .rows))) e)
+fit-facts t e =
+    let sizes = sizesFit (t .symbols) (t .span) (t .depth) in
+    let rows = rowsFit (t .span) (infoRows t) in
+    let z = sizes-of (t .symbols) (t .span) (t .depth) (and-left sizes rows e) in
+    record {
+      n-from = z .n-from;
+      n-to = z .n-to;
+      N-from = z .N-from;
+      N-to = z .N-to;
+      m-from = z .m-from;
+      m-to = z .m-to;
+      below = rows-below (t .span) (infoRows t) (and-right sizes rows e);
+    }
 
 -- 12 looks at rows 1 to n − 1 only
-pub fit-same : (n N m : ℕ) (us ts : List ℕ) → take (n - 1) us ≡ take (n - 1) ts → fit (table n N m us) ≡ fit (table n N m ts)
+pub fit-same : (n N m : ℕ) (us ts : List ℕ) → take (n - 1) us ≡ take (n - 1) ts
+    → fit (table n N m us) ≡ fit (table n N m ts)
 unfolding fit
 fit-same n N m us ts e = rw e
 

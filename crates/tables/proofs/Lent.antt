@@ -1,6 +1,6 @@
 -- A table whose rows are lent beside it: fifteen rows, or the zero table, which 12 refuses. Assumes nothing.
 use mathlib.Core.Path.{_≡_, refl, sym, ap, _∙_}
-use mathlib.Core.Bool.{Bool, true, false, _&&_}
+use mathlib.Core.Bool.{Bool, true, false, cond, _&&_}
 use mathlib.Core.Logic.{_≢_}
 use mathlib.Core.List.{List}
 use Prim.Native.Nat.{ℕ}
@@ -22,31 +22,33 @@ unfolding lent
 lent-none t rows e = rw (ne-eqb (length rows) 15 e, lent)
 
 pub lent-rows : LENT
-lent-rows t rows = (lent-fifteen t rows, lent-none t rows, refl, lent-fifteen t (t .rows))
+lent-rows t rows = (lent-fifteen t rows, lent-none t rows, refl)
 
 -- 12 refuses any other count
 pub lent-fit : (t : Table) (rows : List ℕ) → fit (lent t rows) ≡ (eqb (length rows) 15 && fit (withRows t rows))
 unfolding lent
 lent-fit t rows = go (eqb (length rows) 15)
   where
-    go : (b : Bool) → fit (elim b [ true ↦ withRows t rows | false ↦ zeroTable ]) ≡ (b && fit (withRows t rows))
+    go : (b : Bool) → fit (cond b (withRows t rows) zeroTable) ≡ (b && fit (withRows t rows))
     go true = refl
     go false = zero-unfit
 
 -- what the zero table has not, a table has only with fifteen rows
-pub lent-held : (t : Table) (rows : List ℕ) (P : Table → Type 0) → (P zeroTable → ⊥) → P (lent t rows) → (lent t rows ≡ withRows t rows) × (length rows ≡ 15)
+pub lent-held : (t : Table) (rows : List ℕ) (P : Table → Type 0) → (P zeroTable → ⊥) → P (lent t rows)
+    → (lent t rows ≡ withRows t rows) × (length rows ≡ 15)
 unfolding lent
 lent-held t rows P none held = go (eqb (length rows) 15) refl held
   where
-    go : (b : Bool) → eqb (length rows) 15 ≡ b → P (elim b [ true ↦ withRows t rows | false ↦ zeroTable ])
-        → (elim b [ true ↦ withRows t rows | false ↦ zeroTable ] ≡ withRows t rows) × (length rows ≡ 15)
+    go : (b : Bool) → eqb (length rows) 15 ≡ b → P (cond b (withRows t rows) zeroTable)
+        → (cond b (withRows t rows) zeroTable ≡ withRows t rows) × (length rows ≡ 15)
     go true e p = (refl, eqb-true (length rows) 15 e)
     go false e p = absurd (none p)
 
 never-fit : fit zeroTable ≡ true → ⊥
 never-fit e = let no = zero-unfit in let z : _≡_ {A = ℕ} 0 1 = cc in omega arith
 
-pub fit-lent : (t : Table) (rows : List ℕ) → fit (lent t rows) ≡ true → (lent t rows ≡ withRows t rows) × (fit (withRows t rows) ≡ true)
+pub fit-lent : (t : Table) (rows : List ℕ) → fit (lent t rows) ≡ true
+    → (lent t rows ≡ withRows t rows) × (fit (withRows t rows) ≡ true)
 fit-lent t rows f =
     let k = lent-held t rows (λ (u : Table). fit u ≡ true) never-fit f in
     (k .0, sym (ap fit (k .0)) ∙ f)

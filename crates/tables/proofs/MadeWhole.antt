@@ -3,7 +3,7 @@
 --   making-room   every table that making returns holds 15 rows
 --   made-whole    a made table is fit, and its other rows are 0
 use mathlib.Core.Path.{_≡_, refl, ap, _∙_}
-use mathlib.Core.Bool.{Bool, true, false}
+use mathlib.Core.Bool.{Bool, true, false, cond}
 use mathlib.Core.List.{_++_}
 use Prim.Native.Nat.{ℕ, suc, _+_, _-_, _≤_}
 use native.Mathlib.Omega.{arith}
@@ -11,11 +11,10 @@ use lib.ListN.{length, getD, replicate, length-append, length-replicate}
 use lib.Seq.{getD-append-add}
 use Rattle.tables.specs.Table.{zeroTable, sizesFit}
 use Rattle.tables.proofs.Fit.{sizes-of, zeros-at}
-use Rattle.tables.specs.declared.make.MakeAnswer.the-variants.{Made, OutOfRange}
-use Rattle.tables.specs.Made.{madeRows, madeTable, columns, making, pickMaking}
+use Rattle.tables.specs.Made.{madeRows, madeTable, columns, making}
 use Rattle.tables.specs.Triangle.{MADE-WHOLE}
 use Rattle.tables.proofs.Triangle.{made-length}
-use Rattle.tables.proofs.Made.{made}
+use Rattle.tables.proofs.Made.{answered, made}
 
 -- ---- room for the rows
 
@@ -31,7 +30,7 @@ unfolding making
 making-room n m = go (sizesFit n 2 m) refl
   where
     go : (b : Bool) → sizesFit n 2 m ≡ b
-        → length (pickMaking b (record { answer = Made; table = madeTable n m }) (record { answer = OutOfRange; table = zeroTable }) .table .rows) ≡ 15
+        → length (answered b n m .table .rows) ≡ 15
     go true q = let z = sizes-of n 2 m q in made-room n m (omega arith) (z .n-to)
     go false q = refl
 
@@ -43,15 +42,16 @@ made-blank n m i from h =
     let rows = madeRows columns n (n - 1) in
     let size = made-length columns n (n - 1) in
     let e : i ≡ length rows + (i - (n - 1)) = omega arith in
-    ap (λ (k : ℕ). getD (rows ++ replicate (16 - n) 0) k 0) e ∙ getD-append-add rows (replicate (16 - n) 0) (i - (n - 1)) 0 ∙ zeros-at (16 - n) (i - (n - 1))
+    ap (λ (k : ℕ). getD (rows ++ replicate (16 - n) 0) k 0) e
+    ∙ getD-append-add rows (replicate (16 - n) 0) (i - (n - 1)) 0 ∙ zeros-at (16 - n) (i - (n - 1))
 
 making-blank : (n m i : ℕ) → making n m .table .symbols ≤ suc i → getD (making n m .table .rows) i 0 ≡ 0
 unfolding making madeTable
 making-blank n m i = go (sizesFit n 2 m) refl
   where
     go : (b : Bool) → sizesFit n 2 m ≡ b
-        → pickMaking b (record { answer = Made; table = madeTable n m }) (record { answer = OutOfRange; table = zeroTable }) .table .symbols ≤ suc i
-        → getD (pickMaking b (record { answer = Made; table = madeTable n m }) (record { answer = OutOfRange; table = zeroTable }) .table .rows) i 0 ≡ 0
+        → answered b n m .table .symbols ≤ suc i
+        → getD (answered b n m .table .rows) i 0 ≡ 0
     go true q h = let z = sizes-of n 2 m q in made-blank n m i (omega arith) h
     go false q h = zeros-at 15 i
 

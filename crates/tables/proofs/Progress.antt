@@ -2,7 +2,7 @@
 --
 --   Good g       the sizes are in range or not read; rows are below 2^N, and 0 where not given; what was given is a row
 --   good-after   a sound record keeps it
---   parse-step   a parse that ends well: its first record ends it, or is followed by one that does
+--   parse-ends   a parse that ends well: its first record ends it, or is followed by one that does
 --   parse-fit    a parsed table is fit
 use mathlib.Core.Path.{_≡_, refl, sym, _∙_}
 use mathlib.Core.Bool.{Bool, true, false}
@@ -10,29 +10,34 @@ use mathlib.Core.Logic.{_≢_, _⊎_, inl, inr, ⊎-elim}
 use mathlib.Core.List.{List, [], _∷_}
 use Prim.Native.Nat.{ℕ, zero, suc, _+_, _-_, _^_, _≤_, _<_}
 use native.Mathlib.Omega.{arith}
-use lib.ListN.{length, getD, take, drop, set, replicate, length-set}
+use lib.ListN.{length, getD, take, drop, set, replicate, length-set, length-take}
 use lib.Pow.{pow-pos}
-use lib.Seq.{getD-set-same, getD-set-other}
+use lib.Seq.{getD-set-same, getD-set-other, getD-take}
 use borrow.Author.Tests.{eqb-true, eqb-false, lt-ltb}
 use lib.Dec.{eqb}
-use Rattle.tables.proofs.Fit.{sizes-of, zeros-at}
-use Rattle.tables.specs.Format.{kind, size, rowWord, taken, fault, sized, rowed, begun, after, refused, parsed, parseFrom, parse}
+use Rattle.tables.proofs.Fit.{sizes-of, zeros-at, rows-fit-of}
+use Rattle.tables.specs.Format.{kind, size, rowWord, unavailable, fault, sized, rowed, begun, after, refused}
+use Rattle.tables.specs.Format.{parsed, parseFrom, parse}
 use Rattle.tables.specs.declared.read.Progress.{Progress}
 use Rattle.tables.specs.Table.{sizesFit, rowsFit, fit}
 use Rattle.tables.specs.declared.table.Table.{Table}
-use Rattle.tables.proofs.Format.{Sound, sizes, row, end, fault-sound, taken-not, parse-refused, parse-done, parse-next}
+use Rattle.tables.proofs.Format.{Sound, sizes, row, end, fault-sound, available, parse-refused, parse-done}
+use Rattle.tables.proofs.Format.{parse-next}
 
 -- ---- what holds of a progress
 
 pub record Good (g : Progress) : Type 0 where
-  pub ranges : ((g .table .symbols ≡ 0) × (g .table .span ≡ 0)) ⊎ (sizesFit (g .table .symbols) (g .table .span) (g .table .depth) ≡ true)
+  pub ranges : ((g .table .symbols ≡ 0) × (g .table .span ≡ 0))
+      ⊎ (sizesFit (g .table .symbols) (g .table .span) (g .table .depth) ≡ true)
   pub below : (i : ℕ) → getD (g .table .rows) i 0 < 2 ^ (g .table .span)
   pub blank : (i : ℕ) → getD (g .given) i false ≡ false → getD (g .table .rows) i 0 ≡ 0
   pub numbered : (i : ℕ) → getD (g .given) i false ≡ true → suc i < g .table .symbols
   pub room : (length (g .table .rows) ≡ 15) × (length (g .given) ≡ 15)
 
 pub good-bounds : (g : Progress) → Good g → (g .table .symbols ≤ 16) × (g .table .span ≤ 64)
-good-bounds g o = ⊎-elim (λ z. omega arith) (λ f. let b = sizes-of (g .table .symbols) (g .table .span) (g .table .depth) f in omega arith) (o .ranges)
+good-bounds g o =
+    ⊎-elim (λ z. omega arith)
+    (λ f. let b = sizes-of (g .table .symbols) (g .table .span) (g .table .depth) f in omega arith) (o .ranges)
 
 pub none-given : (c i : ℕ) → getD (replicate c false) i false ≡ false
 none-given zero i = refl
@@ -57,7 +62,8 @@ empty g o e =
     ⊎-elim (λ z. z .1)
     (λ f. let b = sizes-of (g .table .symbols) (g .table .span) (g .table .depth) f in absurd (omega arith)) (o .ranges)
 
-pub good-sized : (g : Progress) (s : List ℕ) → Good g → g .table .symbols ≡ 0 → sizesFit (getD s 1 0) (getD s 2 0) (getD s 3 0) ≡ true → Good (sized g s)
+pub good-sized : (g : Progress) (s : List ℕ) → Good g → g .table .symbols ≡ 0
+    → sizesFit (getD s 1 0) (getD s 2 0) (getD s 3 0) ≡ true → Good (sized g s)
 unfolding sized
 good-sized g s o e f = record {
   ranges = inr f;
@@ -74,27 +80,33 @@ same-or-other i j = go (eqb i j) refl
     go true e = inl (eqb-true i j e)
     go false e = inr (eqb-false i j e)
 
-module _ (g : Progress) (s : List ℕ) (o : Good g) (e : taken g (getD s 1 0) ≡ false) where
+module _ (g : Progress) (s : List ℕ) (o : Good g) (e : unavailable g (getD s 1 0) ≡ false) where
   -- the row's place in the arrays
   rowPlace : ℕ
   rowPlace = getD s 1 0 - 1
 
   place-row : (rowPlace < 15) × (suc rowPlace < g .table .symbols)
   unfolding rowPlace
-  place-row = let p = taken-not g (getD s 1 0) e in let b = good-bounds g o in omega arith
+  place-row = let p = available g (getD s 1 0) e in let b = good-bounds g o in omega arith
 
-  rowed-below : rowWord s < 2 ^ (g .table .span) → (i : ℕ) → getD (set (g .table .rows) rowPlace (rowWord s)) i 0 < 2 ^ (g .table .span)
+  rowed-below : rowWord s < 2 ^ (g .table .span) → (i : ℕ)
+      → getD (set (g .table .rows) rowPlace (rowWord s)) i 0 < 2 ^ (g .table .span)
   rowed-below w i =
       ⊎-elim
       (λ q.
-      let v : getD (set (g .table .rows) rowPlace (rowWord s)) i 0 ≡ rowWord s = rw q (getD-set-same (g .table .rows) rowPlace (rowWord s) 0 (rw (o .room .0) (place-row .0))) in
+      let v : getD (set (g .table .rows) rowPlace (rowWord s)) i 0 ≡ rowWord s =
+      rw q (getD-set-same (g .table .rows) rowPlace (rowWord s) 0 (rw (o .room .0) (place-row .0))) in
       omega arith)
-      (λ q. let v = getD-set-other (g .table .rows) rowPlace i (rowWord s) 0 q in omega (arith, o .below i)) (same-or-other i rowPlace)
+      (λ q. let v = getD-set-other (g .table .rows) rowPlace i (rowWord s) 0 q in omega (arith, o .below i))
+      (same-or-other i rowPlace)
 
-  rowed-blank : (i : ℕ) → getD (set (g .given) rowPlace true) i false ≡ false → getD (set (g .table .rows) rowPlace (rowWord s)) i 0 ≡ 0
+  rowed-blank : (i : ℕ) → getD (set (g .given) rowPlace true) i false ≡ false
+      → getD (set (g .table .rows) rowPlace (rowWord s)) i 0 ≡ 0
   rowed-blank i t =
-      ⊎-elim (λ q. never (sym (rw q at t) ∙ getD-set-same (g .given) rowPlace true false (rw (o .room .1) (place-row .0))))
-      (λ q. getD-set-other (g .table .rows) rowPlace i (rowWord s) 0 q ∙ o .blank i (sym (getD-set-other (g .given) rowPlace i true false q) ∙ t)) (same-or-other i rowPlace)
+      ⊎-elim
+      (λ q. never (sym (rw q at t) ∙ getD-set-same (g .given) rowPlace true false (rw (o .room .1) (place-row .0))))
+      (λ q. getD-set-other (g .table .rows) rowPlace i (rowWord s) 0 q
+      ∙ o .blank i (sym (getD-set-other (g .given) rowPlace i true false q) ∙ t)) (same-or-other i rowPlace)
 
   rowed-numbered : (i : ℕ) → getD (set (g .given) rowPlace true) i false ≡ true → suc i < g .table .symbols
   rowed-numbered i t =
@@ -120,16 +132,15 @@ good-after g s o (end k h n a) d = absurd (d k)
 -- ---- a parsed table is fit
 
 rows-fit : (N c : ℕ) (rows : List ℕ) → ((i : ℕ) → getD rows i 0 < 2 ^ N) → rowsFit N (take c rows) ≡ true
-unfolding rowsFit
-rows-fit N zero rows b = refl
-rows-fit N (suc c) [] b = refl
-rows-fit N (suc c) (w ∷ ws) b = rw (lt-ltb w (2 ^ N) (b 0)) (rows-fit N c ws (λ i. b (suc i)))
+rows-fit N c rows b =
+    rows-fit-of N (take c rows) (λ i h. let size = length-take c rows in rw (getD-take c rows i 0 (omega arith)) (b i))
 
 good-fit : (g : Progress) → Good g → g .table .symbols ≢ 0 → fit (g .table) ≡ true
 unfolding fit
 good-fit g o n = go (o .ranges)
   where
-    go : ((g .table .symbols ≡ 0) × (g .table .span ≡ 0)) ⊎ (sizesFit (g .table .symbols) (g .table .span) (g .table .depth) ≡ true)
+    go : ((g .table .symbols ≡ 0) × (g .table .span ≡ 0))
+        ⊎ (sizesFit (g .table .symbols) (g .table .span) (g .table .depth) ≡ true)
         → fit (g .table) ≡ true
     go (inl z) = absurd (n (z .0))
     go (inr f) = rw (rows-fit (g .table .span) (g .table .symbols - 1) (g .table .rows) (o .below), f)
@@ -146,13 +157,16 @@ sound-end-sized g s (end k h n a) e = n
 -- the three cases of a parse that ends well
 pub data Step (left p : ℕ) (g : Progress) (s : List ℕ) (t : Table) : Type 0 where
   done : fault g s ≡ 0 → kind s ≡ 0 → g .table ≡ t → Step left p g s t
-  on : fault g s ≡ 0 → kind s ≢ 0 → parseFrom left (p + size (kind s)) (after g s) (drop (size (kind s)) s) ≡ parsed t → Step left p g s t
+  on : fault g s ≡ 0 → kind s ≢ 0 → parseFrom left (p + size (kind s)) (after g s) (drop (size (kind s)) s) ≡ parsed t
+      → Step left p g s t
 
-pub parse-step : (left p : ℕ) (g : Progress) (s : List ℕ) (t : Table) → parseFrom (suc left) p g s ≡ parsed t → Step left p g s t
-parse-step left p g s t e = go (eqb (fault g s) 0) refl (eqb (kind s) 0) refl
+pub parse-ends : (left p : ℕ) (g : Progress) (s : List ℕ) (t : Table) → parseFrom (suc left) p g s ≡ parsed t
+    → Step left p g s t
+parse-ends left p g s t e = go (eqb (fault g s) 0) refl (eqb (kind s) 0) refl
   where
     go : (a : Bool) → eqb (fault g s) 0 ≡ a → (b : Bool) → eqb (kind s) 0 ≡ b → Step left p g s t
-    go false z b k = never-refused (sym (parse-refused (suc left) p g s (λ e. absurd (omega arith)) (eqb-false (fault g s) 0 z)) ∙ e)
+    go false z b k =
+        never-refused (sym (parse-refused (suc left) p g s (λ e. absurd (omega arith)) (eqb-false (fault g s) 0 z)) ∙ e)
     go true z true k =
         let f = eqb-true (fault g s) 0 z in
         let d = eqb-true (kind s) 0 k in
@@ -163,13 +177,16 @@ parse-step left p g s t e = go (eqb (fault g s) 0) refl (eqb (kind s) 0) refl
         let d = eqb-false (kind s) 0 k in
         on f d (sym (parse-next left p g s f d) ∙ e)
 
-parsed-fit : (left p : ℕ) (g : Progress) (s : List ℕ) (t : Table) → Good g → parseFrom left p g s ≡ parsed t → fit t ≡ true
+parsed-fit : (left p : ℕ) (g : Progress) (s : List ℕ) (t : Table) → Good g
+    → parseFrom left p g s ≡ parsed t → fit t ≡ true
 unfolding parseFrom
 parsed-fit zero p g s t o e = never-refused e
-parsed-fit (suc left) p g s t o e = go (parse-step left p g s t e) (parsed-fit left (p + size (kind s)) (after g s) (drop (size (kind s)) s) t)
+parsed-fit (suc left) p g s t o e =
+    go (parse-ends left p g s t e) (parsed-fit left (p + size (kind s)) (after g s) (drop (size (kind s)) s) t)
   where
     go : Step left p g s t
-        → (Good (after g s) → parseFrom left (p + size (kind s)) (after g s) (drop (size (kind s)) s) ≡ parsed t → fit t ≡ true)
+        → (Good (after g s)
+        → parseFrom left (p + size (kind s)) (after g s) (drop (size (kind s)) s) ≡ parsed t → fit t ≡ true)
         → fit t ≡ true
     go (done z k q) f = rw (← q) (good-fit g o (sound-end-sized g s (fault-sound g s z) k))
     go (on z k q) f = f (good-after g s o (fault-sound g s z) k) q

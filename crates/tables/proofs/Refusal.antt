@@ -5,16 +5,16 @@ use mathlib.Core.List.{List, [], _∷_}
 use Prim.Native.Nat.{ℕ, suc}
 use native.Mathlib.Omega.{arith}
 use Rattle.tables.specs.Refusal.{firstOf}
-use Rattle.tables.specs.Laws.{FIRST, FIRST-NONE, FIRST-RANGE}
+use Rattle.tables.specs.Laws.{FIRST-NONE, FIRST-RANGE}
 
-first-pick : (k : ℕ) (b : Bool) (bs : List Bool) → firstOf k (b ∷ bs) ≡ cond b k (firstOf (suc k) bs)
+pub first-nil : (k : ℕ) → firstOf k [] ≡ 0
 unfolding firstOf
-first-pick k true bs = refl
-first-pick k false bs = refl
+first-nil k = refl
 
-pub first : FIRST
+pub first-cons : (k : ℕ) (b : Bool) (bs : List Bool) → firstOf k (b ∷ bs) ≡ cond b k (firstOf (suc k) bs)
 unfolding firstOf
-first k = (refl, first-pick k)
+first-cons k true bs = refl
+first-cons k false bs = refl
 
 pub first-none : FIRST-NONE
 unfolding firstOf

@@ -1,10 +1,12 @@
--- Tables from a triangle of bits, as the theorem of their columns needs them: what is known of the rows of one size (`Triangular`), and how
--- the rows of the next one arise (`Extends`). The low n bits of an image are those of its block, mirrored. Assumes nothing.
+-- Tables from a triangle of bits, as the theorem of their columns needs them: what is known of the rows of one size
+-- (`Triangular`), and how the rows of the next one arise (`Extends`). The low n bits of an image are those of its
+-- block, mirrored. Assumes nothing.
 use mathlib.Core.Path.{_≡_, refl, sym, ap, ap₂, _∙_, subst}
 use mathlib.Core.Bool.{Bool, true, false}
 use mathlib.Core.List.{List, [], _∷_, _++_}
 use Prim.Native.Nat.{ℕ, zero, suc, _+_, _-_, _*_, _%_, _^_, _≤_, _<_}
-use native.Mathlib.Nat.{le-refl, le-of-eq, zero-mod, add-mod, mod-eq-of-lt, lt-of-lt-of-le, one-mul, zero-mul, zero-add, add-zero, add-comm, mul-add, mul-left-comm, pow-succ'}
+use native.Mathlib.Nat.{le-refl, le-of-eq, zero-mod, add-mod, mod-eq-of-lt, lt-of-lt-of-le, one-mul, zero-mul, zero-add}
+use native.Mathlib.Nat.{add-zero, add-comm, mul-add, mul-left-comm, pow-succ'}
 use native.Mathlib.Numerals.{add-one}
 use native.Mathlib.Decide.{decLe, ℕ-discrete}
 use native.Mathlib.Omega.{arith}
@@ -18,7 +20,8 @@ use Rattle.span.proofs.Combination.{combination-xor, combination-pow, combinati
 use Rattle.tables.specs.Code.{image}
 use Rattle.tables.specs.Made.{upper, madeRow, madeRows, triangleRows, Triangle}
 use Rattle.tables.specs.Triangle.{NESTED-ROWS}
-use Rattle.tables.proofs.Linear.{listed, length-listed, getD-listed, shl-low, bits-none, Linear, linear-zero, parity-same}
+use Rattle.span.proofs.Linear.{listed, listed-zero, listed-suc, length-listed, getD-listed, shl-low, bits-none, Linear}
+use Rattle.span.proofs.Linear.{linear-zero, parity-same}
 
 -- ---- a table of n rows in 2n bits, and one with a row and two bits more
 
@@ -55,9 +58,11 @@ image-zero rs = linear-zero (image rs) (image-xor rs)
 -- ---- the rows of a triangle
 
 made-listed : (cs : List ℕ) (n i : ℕ) → madeRows cs n i ≡ listed (λ p. madeRow cs n (suc p)) i
-unfolding madeRows listed
-made-listed cs n zero = refl
-made-listed cs n (suc i) = ap (λ (l : List ℕ). l ++ (madeRow cs n (suc i) ∷ [])) (made-listed cs n i)
+unfolding madeRows
+made-listed cs n zero = sym (listed-zero (λ p. madeRow cs n (suc p)))
+made-listed cs n (suc i) =
+    ap (λ (l : List ℕ). l ++ (madeRow cs n (suc i) ∷ [])) (made-listed cs n i)
+    ∙ sym (listed-suc (λ p. madeRow cs n (suc p)) i)
 
 pub made-length : (cs : List ℕ) (n i : ℕ) → length (madeRows cs n i) ≡ i
 made-length cs n i = ap length (made-listed cs n i) ∙ length-listed (λ p. madeRow cs n (suc p)) i
@@ -65,7 +70,9 @@ made-length cs n i = ap length (made-listed cs n i) ∙ length-listed (λ p. mad
 -- from here on n = suc m, so that the rows but the last are m
 module _ (cs : List ℕ) (m : ℕ) where
   rows-length : length (triangleRows cs (suc m)) ≡ suc m
-  rows-length = length-append (madeRows cs (suc m) (suc m - 1)) (1 ∷ []) ∙ ap (λ (k : ℕ). k + 1) (made-length cs (suc m) (suc m - 1)) ∙ omega arith
+  rows-length =
+      length-append (madeRows cs (suc m) (suc m - 1)) (1 ∷ [])
+      ∙ ap (λ (k : ℕ). k + 1) (made-length cs (suc m) (suc m - 1)) ∙ omega arith
 
   row-made : (p : ℕ) → p < m → getD (triangleRows cs (suc m)) p 0 ≡ madeRow cs (suc m) (suc p)
   row-made p h =
@@ -120,7 +127,8 @@ upper-nested cs a n j zero h = refl
 upper-nested cs a n j (suc i) h =
     let d = digit (bit (j - 1) (getD cs i 0)) in
     let same : getD (cs ++ (a ∷ [])) i 0 ≡ getD cs i 0 = List·getD-append cs (a ∷ []) 0 i h in
-    let twice : 2 ^ (suc n + i + 1) ≡ 2 * 2 ^ (n + i + 1) = ap (λ (k : ℕ). 2 ^ k) (omega arith) ∙ pow-succ' 2 (n + i + 1) in
+    let twice : 2 ^ (suc n + i + 1) ≡ 2 * 2 ^ (n + i + 1) =
+    ap (λ (k : ℕ). 2 ^ k) (omega arith) ∙ pow-succ' 2 (n + i + 1) in
     ap₂ _+_ (upper-nested cs a n j i (omega arith))
     (ap₂ (λ (x y : ℕ). digit (bit (j - 1) x) * y) same twice ∙ mul-left-comm d 2 (2 ^ (n + i + 1)))
     ∙ sym (mul-add 2 (upper cs n j i) (d * 2 ^ (n + i + 1)))
@@ -166,7 +174,8 @@ module _ (cs : List ℕ) (m : ℕ) where
           ∙ mod-eq-of-lt one
 
   -- so the low n bits of an image are those of the block, mirrored
-  mirrored : (i : ℕ) → i < suc m → (e : ℕ) → e < 2 ^ suc m → bit (suc m - suc i) (image (triangleRows cs (suc m)) e) ≡ bit i e
+  mirrored : (i : ℕ) → i < suc m → (e : ℕ) → e < 2 ^ suc m
+      → bit (suc m - suc i) (image (triangleRows cs (suc m)) e) ≡ bit i e
   mirrored i h =
       parity-same (λ e. bit (suc m - suc i) (image rs e)) (bit i)
       (λ x y. ap (bit (suc m - suc i)) (image-xor rs x y) ∙ bit-xor (suc m - suc i) (image rs x) (image rs y))
@@ -220,15 +229,18 @@ nested-row cs t a p h =
     let m = length cs in
     let n = suc (length cs) in
     let more = cs ++ (a ∷ []) in
-    let one : 2 ^ (suc n - suc p) ≡ 2 * 2 ^ (n - suc p) = ap (λ (k : ℕ). 2 ^ k) (omega arith) ∙ pow-succ' 2 (n - suc p) in
+    let one : 2 ^ (suc n - suc p) ≡ 2 * 2 ^ (n - suc p) =
+    ap (λ (k : ℕ). 2 ^ k) (omega arith) ∙ pow-succ' 2 (n - suc p) in
     let less : n - 1 ≡ m = omega arith in
     let count : suc n - 1 ≡ suc m = omega arith in
     let place : suc p - 1 ≡ p = omega arith in
     let top : suc n + m + 1 ≡ suc (2 * n) = omega arith in
-    let last : upper more (suc n) (suc p) (suc n - 1) ≡ 2 * upper cs n (suc p) (n - 1) + digit (bit p a) * 2 ^ suc (2 * n) =
+    let last : upper more (suc n) (suc p) (suc n - 1)
+    ≡ 2 * upper cs n (suc p) (n - 1) + digit (bit p a) * 2 ^ suc (2 * n) =
     ap (upper more (suc n) (suc p)) count
     ∙ ap₂ _+_ (upper-nested cs a n (suc p) m (le-refl m) ∙ ap (λ (i : ℕ). 2 * upper cs n (suc p) i) (sym less))
-    (ap₂ (λ (x y : ℕ). digit (bit x y) * 2 ^ (suc n + m + 1)) place (getD-append-seam cs a [] 0) ∙ ap (λ (k : ℕ). digit (bit p a) * 2 ^ k) top)
+    (ap₂ (λ (x y : ℕ). digit (bit x y) * 2 ^ (suc n + m + 1)) place (getD-append-seam cs a [] 0)
+    ∙ ap (λ (k : ℕ). digit (bit p a) * 2 ^ k) top)
     in
     let row : getD (triangleRows cs n) p 0 ≡ 2 ^ (n - suc p) + upper cs n (suc p) (n - 1) = row-any cs t p h in
     omega arith
@@ -245,7 +257,8 @@ add-top m x true h =
 add-top m x false h = ap (λ (y : ℕ). x + y) (zero-mul (2 ^ m)) ∙ add-zero x ∙ sym (xor-zero-r x)
 
 pub extends : (cs : List ℕ) → Triangle cs → (a : ℕ)
-    → Extends (suc (length cs)) a (triangleRows cs (suc (length cs))) (triangleRows (cs ++ (a ∷ [])) (suc (suc (length cs))))
+    → Extends (suc (length cs)) a (triangleRows cs (suc (length cs)))
+    (triangleRows (cs ++ (a ∷ [])) (suc (suc (length cs))))
 extends cs t a = record {
   row = λ i h.
       let n = suc (length cs) in

@@ -15,15 +15,16 @@ use lib.ListN.{length}
 use Rattle.span.specs.Word.{shifted}
 use Rattle.span.specs.Combination.{combination}
 
--- "A code has n symbols (bits) in a block, n − 1 of them information, .. Symbol j has weight 2^(j−1) in a block's number; symbol n is the parity."
+-- "A code has n symbols (bits) in a block, n − 1 of them information, .. Symbol j has weight 2^(j−1) in a block's
+-- number; symbol n is the parity."
 abbrev pub Block : ℕ → ℕ → Type 0
 Block n e = e < 2 ^ n
 
 abbrev pub weight : ℕ → ℕ
 weight j = 2 ^ (j - 1)
 
--- "For an error block e (below 2^n), the image of e is the exclusive or of the rows of its ones (000, eq. 6)." Bit j − 1 of the
--- number is symbol j, and selects row j.
+-- "For an error block e (below 2^n), the image of e is the exclusive or of the rows of its ones (000, eq. 6)." Bit
+-- j − 1 of the number is symbol j, and selects row j.
 unfoldable pub image : List ℕ → ℕ → ℕ
 image rows e = combination rows e
 
@@ -31,8 +32,8 @@ image rows e = combination rows e
 unfoldable pub shiftedImage : ℕ → List ℕ → ℕ → ℕ → ℕ
 shiftedImage N rows l e = shifted N l (image rows e)
 
--- "A table is unsuitable if some l from 1 to N − 1, some e0 that is not zero, and some e1, zero allowed, have the image of e0 equal to the
--- image of e1 shifted by l. (001, eq. 21.8, with e1 = 0 added so that the rows are independent.)"
+-- "A table is unsuitable if some l from 1 to N − 1, some e0 that is not zero, and some e1, zero allowed, have the image
+-- of e0 equal to the image of e1 shifted by l. (001, eq. 21.8, with e1 = 0 added so that the rows are independent.)"
 pub record Clashes (N : ℕ) (rows : List ℕ) (l e0 e1 : ℕ) : Type 0 where
   pub shift-from : 1 ≤ l
   pub shift-to : l < N

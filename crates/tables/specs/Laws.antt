@@ -1,20 +1,17 @@
--- What the crate proves of tables. `proofs/Laws` has a proof of each.
+-- What the crate proves of tables and refusals.
 --
 --   IMAGE         the image of one symbol is its row, and images are linear
---   ALIKE         in a suitable table only the zero block has a shifted image as its image
---   FIRST         the first refusal that applies is that of the first test, or else of those after it
 --   FIRST-NONE    no refusal is the first that applies only if none applies
 --   FIRST-RANGE   the first that applies has the number of one of the tests
 --   ZERO-UNFIT    12 applies to the zero table
 use mathlib.Core.Path.{_≡_}
-use mathlib.Core.Bool.{Bool, false, cond}
+use mathlib.Core.Bool.{Bool, false}
 use mathlib.Core.Logic.{_≢_}
-use mathlib.Core.List.{List, [], _∷_}
-use Prim.Native.Nat.{ℕ, suc, _+_, _-_, _^_, _≤_, _<_}
+use mathlib.Core.List.{List, _∷_}
+use Prim.Native.Nat.{ℕ, suc, _+_, _-_, _≤_, _<_}
 use lib.ListN.{length, getD}
-use Rattle.span.specs.Word.{_⊕_, shifted}
-use Rattle.span.specs.Combination.{combination}
-use Rattle.tables.specs.Code.{weight, image, Suitable}
+use Rattle.span.specs.Word.{_⊕_}
+use Rattle.tables.specs.Code.{weight, image}
 use Rattle.tables.specs.Table.{zeroTable, fit}
 use Rattle.tables.specs.Refusal.{firstOf}
 
@@ -24,18 +21,12 @@ ZERO-UNFIT = fit zeroTable ≡ false
 
 abbrev pub IMAGE : Type 0
 IMAGE = (rows : List ℕ)
-    → ((j : ℕ) → image rows (weight j) ≡ getD rows (j - 1) 0) × ((e d : ℕ) → image rows (e ⊕ d) ≡ image rows e ⊕ image rows d)
-
--- Suitability in terms of combinations, for a layer that works with those.
-abbrev pub ALIKE : Type 0
-ALIKE = (N : ℕ) (rows : List ℕ) → Suitable N rows → (l e0 e1 : ℕ) → 1 ≤ l → l < N → e0 < 2 ^ length rows → e1 < 2 ^ length rows
-    → combination rows e0 ≡ shifted N l (combination rows e1) → e0 ≡ 0
-
-abbrev pub FIRST : Type 0
-FIRST = (k : ℕ) → (firstOf k [] ≡ 0) × ((b : Bool) (bs : List Bool) → firstOf k (b ∷ bs) ≡ cond b k (firstOf (suc k) bs))
+    → ((j : ℕ) → image rows (weight j) ≡ getD rows (j - 1) 0)
+    × ((e d : ℕ) → image rows (e ⊕ d) ≡ image rows e ⊕ image rows d)
 
 abbrev pub FIRST-NONE : Type 0
-FIRST-NONE = (k : ℕ) (b : Bool) (bs : List Bool) → 1 ≤ k → firstOf k (b ∷ bs) ≡ 0 → (b ≡ false) × (firstOf (suc k) bs ≡ 0)
+FIRST-NONE =
+    (k : ℕ) (b : Bool) (bs : List Bool) → 1 ≤ k → firstOf k (b ∷ bs) ≡ 0 → (b ≡ false) × (firstOf (suc k) bs ≡ 0)
 
 abbrev pub FIRST-RANGE : Type 0
 FIRST-RANGE = (k : ℕ) (bs : List Bool) → firstOf k bs ≢ 0 → (k ≤ firstOf k bs) × (firstOf k bs < k + length bs)

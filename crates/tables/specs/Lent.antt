@@ -2,9 +2,10 @@
 --
 --   withRows t rows   the table of t's sizes and these rows
 --   lent t rows       the same, if they are fifteen, as a table holds; otherwise the zero table, which 12 refuses
---   LENT              fifteen rows are taken as they are, any other count is the zero table; a table with its own rows lent is that table
+--   LENT              fifteen rows are the table's, any other count is the zero table; a table with its own rows is
+--                     that table
 use mathlib.Core.Path.{_≡_}
-use mathlib.Core.Bool.{true, false}
+use mathlib.Core.Bool.{cond}
 use mathlib.Core.Logic.{_≢_}
 use mathlib.Core.List.{List}
 use Prim.Native.Nat.{ℕ}
@@ -17,10 +18,10 @@ abbrev pub withRows : Table → List ℕ → Table
 withRows t rows = table (t .symbols) (t .span) (t .depth) rows
 
 unfoldable pub lent : Table → List ℕ → Table
-lent t rows = elim (eqb (length rows) 15) [ true ↦ withRows t rows | false ↦ zeroTable ]
+lent t rows = cond (eqb (length rows) 15) (withRows t rows) zeroTable
 
 abbrev pub LENT : Type 0
 LENT =
     (t : Table) (rows : List ℕ)
-    → (length rows ≡ 15 → lent t rows ≡ withRows t rows) × (length rows ≢ 15 → lent t rows ≡ zeroTable) × (withRows t (t .rows) ≡ t)
-    × (length (t .rows) ≡ 15 → lent t (t .rows) ≡ t)
+    → (length rows ≡ 15 → lent t rows ≡ withRows t rows) × (length rows ≢ 15 → lent t rows ≡ zeroTable)
+    × (withRows t (t .rows) ≡ t)

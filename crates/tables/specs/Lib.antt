@@ -8,6 +8,5 @@ pub mod Laws
 pub mod Format
 pub mod Reading
 pub mod Written
-pub mod FormatExamples
 pub mod Made
 pub mod Triangle

@@ -7,10 +7,11 @@
 --   triangleRows cs n   rows 1 to n
 --   Triangle cs         cs is a triangle: column k has places 1 to k − 1
 --   madeTable n m       the table that we make
---   pickMaking s a b    a where s holds, else b
 --   making n m          what making answers: the table, or refusal 11 and the zero table
---   madeNumbers a       01's number of the answer: none, or 11
-use mathlib.Core.Bool.{Bool, true, false}
+--   madeNumbers a       01's number of the answer: 0, or 11
+--   Makes n m r         what `make` promises
+use mathlib.Core.Bool.{cond}
+use mathlib.Core.Path.{_≡_}
 use mathlib.Core.List.{List, [], _∷_, _++_}
 use Prim.Native.Nat.{ℕ, zero, suc, _+_, _-_, _*_, _^_, _<_}
 use lib.ListN.{length, getD, replicate}
@@ -26,7 +27,8 @@ unfoldable pub columns : List ℕ
 columns =
     1 ∷ 3 ∷ 7 ∷ 13 ∷ 17 ∷ 35 ∷ 71 ∷ 237 ∷ 433 ∷ 851 ∷ 1687 ∷ 2365 ∷ 5873 ∷ 9155 ∷ 26183 ∷ []
 
--- "and also bit n + k − 1 for each column k that has a one at place j": column i + 2 has index i, so its bit is n + i + 1
+-- "and also bit n + k − 1 for each column k that has a one at place j": column i + 2 has index i, so its bit is
+-- n + i + 1
 unfoldable pub upper : List ℕ → ℕ → ℕ → ℕ → ℕ
 upper cs n j zero = 0
 upper cs n j (suc i) = upper cs n j i + digit (bit (j - 1) (getD cs i 0)) * 2 ^ (n + i + 1)
@@ -42,7 +44,8 @@ madeRows cs n (suc i) = madeRows cs n i ++ (madeRow cs n (suc i) ∷ [])
 abbrev pub triangleRows : List ℕ → ℕ → List ℕ
 triangleRows cs n = madeRows cs n (n - 1) ++ (1 ∷ [])
 
--- "A triangle of bits fixes the table: its column k, for k from 2 to n, has places 1 to k − 1": column i + 2 has index i
+-- "A triangle of bits fixes the table: its column k, for k from 2 to n, has places 1 to k − 1": column i + 2 has index
+-- i
 abbrev pub Triangle : List ℕ → Type 0
 Triangle cs = (i : ℕ) → i < length cs → getD cs i 0 < 2 ^ suc i
 
@@ -51,14 +54,15 @@ unfoldable pub madeTable : ℕ → ℕ → Table
 madeTable n m = table n (2 * n) m (madeRows columns n (n - 1) ++ replicate (16 - n) 0)
 
 -- refusal 11: "n or m is out of range." The span 2n of an n in range is in range.
-abbrev pub pickMaking : Bool → Making → Making → Making
-pickMaking true a b = a
-pickMaking false a b = b
-
 unfoldable pub making : ℕ → ℕ → Making
 making n m =
-    pickMaking (sizesFit n 2 m) (record { answer = Made; table = madeTable n m }) (record { answer = OutOfRange; table = zeroTable })
+    cond (sizesFit n 2 m) (record { answer = Made; table = madeTable n m })
+    (record { answer = OutOfRange; table = zeroTable })
 
 abbrev pub madeNumbers : MakeAnswer → List ℕ
-madeNumbers Made = []
+madeNumbers Made = 0 ∷ []
 madeNumbers OutOfRange = 11 ∷ []
+
+pub record Makes (n m : ℕ) (r : Making) : Type 0 where
+  pub answer : r ≡ making n m
+  pub numbers : madeNumbers (r .answer) ≡ cond (sizesFit n 2 m) (0 ∷ []) (11 ∷ [])

@@ -1,7 +1,8 @@
--- What the crate proves of made tables. `proofs/Laws` has a proof of each.
+-- What the crate proves of made tables: of the triangle, and of what making answers.
 --
---   NESTED        the triangle for n is the one for n − 1 with column n added
---   MADE          a made table has the sizes asked for and N = 2n, is fit and suitable, and has the rows of our triangle
+--   OUR-TRIANGLE  our columns are a triangle of all sizes to 16
+--   MADE          a made table has the sizes asked for and N = 2n, is fit and suitable, and has the rows of our
+--                 triangle
 --   MADE-WHOLE    its other rows are 0
 --   MADE-DEPTH    making with another depth changes only the depth
 --   IS-MADE       sizes in range are never refused
@@ -10,9 +11,10 @@
 --   FILLING       a suitable table has exactly one column that makes the next one suitable
 --   FORCED        with our columns before it, a column makes its size suitable exactly if it is ours
 --   UNIQUE        a triangle all of whose sizes are suitable is ours
+--   another, NOT-UNIQUE   a triangle that is not ours whose size 5 is suitable: `UNIQUE` needs the smaller sizes
 use mathlib.Core.Path.{_≡_}
 use mathlib.Core.Bool.{true, false}
-use mathlib.Core.Logic.{_↔_}
+use mathlib.Core.Logic.{_≢_, _↔_}
 use mathlib.Core.List.{List, [], _∷_, _++_}
 use Prim.Native.Nat.{ℕ, suc, _+_, _-_, _*_, _^_, _≤_, _<_}
 use lib.ListN.{length, getD, take}
@@ -24,19 +26,21 @@ use Rattle.tables.specs.Made.{columns, madeRow, triangleRows, Triangle, 
 
 -- In both, the smaller table has n = suc (length cs) symbols, and the new column a is column n + 1.
 
--- Row j, for j from 1 to n, is twice row j for n, plus its bit of column n + 1 at 2n + 1, the top bit of the larger table. Row n for n is 1.
+-- Row j, for j from 1 to n, is twice row j for n, plus its bit of column n + 1 at 2n + 1, the top bit of the larger
+-- table. Row n for n is 1.
 abbrev pub NESTED-ROWS : Type 0
 NESTED-ROWS = (cs : List ℕ) → Triangle cs → (a j : ℕ) → 1 ≤ j → j ≤ suc (length cs)
     → madeRow (cs ++ (a ∷ [])) (suc (suc (length cs))) j
     ≡ 2 * getD (triangleRows cs (suc (length cs))) (j - 1) 0 + digit (bit (j - 1) a) * 2 ^ (2 * suc (length cs) + 1)
 
--- "Once the table for n − 1 is suitable, exactly one filling of column n makes the table for n suitable": the theorem of Berlekamp and
--- Preparata (001, Problem 21.1), of every size from the table of one symbol on.
+-- "Once the table for n − 1 is suitable, exactly one filling of column n makes the table for n suitable": the theorem
+-- of Berlekamp and Preparata (001, Problem 21.1), of every size from the table of one symbol on.
 abbrev pub FILLING : Type 0
 FILLING = (cs : List ℕ) → Triangle cs → Suitable (2 * suc (length cs)) (triangleRows cs (suc (length cs)))
     → (a : ℕ) × (a < 2 ^ suc (length cs))
     × Suitable (2 * suc (suc (length cs))) (triangleRows (cs ++ (a ∷ [])) (suc (suc (length cs))))
-    × ((c : ℕ) → c < 2 ^ suc (length cs) → Suitable (2 * suc (suc (length cs))) (triangleRows (cs ++ (c ∷ [])) (suc (suc (length cs)))) → c ≡ a)
+    × ((c : ℕ) → c < 2 ^ suc (length cs)
+    → Suitable (2 * suc (suc (length cs))) (triangleRows (cs ++ (c ∷ [])) (suc (suc (length cs)))) → c ≡ a)
 
 -- "The team works out the rest and proves that each column is forced by those before it."
 abbrev pub FORCED : Type 0
@@ -45,15 +49,26 @@ FORCED = (n : ℕ) → 2 ≤ n → n ≤ 16 → (c : ℕ) → c < 2 ^ (n - 1)
 
 abbrev pub UNIQUE : Type 0
 UNIQUE = (cs : List ℕ) → Triangle cs → length cs ≤ 15
-    → ((n : ℕ) → 2 ≤ n → n ≤ suc (length cs) → Suitable (2 * n) (triangleRows (take (n - 1) cs) n)) → cs ≡ take (length cs) columns
+    → ((n : ℕ) → 2 ≤ n → n ≤ suc (length cs) → Suitable (2 * n) (triangleRows (take (n - 1) cs) n))
+    → cs ≡ take (length cs) columns
 
--- "The triangle for n is the one for n − 1 with column n added." Its columns are the first n − 1 of ours.
-abbrev pub NESTED : Type 0
-NESTED = (n : ℕ) → 2 ≤ n → n ≤ 16
-    → (take (n - 1) columns ≡ take (n - 2) columns ++ (getD columns (n - 2) 0 ∷ [])) × Triangle (take (n - 1) columns)
+-- "(Without that nesting it is not unique: at n = 5 another triangle serves.)" Its table for 5 is suitable, and its
+-- columns are not ours; so one of its smaller tables is not suitable.
+abbrev pub another : List ℕ
+another = 1 ∷ 2 ∷ 5 ∷ 9 ∷ []
+
+abbrev pub NOT-UNIQUE : Type 0
+NOT-UNIQUE = Triangle another × Suitable (2 * 5) (triangleRows another 5) × (another ≢ take 4 columns)
+
+-- "Its columns 2 to 16 stand as a constant table", column k with places 1 to k − 1. "The triangle for n is the one for
+-- n − 1 with column n added": that for n is the first n − 1 of them.
+abbrev pub OUR-TRIANGLE : Type 0
+OUR-TRIANGLE = (length columns ≡ 15) × ((n : ℕ) → n ≤ 16 → Triangle (take (n - 1) columns))
 
 abbrev pub MADE : Type 0
-MADE = (n m : ℕ) → making n m .answer ≡ Made → (making n m .table .symbols ≡ n) × (making n m .table .span ≡ 2 * n) × (making n m .table .depth ≡ m)
+MADE =
+    (n m : ℕ) → making n m .answer ≡ Made
+    → (making n m .table .symbols ≡ n) × (making n m .table .span ≡ 2 * n) × (making n m .table .depth ≡ m)
     × (fit (making n m .table) ≡ true) × Suitable (making n m .table .span) (rowsOf (making n m .table))
     × (rowsOf (making n m .table) ≡ triangleRows (take (n - 1) columns) n)
 
@@ -70,4 +85,5 @@ IS-MADE = (n m : ℕ) → sizesFit n 2 m ≡ true → making n m .answer ≡ Mad
 
 -- "11. n or m is out of range."
 abbrev pub NOT-MADE : Type 0
-NOT-MADE = (n m : ℕ) → sizesFit n 2 m ≡ false → (madeNumbers (making n m .answer) ≡ 11 ∷ []) × (making n m .table ≡ zeroTable)
+NOT-MADE =
+    (n m : ℕ) → sizesFit n 2 m ≡ false → (madeNumbers (making n m .answer) ≡ 11 ∷ []) × (making n m .table ≡ zeroTable)

@@ -49,4 +49,5 @@ pub record Written (bytes : List ℕ) (t : Table) : Type 0 where
   pub same : bytes ≡ sizesRecord t ++ (rowRecords t order ++ (0 ∷ []))
 
 abbrev pub PARSES-EXACTLY : Type 0
-PARSES-EXACTLY = (bytes : List ℕ) (t : Table) → ((i : ℕ) → getD bytes i 0 < 256) → (parse bytes ≡ parsed t) ↔ Written bytes t
+PARSES-EXACTLY =
+    (bytes : List ℕ) (t : Table) → ((i : ℕ) → getD bytes i 0 < 256) → (parse bytes ≡ parsed t) ↔ Written bytes t

@@ -11,7 +11,7 @@ ghost use Prim.Native.Nat.{_+_, _-_, _≤_, _<_};
 ghost use lib.ListN.{length, getD, take};
 ghost use Rattle.span.specs.Word.{shifted};
 ghost use Rattle.tables.specs.Table.{codeRows};
-ghost use Rattle.tables.specs.Judging.{Judged, Searched};
+ghost use Rattle.tables.specs.Judging.{Judges, Searched};
 
 pub enum Judgement {
     // Refusal 12.
@@ -35,7 +35,8 @@ fn code_row(rows: &[u64], n: usize, i: usize) -> u64
 // The n shifted rows, then the n rows: each row is fetched once.
 fn clash_words(rows: &[u64], n: usize, span: usize, l: usize) -> [u64; 32]
     requires { ⌜ (2 ≤ n) × (n ≤ 16) × (span ≤ 64) × (n - 1 ≤ length (now rows)) ⌝ }
-    ensures { λ r. ⌜ take (n + n) r ≡ map (shifted span l) (codeRows n (now (rows .entry))) ++ codeRows n (now (rows .entry)) ⌝ }
+    ensures { λ r.
+        ⌜ take (n + n) r ≡ map (shifted span l) (codeRows n (now (rows .entry))) ++ codeRows n (now (rows .entry)) ⌝ }
 {
     let mut words = [0u64; 32];
     let mut i = 0;
@@ -66,7 +67,7 @@ fn search(rows: &[u64], n: usize, span: usize) -> Judgement
 }
 
 pub(crate) fn judge(t: Table) -> Judgement
-    ensures { λ r. ⌜ Judged t r ⌝ }
+    ensures { λ r. ⌜ Judges t r ⌝ }
 {
     // The rows alone are lent: less is copied than of a lent table.
     let copied = t.rows;

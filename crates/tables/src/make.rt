@@ -8,7 +8,7 @@ ghost use mathlib.Core.Path.{_≡_};
 ghost use mathlib.Core.List.{_++_};
 ghost use Prim.Native.Nat.{_-_, _≤_, _<_};
 ghost use lib.ListN.{replicate};
-ghost use Rattle.tables.specs.Made.{columns, madeRow, madeRows, making};
+ghost use Rattle.tables.specs.Made.{columns, madeRow, madeRows, Makes};
 
 // Columns 2 to 16 of the triangle, place j at bit j − 1.
 const COLUMNS: [u64; 15] = [
@@ -68,7 +68,7 @@ fn made_rows(n: usize) -> [u64; 15]
 }
 
 pub fn make(symbols: usize, depth: usize) -> Making
-    ensures { λ r. ⌜ r ≡ making symbols depth ⌝ }
+    ensures { λ r. ⌜ Makes symbols depth r ⌝ }
 {
     if sizes_fit(symbols, 2, depth) {
         let rows = made_rows(symbols);

@@ -1,4 +1,5 @@
-// Reading a table: 01, "Table bytes" and refusals 1 to 10. The fault of a record stands apart from what a sound record does.
+// Reading a table: 01, "Table bytes" and refusals 1 to 10. The fault of a record stands apart from what a sound record
+// does.
 use crate::judge::Judgement;
 use crate::judge::judge;
 use crate::table::Table;
@@ -12,8 +13,10 @@ ghost use mathlib.Core.List.{List};
 ghost use Prim.Native.Nat.{ℕ, _+_, _-_, _^_, _≤_, _<_};
 ghost use lib.Dec.{leb, ltb, eqb};
 ghost use lib.ListN.{length, getD, drop};
-ghost use Rattle.tables.specs.Format.{kind, size, rowWord, allGiven, taken, fault, place, after, refused, parsed, parse};
-ghost use Rattle.tables.specs.Reading.{outcome, Read};
+ghost use Rattle.tables.specs.Format.{kind, size, rowWord, allGiven, unavailable, fault, place, after, parsed};
+ghost use Rattle.tables.specs.Format.{parse};
+ghost use Rattle.tables.specs.Table.{zeroTable};
+ghost use Rattle.tables.specs.Reading.{reading, Read};
 
 pub enum ReadAnswer {
     Accepted,
@@ -29,7 +32,8 @@ pub struct Reading {
     pub table: Table,
 }
 
-// How far a reading came: the table so far, without symbols before the sizes, and which rows were given, row j at given[j − 1].
+// How far a reading came: the table so far, without symbols before the sizes, and which rows were given, row j at
+// given[j − 1].
 struct Progress {
     table: Table,
     given: [bool; 15],
@@ -85,7 +89,9 @@ fn first(j: u64, a: bool, k: u64, b: bool) -> u64
 
 // The faults that a record of any kind may have.
 fn header_fault(kind: usize, left: usize, symbols: usize) -> u64
-    ensures { λ r. ⌜ r ≡ cond (eqb left 0) 1 (cond (ltb 2 kind) 2 (cond (ltb left (size kind)) 3 (cond (cond (eqb kind 1) (not (eqb symbols 0)) (eqb symbols 0)) 4 0))) ⌝ }
+    ensures { λ r.
+        ⌜ r ≡ cond (eqb left 0) 1 (cond (ltb 2 kind) 2
+        (cond (ltb left (size kind)) 3 (cond (cond (eqb kind 1) (not (eqb symbols 0)) (eqb symbols 0)) 4 0))) ⌝ }
 {
     if left < 1 {
         return 1;
@@ -99,7 +105,9 @@ fn header_fault(kind: usize, left: usize, symbols: usize) -> u64
 // The other faults of a row record: its number is none of 1 to n − 1, or was given; its row is too long.
 fn row_fault(bytes: &[u8], at: usize, g: Progress) -> u64
     requires { ⌜ (at ≤ length (now bytes)) × (g .table .symbols ≤ 16) × (g .table .span ≤ 64) ⌝ }
-    ensures { λ r. ⌜ r ≡ cond (taken g (getD (drop at (now (bytes .entry))) 1 0)) 6 (cond (leb (2 ^ (g .table .span)) (rowWord (drop at (now (bytes .entry))))) 7 0) ⌝ }
+    ensures { λ r.
+        ⌜ r ≡ cond (unavailable g (getD (drop at (now (bytes .entry))) 1 0)) 6
+        (cond (leb (2 ^ (g .table .span)) (rowWord (drop at (now (bytes .entry))))) 7 0) ⌝ }
 {
     let j = byte(bytes, at, 1);
     if (1 <= j) & (j < g.table.symbols) {
@@ -150,7 +158,8 @@ fn fault(bytes: &[u8], at: usize, g: Progress) -> u64
 
 // The progress after a sound record that is not the end.
 fn after(bytes: &[u8], at: usize, g: Progress) -> Progress
-    requires { ⌜ (at ≤ length (now bytes)) × (g .table .symbols ≤ 16) × (fault g (drop at (now bytes)) ≡ 0) × (kind (drop at (now bytes)) ≢ 0) ⌝ }
+    requires { ⌜ (at ≤ length (now bytes)) × (g .table .symbols ≤ 16) × (fault g (drop at (now bytes)) ≡ 0)
+        × (kind (drop at (now bytes)) ≢ 0) ⌝ }
     ensures { λ r. ⌜ r ≡ after g (drop at (now (bytes .entry))) ⌝ }
 {
     let j = byte(bytes, at, 1);
@@ -171,7 +180,7 @@ fn after(bytes: &[u8], at: usize, g: Progress) -> Progress
 // A refusal of the record at `at`.
 fn refusal(number: u64, at: usize) -> Reading
     requires { ⌜ at + 1 < 2 ^ 64 ⌝ }
-    ensures { λ r. ⌜ r ≡ outcome (refused number (place number at)) ⌝ }
+    ensures { λ r. ⌜ r ≡ reading (ReadAnswer.Refused number (place number at)) zeroTable ⌝ }
 {
     let table = zero_table();
     let place = if number == 9 { at + 1 } else { at };

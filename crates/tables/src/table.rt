@@ -1,4 +1,5 @@
-// The table by value, and when it is fit. Row j stands at rows[j − 1]; row n, the parity's, is 1 always and is not stored.
+// The table by value, and when it is fit. Row j stands at rows[j − 1]; row n, the parity's, is 1 always and is not
+// stored.
 use span::bits::mask;
 use span::bound::min;
 ghost use mathlib.Core.Path.{_≡_};

@@ -2,6 +2,7 @@
 //! program, run.
 
 pub mod cases;
+pub mod examples;
 pub mod oracle;
 
 #[cfg(test)]

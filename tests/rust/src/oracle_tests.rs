@@ -1,11 +1,8 @@
 //! The plain implementation tested by itself: the scope's examples, its own two ways, and fades.
 
 use crate::cases::*;
+use crate::examples::z;
 use crate::oracle::*;
-
-fn z() -> Table {
-    Table::new(2, 4, 1, &[10])
-}
 
 fn bytes_of(table: &Table) -> Vec<u8> {
     table_bytes(&mut Draw::from_seed(1), table)
@@ -26,7 +23,7 @@ fn assert_unsuitable(table: &Table) {
 #[test]
 fn t1_z_is_accepted() {
     let bytes = [1, 2, 4, 1, 2, 1, 0x0A, 0, 0, 0, 0, 0, 0, 0, 0];
-    assert_eq!(read_table(&bytes), Ok(z()));
+    assert_eq!(read_table(&bytes), Ok(z(1)));
 }
 
 #[test]
@@ -53,7 +50,7 @@ fn t7_example_2_of_000_is_accepted() {
 
 #[test]
 fn t8_made_rows() {
-    assert_eq!(make_table(2, 1), Ok(z()));
+    assert_eq!(make_table(2, 1), Ok(z(1)));
     assert_eq!(make_table(3, 1), Ok(Table::new(3, 6, 1, &[52, 34])));
     assert_eq!(make_table(4, 1), Ok(Table::new(4, 8, 1, &[232, 196, 130])));
     assert_eq!(make_table(5, 1), Ok(Table::new(5, 10, 1, &[976, 392, 772, 514])));
@@ -71,16 +68,16 @@ fn t9_all_ones_fail_at_5() {
 #[test]
 fn t10_z_codes() {
     let mut words = vec![7; 2];
-    assert_eq!(start_coder(&z(), &mut words), Ok(()));
-    let sent = [1, 1, 0, 0, 0].map(|info| code(&z(), &mut words, info));
+    assert_eq!(start_coder(&z(1), &mut words), Ok(()));
+    let sent = [1, 1, 0, 0, 0].map(|info| code(&z(1), &mut words, info));
     assert_eq!(sent, [1, 3, 2, 2, 2].map(Ok));
 }
 
 #[test]
 fn t11_doubtful() {
     let mut words = vec![7; 7];
-    assert_eq!(start_decoder(&z(), &mut words), Ok(()));
-    let answers = [2, 2, 0, 0].map(|received| decode(&z(), &mut words, received));
+    assert_eq!(start_decoder(&z(1), &mut words), Ok(()));
+    let answers = [2, 2, 0, 0].map(|received| decode(&z(1), &mut words, received));
     let doubtful = Some(Delivered { info: 0, mark: Mark::Doubtful });
     assert_eq!(answers, [Ok(None), Ok(None), Ok(None), Ok(doubtful)]);
 }
@@ -88,7 +85,7 @@ fn t11_doubtful() {
 #[test]
 fn t12_the_unneeded_parity_mark() {
     let mut words = vec![0, 3, 4, 0, 0, 0, 0];
-    let answers: Vec<_> = (0..7).map(|_| decode(&z(), &mut words, 0)).collect();
+    let answers: Vec<_> = (0..7).map(|_| decode(&z(1), &mut words, 0)).collect();
     for answer in &answers {
         assert!(matches!(answer, Ok(Some(Delivered { info: 0, .. }))), "{answer:?}");
     }

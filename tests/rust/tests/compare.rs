@@ -1,8 +1,11 @@
-//! Compares the proved implementation, call by call and word by word, with the plain one.
+//! Compares the proved implementation, call by call and word by word, with the plain one, and both with listed
+//! cases.
 
 use burst_compare::cases::*;
+use burst_compare::examples::{read_cases, step_cases, z, ReadCase, Says, Step, StepCase};
 use burst_compare::oracle::{self, Mark, ReadRefusal, Table, Triple};
 use burst_compare::{linked, program, Coded, Decoded, Numbers, Reading};
+use std::fmt::Debug;
 use std::ops::Range;
 use std::time::Instant;
 
@@ -116,13 +119,17 @@ impl Twin {
 
 // ---- Compared calls ----
 
-fn plain_reading(answer: &Result<Table, ReadRefusal>) -> Reading {
-    let none = Reading { refused: 0, place: 0, l: 0, e0: 0, e1: 0 };
-    match *answer {
-        Ok(_) => none,
-        Err(ReadRefusal::At { number, place }) => Reading { refused: number, place: place as u64, ..none },
-        Err(ReadRefusal::Unsuitable(Triple { l, e0, e1 })) => Reading { refused: 10, l, e0, e1, ..none },
-    }
+/// What reading answers of a table that it accepts.
+const READ: Reading = Reading { refused: 0, place: 0, l: 0, e0: 0, e1: 0 };
+
+/// The answer, and what the table's numbers hold after it.
+fn plain_read(bytes: &[u8]) -> (Reading, Numbers) {
+    let refusal = match oracle::read_table(bytes) {
+        Ok(table) => return (READ, table.numbers()),
+        Err(ReadRefusal::At { number, place }) => Reading { refused: number, place: place as u64, ..READ },
+        Err(ReadRefusal::Unsuitable(Triple { l, e0, e1 })) => Reading { refused: 10, l, e0, e1, ..READ },
+    };
+    (refusal, linked::UNWRITTEN)
 }
 
 /// The table of bytes that only refusal 10 meets: the records without the judgement.
@@ -145,9 +152,7 @@ fn readings_agree(bytes: &[u8], expected: Reading, got: Reading) -> bool {
 }
 
 fn compare_read(tally: &mut Tally, bytes: &[u8]) -> Reading {
-    let answer = oracle::read_table(bytes);
-    let expected = plain_reading(&answer);
-    let numbers = answer.map_or(linked::UNWRITTEN, |table| table.numbers());
+    let (expected, numbers) = plain_read(bytes);
     let (got, got_numbers) = linked::read(bytes);
     tally.count(expected.refused);
     tally.check(readings_agree(bytes, expected, got) && got_numbers == numbers, || {
@@ -319,10 +324,6 @@ impl Side {
 
 // ---- Groups: the scope's examples ----
 
-fn z() -> Table {
-    Table::new(2, 4, 1, &[10])
-}
-
 fn expect_reading(tally: &mut Tally, bytes: &[u8], refused: u64, place: u64) {
     let got = compare_read(tally, bytes);
     tally.check(got.refused == refused && got.place == place, || {
@@ -354,17 +355,17 @@ fn examples_of_tables(tally: &mut Tally, draw: &mut Draw) {
 
 fn examples_of_steps(tally: &mut Tally, _: &mut Draw) {
     let mut coder = Twin::new(vec![7; 2]);
-    CODER.compare_start(tally, &z(), &mut coder);
-    let sent = [1, 1, 0, 0, 0].map(|info| compare_code(tally, &z(), &mut coder, info).block);
+    CODER.compare_start(tally, &z(1), &mut coder);
+    let sent = [1, 1, 0, 0, 0].map(|info| compare_code(tally, &z(1), &mut coder, info).block);
     tally.check(sent == [1, 3, 2, 2, 2], || format!("T10 sent {sent:?}"));
 
     let mut decoder = Twin::new(vec![7; 7]);
-    DECODER.compare_start(tally, &z(), &mut decoder);
-    let marks = [2, 2, 0, 0].map(|received| compare_decode(tally, &z(), &mut decoder, received).mark);
+    DECODER.compare_start(tally, &z(1), &mut decoder);
+    let marks = [2, 2, 0, 0].map(|received| compare_decode(tally, &z(1), &mut decoder, received).mark);
     tally.check(marks == [0, 0, 0, 4], || format!("T11 marks {marks:?}"));
 
     decoder.set(&[0, 3, 4, 0, 0, 0, 0]);
-    let answers: Vec<Decoded> = (0..7).map(|_| compare_decode(tally, &z(), &mut decoder, 0)).collect();
+    let answers: Vec<Decoded> = (0..7).map(|_| compare_decode(tally, &z(1), &mut decoder, 0)).collect();
     let parity_alone = Decoded { refused: 0, info: 0, mark: 3, error: 2 };
     let clean = Decoded { refused: 0, info: 0, mark: 1, error: 0 };
     tally.check(answers[5..] == [parity_alone, clean], || format!("T12 answers {answers:?}"));
@@ -382,7 +383,6 @@ fn bytes_of_every_refusal(tally: &mut Tally, _: &mut Draw) {
     let mut expect = |parts: &[&[u8]], refused, place| {
         expect_reading(tally, &parts.concat(), refused, place);
     };
-    expect(&[&sizes, &row_2, &row_1, &[0]], 0, 0);
     for (before, place) in [(vec![], 0), (sizes.clone(), 4), ([&sizes[..], &row_1].concat(), 14)] {
         expect(&[&before], 1, place);
         expect(&[&before, &[3]], 2, place);
@@ -899,6 +899,54 @@ fn everything_reached(tally: &mut Tally, _: &mut Draw) {
     tally.check(calls >= LEAST_CALLS, || format!("only {calls} calls compared"));
 }
 
+// ---- Listed cases ----
+
+/// Whether reading said this, and wrote the table or nothing. The triple of refusal 10 is free.
+fn is_said(says: &Says, reading: Reading, numbers: Numbers) -> bool {
+    let (right, written) = match *says {
+        Says::Refused(refused, place) => (reading == Reading { refused, place, ..READ }, linked::UNWRITTEN),
+        Says::Accepted(ref table) => (reading == READ, table.numbers()),
+        Says::Unsuitable(ref table) => {
+            let Reading { refused, place, l, e0, e1 } = reading;
+            let shown = oracle::shows_unsuitable(table, Triple { l, e0, e1 });
+            ((refused, place) == (10, 0) && shown, linked::UNWRITTEN)
+        }
+    };
+    right && numbers == written
+}
+
+/// Holds the plain answer and the linked one to the case, each by itself.
+fn check_reading(tally: &mut Tally, ReadCase { bytes, says }: &ReadCase) {
+    for (which, (reading, numbers)) in [("plain", plain_read(bytes)), ("linked", linked::read(bytes))] {
+        let said = is_said(says, reading, numbers);
+        tally.check(said, || format!("{which} answer: {reading:?} {numbers:?}"));
+    }
+}
+
+/// Holds both answers to the one that is due.
+fn check_answers<A: PartialEq + Debug>(tally: &mut Tally, due: A, plain: A, linked: A) {
+    tally.check(plain == due && linked == due, || format!("plain answer: {plain:?}, linked: {linked:?}"));
+}
+
+/// Holds both answers to the case, and every word of both memories.
+fn check_step(tally: &mut Tally, StepCase { table, memory, step, after }: &StepCase) {
+    let mut twin = Twin::new(memory.clone());
+    match *step {
+        Step::Code(info, due) => {
+            let plain = plain_coded(oracle::code(table, twin.plain(), u64::from(info)));
+            let linked = linked::code(&table.numbers(), twin.linked(), info);
+            check_answers(tally, due, plain, linked);
+        }
+        Step::Decode(received, due) => {
+            let plain = plain_decoded(oracle::decode(table, twin.plain(), u64::from(received)));
+            let linked = linked::decode(&table.numbers(), twin.linked(), received);
+            check_answers(tally, due, plain, linked);
+        }
+    }
+    tally.check(twin.plain == *after, || format!("plain memory: {:?}", twin.plain));
+    twin.check(tally, || String::from("linked memory"));
+}
+
 type Group = (&'static str, fn(&mut Tally, &mut Draw));
 
 const GROUPS: [Group; 24] = [
@@ -928,13 +976,21 @@ const GROUPS: [Group; 24] = [
     ("everything reached", everything_reached),
 ];
 
+fn verdict(holds: bool) -> &'static str {
+    if holds {
+        "ok"
+    } else {
+        "FAILED"
+    }
+}
+
 fn run_group(tally: &mut Tally, index: usize, (name, group): Group) -> bool {
     let (calls, began) = (tally.calls, Instant::now());
     // Each group has a seed of its own, so that one can change without the others.
     let mut draw = Draw::from_seed(SEED.wrapping_mul(index as u64 + 1));
     group(tally, &mut draw);
     let (mismatches, shown) = tally.close();
-    let verdict = if mismatches == 0 { "ok" } else { "FAILED" };
+    let verdict = verdict(mismatches == 0);
     println!("{verdict:6} {name}: {} calls, {:.1} s", tally.calls - calls, began.elapsed().as_secs_f64());
     if mismatches > 0 {
         println!("  {mismatches} mismatches, first of them:");
@@ -945,13 +1001,31 @@ fn run_group(tally: &mut Tally, index: usize, (name, group): Group) -> bool {
     mismatches == 0
 }
 
+/// Each case counts by itself, and each that fails is printed. Returns how many passed.
+fn run_cases<C: Debug>(tally: &mut Tally, name: &str, cases: &[C], check: fn(&mut Tally, &C)) -> usize {
+    let mut passed = 0;
+    for case in cases {
+        check(tally, case);
+        let (mismatches, shown) = tally.close();
+        passed += usize::from(mismatches == 0);
+        if mismatches > 0 {
+            println!("{case:?}\n  {}", shown.join("\n  "));
+        }
+    }
+    tally.calls += cases.len() as u64;
+    println!("{:6} {name}: {passed} of {} cases", verdict(passed == cases.len()), cases.len());
+    passed
+}
+
 fn main() {
     let mut tally = Tally::default();
-    let mut passed = 0;
+    let (read_cases, step_cases) = (read_cases(), step_cases());
+    let mut passed = run_cases(&mut tally, "listed table bytes", &read_cases, check_reading)
+        + run_cases(&mut tally, "listed steps", &step_cases, check_step);
     for (index, &group) in GROUPS.iter().enumerate() {
         passed += usize::from(run_group(&mut tally, index, group));
     }
-    let failed = GROUPS.len() - passed;
+    let failed = read_cases.len() + step_cases.len() + GROUPS.len() - passed;
     println!("{} calls compared", tally.calls);
     println!("refusals 1 to 15: {:?}", &tally.refusals[1..]);
     println!("marks 0 to 4: {:?}", tally.marks);

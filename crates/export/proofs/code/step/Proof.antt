@@ -1,9 +1,6 @@
 -- `export::code::step`: the part of the numbers that is lent is the rows. Assumes nothing.
-use mathlib.Core.Path.{ap, _∙_}
 use native.Mathlib.Omega.{arith}
 use borrow.Author.Needs.{needs}
-use Rattle.tables.specs.declared.table.Table.{Table}
-use Rattle.link.specs.Coder.{codeAnswer, codeMemory}
 use Rattle.export.proofs.Lent.{rows-lent}
 use Rattle.export.proofs.code.step.Statement.{statement}
 use Rattle.export.proofs.code.step.Tie as tie
@@ -25,12 +22,9 @@ same-length c = search needs
 
 returns : tie.Need-returns
 returns c =
-    let a = c .before .before .before .before .before .before .before .args in
-    let e = rows-lent (a .t) (a .numbers .now) (c .before .before .before .before .before .before .before .pre) in
-    let p = c .before .before .code-lent .ensures in (
-      p .0 ∙ ap (λ (t : Table). codeAnswer t (a .words .now) (a .info)) e,
-      p .1 .0 ∙ ap (λ (t : Table). codeMemory t (a .words .now) (a .info)) e,
-    )
+    let here = c .before .before .before .before .before .before .before in
+    let a = here .args in
+    rw (rows-lent (a .t) (a .numbers .now) (here .pre)) at (c .before .before .code-lent .ensures)
 
 pub step-spec : {M : Type 1} → statement M
 step-spec =

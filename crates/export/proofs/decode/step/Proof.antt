@@ -1,9 +1,6 @@
 -- `export::decode::step`: the part of the numbers that is lent is the rows. Assumes nothing.
-use mathlib.Core.Path.{ap, _∙_}
 use native.Mathlib.Omega.{arith}
 use borrow.Author.Needs.{needs}
-use Rattle.tables.specs.declared.table.Table.{Table}
-use Rattle.link.specs.Decoder.{decodeAnswer, decodeMemory}
 use Rattle.export.proofs.Lent.{rows-lent}
 use Rattle.export.proofs.decode.step.Statement.{statement}
 use Rattle.export.proofs.decode.step.Tie as tie
@@ -25,13 +22,11 @@ same-length c = search needs
 
 returns : tie.Need-returns
 returns c =
-    let a = c .before .before .before .before .before .before .before .args in
-    let e = rows-lent (a .t) (a .numbers .now) (c .before .before .before .before .before .before .before .pre) in
-    let p = c .before .before .decode-lent .ensures in (
-      p .0 ∙ ap (λ (t : Table). decodeAnswer t (a .words .now) (a .received)) e,
-      p .1 .0 ∙ ap (λ (t : Table). decodeMemory t (a .words .now) (a .received)) e,
-    )
+    let here = c .before .before .before .before .before .before .before in
+    let a = here .args in
+    rw (rows-lent (a .t) (a .numbers .now) (here .pre)) at (c .before .before .decode-lent .ensures)
 
 pub step-spec : {M : Type 1} → statement M
 step-spec =
-    tie.close (tie.spec sub-decode-lent part-decode-lent-start part-decode-lent-end decode-lent-requires same-length returns)
+    tie.close
+    (tie.spec sub-decode-lent part-decode-lent-start part-decode-lent-end decode-lent-requires same-length returns)

@@ -1,10 +1,9 @@
 -- `export::make::burst_make`: number and table of what making answers. Assumes nothing.
-use mathlib.Core.Path.{ap, ap₂, _∙_}
-use Prim.Native.Nat.{ℕ}
+use mathlib.Core.Path.{ap, _∙_}
 use borrow.Author.Needs.{needs}
 use Rattle.tables.specs.declared.make.Making.{Making}
 use Rattle.tables.specs.Made.{madeNumbers}
-use Rattle.export.specs.Table.{givenBack}
+use Rattle.export.specs.Numbers.{givenBack}
 use Rattle.export.specs.Answers.{numberOf}
 use Rattle.export.proofs.make.burst_make.Statement.{statement}
 use Rattle.export.proofs.make.burst_make.Tie as tie
@@ -23,10 +22,12 @@ returns c =
     let a = c .before .before .before .before .before .args in
     let m = c .before .before .before .before .make in
     let k = c .before .before .made in
-    let told = k .ensures ∙ ap (λ (x : Making). numberOf (madeNumbers (x .answer))) (m .ensures) in (
-      told,
-      c .give-back .ensures ∙ ap₂ (λ (x : ℕ) (y : Making). givenBack x (y .table) (a .table .now)) told (m .ensures),
-    )
+    record {
+      number = k .ensures ∙ ap (λ (x : Making). numberOf (madeNumbers (x .answer))) (m .ensures .answer);
+      table =
+          c .give-back .ensures
+          ∙ ap (λ (y : Making). givenBack (k .result) (y .table) (a .table .now)) (m .ensures .answer);
+    }
 
 pub burst-make-spec : {M : Type 1} → statement M
 burst-make-spec = tie.close (tie.spec make-requires made-requires give-back-requires returns)

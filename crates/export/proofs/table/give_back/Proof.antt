@@ -1,7 +1,7 @@
 -- `numbers::table::give_back`: refused or not. Assumes nothing.
 use mathlib.Core.Path.{sym, _∙_}
 use borrow.Author.Needs.{needs}
-use Rattle.export.proofs.TableLaws.{given-back}
+use Rattle.export.proofs.Numbers.{given-back}
 use Rattle.export.proofs.table.give_back.Statement.{statement}
 use Rattle.export.proofs.table.give_back.Tie as tie
 

@@ -6,7 +6,7 @@ use borrow.Author.Needs.{needs}
 use lib.ListN.{length, getD, take, length-set}
 use lib.Seq.{getD-drop}
 use Rattle.tables.specs.declared.table.Table.{Table}
-use Rattle.export.specs.Table.{numbersOf}
+use Rattle.export.specs.Numbers.{numbersOf}
 use Rattle.export.proofs.Copy.{one-more, all-of}
 use Rattle.export.proofs.table.put_table.Statement.{statement}
 use Rattle.export.proofs.table.put_table.Tie as tie

@@ -49,7 +49,8 @@ loop-again c =
     let long = rows-length (c .before .before .before) in (
       omega arith,
       length-set (l .rows) (l .i) (getD ns (3 + l .i) 0) ∙ l .inv .1,
-      rw (sym (getD-drop 3 ns (l .i) 0)) (one-more (l .rows) (drop 3 ns) (l .i) (omega arith) (omega arith) (l .inv .2)),
+      rw (sym (getD-drop 3 ns (l .i) 0))
+          (one-more (l .rows) (drop 3 ns) (l .i) (omega arith) (omega arith) (l .inv .2)),
     )
 
 returns : tie.Need-returns Inv-loop μ-loop

@@ -1,7 +1,7 @@
 -- `numbers::table::sizes_of`: three numbers. Assumes nothing.
 use mathlib.Core.Path.{refl}
 use borrow.Author.Needs.{needs}
-use Rattle.export.specs.Table.{sizesOf}
+use Rattle.export.specs.Numbers.{sizesOf}
 use Rattle.export.proofs.table.sizes_of.Statement.{statement}
 use Rattle.export.proofs.table.sizes_of.Tie as tie
 

@@ -5,7 +5,7 @@ use Prim.Native.Nat.{ℕ}
 use borrow.Author.Needs.{needs}
 use Rattle.tables.specs.declared.table.Table.{Table}
 use Rattle.tables.specs.Table.{table}
-use Rattle.export.proofs.TableLaws.{table-parts}
+use Rattle.export.proofs.Numbers.{table-parts}
 use Rattle.export.proofs.table.table_of.Statement.{statement}
 use Rattle.export.proofs.table.table_of.Tie as tie
 
@@ -18,7 +18,8 @@ sizes-of-requires c κs = search needs
 returns : tie.Need-returns
 returns c =
     let numbers = c .before .before .before .args .numbers .now in
-    ap₂ (λ (t : Table) (rows : List ℕ). table (t .symbols) (t .span) (t .depth) rows) (c .sizes-of .ensures) (c .before .rows-of .ensures)
+    ap₂ (λ (t : Table) (rows : List ℕ). table (t .symbols) (t .span) (t .depth) rows) (c .sizes-of .ensures)
+    (c .before .rows-of .ensures)
     ∙ table-parts numbers
 
 pub table-of-spec : {M : Type 1} → statement M

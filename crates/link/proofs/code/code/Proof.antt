@@ -16,7 +16,7 @@ returns : tie.Need-returns
 returns c =
     let a = c .before .before .before .before .before .before .before .before .args in
     let size : length (a .t1 .rows) ≡ 15 = search needs in
-    rw (lent-rows (a .t1) (a .t1 .rows) .3 size) at (c .before .before .code-lent .ensures)
+    rw (lent-rows (a .t1) (a .t1 .rows) .0 size) at (c .before .before .code-lent .ensures)
 
 pub code-spec : {M : Type 1} → statement M
 code-spec = tie.close (tie.spec code-lent-requires same-length returns)

@@ -5,11 +5,10 @@ use borrow.Author.Needs.{needs}
 use lib.ListN.{length}
 use Rattle.tables.specs.declared.table.Table.{Table}
 use Rattle.tables.specs.Lent.{withRows, lent}
-use Rattle.link.specs.Coder.{coderFault, codeAnswer, codeMemory}
+use Rattle.link.specs.Refusals.{coderFault}
+use Rattle.link.specs.Coder.{codeAnswer, codeMemory}
 use Rattle.link.specs.declared.code.CodeAnswer.the-variants.{Coded, Refused}
-use Rattle.link.proofs.CoderFaults.{code-refuses, codes}
-use Rattle.link.proofs.CoderLent.{code-lent-taken}
-use Rattle.link.proofs.CoderAnswers.{code-told}
+use Rattle.link.proofs.Coder.{code-refuses, codes, codes-so, code-lent-taken}
 use Rattle.link.proofs.Coder.{coded-fits}
 use Rattle.link.proofs.code.code_lent.Statement.{statement}
 use Rattle.link.proofs.code.code_lent.Tie as tie
@@ -35,8 +34,9 @@ returns : tie.Need-returns
 returns c =
     let a = c .before .before .before .before .before .args in
     let u = lent (a .t) (a .rows .now) in
-    let e = code-refuses u (a .state .now) (a .info) (c .before .fault .result) (sym (c .before .fault .ensures)) (omega arith) in
-    code-told u (a .state .now) (a .info) (Refused (c .before .fault .result)) (a .state .now) (e .0) (e .1)
+    let e = code-refuses u (a .state .now) (a .info) (c .before .fault .result) (sym (c .before .fault .ensures))
+    (omega arith) in
+    codes-so u (a .state .now) (a .info) (Refused (c .before .fault .result)) (a .state .now) (e .0) (e .1)
 
 taken-requires : tie.Need-taken-requires
 taken-requires c κs = taken-whole (c .before) .2
@@ -45,7 +45,10 @@ cast-t13 : tie.Need-cast-t13
 cast-t13 c =
     let a = c .before .before .before .before .before .before .before .before .before .args in
     let k = taken-whole (c .before .before .before .before) in
-    record { fits = rw (c .before .before .taken .ensures .0) (coded-fits (withRows (a .t) (a .rows .now)) (a .state .now) (a .info) (k .2)) }
+    record {
+      fits = rw (c .before .before .taken .ensures .0)
+          (coded-fits (withRows (a .t) (a .rows .now)) (a .state .now) (a .info) (k .2));
+    }
 
 same-length-2 : tie.Need-same-length-2
 same-length-2 c = search needs
@@ -56,7 +59,8 @@ returns-2 c =
     let s = a .state .now in
     let k = taken-whole (c .before .before .before .before) in
     let e = codes (withRows (a .t) (a .rows .now)) s (a .info) (k .2) in
-    code-told (lent (a .t) (a .rows .now)) s (a .info) (Coded (c .before .before .taken .result)) (c .before .before .taken .last .1 .1 .0)
+    codes-so (lent (a .t) (a .rows .now)) s (a .info) (Coded (c .before .before .taken .result))
+    (c .before .before .taken .last .1 .1 .0)
     (ap Coded (c .before .before .taken .ensures .0) ∙ e .0 ∙ ap (λ (u : Table). codeAnswer u s (a .info)) (sym (k .0)))
     (c .before .before .taken .ensures .1 ∙ e .1 ∙ ap (λ (u : Table). codeMemory u s (a .info)) (sym (k .0)))
 

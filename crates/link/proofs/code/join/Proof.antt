@@ -21,8 +21,10 @@ same-length c = search needs
 
 returns : tie.Need-returns
 returns c =
-    let e = c .joining .ensures in
-    (ap (λ (w : ℕ). w % 2) e ∙ odd-mod _, ap (λ (w : ℕ). set (c .before .before .before .before .args .part .now) 0 (w / 2)) e)
+    let e = c .joining .ensures in (
+      ap (λ (w : ℕ). w % 2) e ∙ odd-mod _,
+      ap (λ (w : ℕ). set (c .before .before .before .before .args .part .now) 0 (w / 2)) e,
+    )
 
 pub join-spec : {M : Type 1} → statement M
 join-spec =

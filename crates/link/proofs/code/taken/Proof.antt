@@ -9,8 +9,7 @@ use borrow.Rule.Slice.PartMut.{midOf, putMid}
 use lib.ListN.{length, getD, set, length-set}
 use Rattle.span.specs.Word.{odd, digit}
 use Rattle.tables.specs.declared.table.Table.{Table}
-use Rattle.link.specs.Stream.{joining}
-use Rattle.link.specs.Memory.{turnOf}
+use Rattle.link.specs.Memory.{joining, turnOf}
 use Rattle.link.specs.Coder.{coderJoining, codedBlock, coderNext}
 use Rattle.span.proofs.Masks.{bit-shifted}
 use Rattle.link.proofs.Parts.{mid-word, put-word}
@@ -20,7 +19,8 @@ use Rattle.tables.specs.Table.{infoRows}
 use Rattle.link.proofs.code.taken.Statement.{statement}
 use Rattle.link.proofs.code.taken.Tie as tie
 
--- the turn's part, in plain terms: its word is the pending word, so that the parity and the memory that come of it are those of the step
+-- the turn's part, in plain terms: its word is the pending word, so that the parity and the memory that come of it are
+-- those of the step
 module _ (t : Table) (s : List ℕ) (b : ℕ) where
   abbrev at : ℕ
   at = 1 + turnOf s
@@ -30,7 +30,9 @@ module _ (t : Table) (s : List ℕ) (b : ℕ) where
 
   joined : joining (infoRows t) (getD part 0 0) b ≡ coderJoining t s b
   unfolding coderJoining
-  joined = ap (λ (p : ℕ). joining (infoRows t) p b) (mid-word s at (at + 1) 0 (omega arith) ∙ ap (λ (i : ℕ). getD s i 0) (add-zero at))
+  joined =
+      ap (λ (p : ℕ). joining (infoRows t) p b)
+      (mid-word s at (at + 1) 0 (omega arith) ∙ ap (λ (i : ℕ). getD s i 0) (add-zero at))
 
   shifted-is : t .symbols - 1 ≤ 15 → (parity : ℕ) → parity ≡ digit (odd (joining (infoRows t) (getD part 0 0) b))
       → parity * 2 ^ (t .symbols - 1) % 2 ^ 64 ≡ digit (odd (coderJoining t s b)) * 2 ^ (t .symbols - 1)
@@ -94,9 +96,11 @@ shifted : (c : tie.After-next-turn)
     c .before .before .before .join .result * 2 ^ (a .t .symbols - 1) % 2 ^ 64
     ≡ digit (odd (coderJoining (withRows (a .t) (a .rows .now)) (a .state .now) (a .info))) * 2 ^ (a .t .symbols - 1)
 shifted c =
-    let a = c .before .before .before .before .before .before .before .before .before .args in
-    let n = tests (c .before .before .before .before .before .before .before .before .before) .sizes .n-to in
-    shifted-is (withRows (a .t) (a .rows .now)) (a .state .now) (a .info) (omega arith) (c .before .before .before .join .result) (c .before .before .before .join .ensures .0)
+    let here = c .before .before .before .before .before .before .before .before .before in
+    let a = here .args in
+    let n = tests (here) .sizes .n-to in
+    shifted-is (withRows (a .t) (a .rows .now)) (a .state .now) (a .info) (omega arith)
+    (c .before .before .before .join .result) (c .before .before .before .join .ensures .0)
 
 memory : (c : tie.After-next-turn)
     → let a = c .before .before .before .before .before .before .before .before .before .args in
@@ -104,15 +108,23 @@ memory : (c : tie.After-next-turn)
     putMid at (at + 1 - at) (a .state .now) (c .before .before .before .join .last .0)
     ≡ set (a .state .now) at (coderJoining (withRows (a .t) (a .rows .now)) (a .state .now) (a .info) / 2)
 memory c =
-    let a = c .before .before .before .before .before .before .before .before .before .args in
-    let k = tests (c .before .before .before .before .before .before .before .before .before) in
-    memory-is (withRows (a .t) (a .rows .now)) (a .state .now) (a .info) (omega arith) (c .before .before .before .join .last .0) (c .before .before .before .join .ensures .1)
+    let here = c .before .before .before .before .before .before .before .before .before in
+    let a = here .args in
+    let k = tests (here) in
+    memory-is (withRows (a .t) (a .rows .now)) (a .state .now) (a .info) (omega arith)
+    (c .before .before .before .join .last .0) (c .before .before .before .join .ensures .1)
 
 slice-write-state : tie.Need-slice-write-state
 slice-write-state c =
-    let a = c .before .before .before .before .before .before .before .before .before .args in
-    let k = tests (c .before .before .before .before .before .before .before .before .before) in
-    omega (arith, ap length (memory c), length-set (a .state .now) (1 + turnOf (a .state .now)) (coderJoining (withRows (a .t) (a .rows .now)) (a .state .now) (a .info) / 2))
+    let here = c .before .before .before .before .before .before .before .before .before in
+    let a = here .args in
+    let k = tests (here) in
+    omega (
+      arith,
+      ap length (memory c),
+      length-set (a .state .now) (1 + turnOf (a .state .now))
+          (coderJoining (withRows (a .t) (a .rows .now)) (a .state .now) (a .info) / 2),
+    )
 
 shl-result : tie.Need-shl-result
 shl-result c =
@@ -122,8 +134,9 @@ shl-result c =
 add-result : tie.Need-add-result
 unfolding codedBlock
 add-result c =
-    let a = c .before .before .before .before .before .before .before .before .before .args in
-    let l = coded-fits (withRows (a .t) (a .rows .now)) (a .state .now) (a .info) (c .before .before .before .before .before .before .before .before .before .pre) in
+    let here = c .before .before .before .before .before .before .before .before .before in
+    let a = here .args in
+    let l = coded-fits (withRows (a .t) (a .rows .now)) (a .state .now) (a .info) (here .pre) in
     let e = shifted c in
     record { fits = omega arith }
 
@@ -133,8 +146,9 @@ same-length c = search needs
 returns : tie.Need-returns
 unfolding codedBlock coderNext
 returns c =
-    let a = c .before .before .before .before .before .before .before .before .before .args in
-    let k = tests (c .before .before .before .before .before .before .before .before .before) in (
+    let here = c .before .before .before .before .before .before .before .before .before in
+    let a = here .args in
+    let k = tests (here) in (
       ap (λ (x : ℕ). a .info + x) (shifted c),
       ap₂ (λ (x : List ℕ) (y : ℕ). set x 0 y) (memory c) (c .next-turn .ensures .0 (k .turn)),
     )

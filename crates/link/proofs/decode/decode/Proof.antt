@@ -16,7 +16,7 @@ returns : tie.Need-returns
 returns c =
     let a = c .before .before .before .before .before .before .before .before .args in
     let size : length (a .t1 .rows) ≡ 15 = search needs in
-    rw (lent-rows (a .t1) (a .t1 .rows) .3 size) at (c .before .before .decode-lent .ensures)
+    rw (lent-rows (a .t1) (a .t1 .rows) .0 size) at (c .before .before .decode-lent .ensures)
 
 pub decode-spec : {M : Type 1} → statement M
 decode-spec = tie.close (tie.spec decode-lent-requires same-length returns)

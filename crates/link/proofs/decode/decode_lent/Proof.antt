@@ -5,11 +5,10 @@ use borrow.Author.Needs.{needs}
 use lib.ListN.{length}
 use Rattle.tables.specs.declared.table.Table.{Table}
 use Rattle.tables.specs.Lent.{withRows, lent}
-use Rattle.link.specs.Decoder.{decoderFault, decodeAnswer, decodeMemory}
+use Rattle.link.specs.Refusals.{decoderFault}
+use Rattle.link.specs.Decoder.{decodeAnswer, decodeMemory}
 use Rattle.link.specs.declared.decode.DecodeAnswer.the-variants.{Refused}
-use Rattle.link.proofs.DecoderFaults.{decode-refuses, decodes}
-use Rattle.link.proofs.DecoderLent.{decode-lent-taken}
-use Rattle.link.proofs.DecoderAnswers.{decode-told}
+use Rattle.link.proofs.Decoder.{decode-refuses, decodes, decodes-so, decode-lent-taken}
 use Rattle.link.proofs.decode.decode_lent.Statement.{statement}
 use Rattle.link.proofs.decode.decode_lent.Tie as tie
 
@@ -34,8 +33,9 @@ returns : tie.Need-returns
 returns c =
     let a = c .before .before .before .before .before .args in
     let u = lent (a .t) (a .rows .now) in
-    let e = decode-refuses u (a .state .now) (a .received) (c .before .fault .result) (sym (c .before .fault .ensures)) (omega arith) in
-    decode-told u (a .state .now) (a .received) (Refused (c .before .fault .result)) (a .state .now) (e .0) (e .1)
+    let e = decode-refuses u (a .state .now) (a .received) (c .before .fault .result) (sym (c .before .fault .ensures))
+    (omega arith) in
+    decodes-so u (a .state .now) (a .received) (Refused (c .before .fault .result)) (a .state .now) (e .0) (e .1)
 
 taken-requires : tie.Need-taken-requires
 taken-requires c κs = let k = taken-whole (c .before) in (k .2, k .1)
@@ -49,7 +49,8 @@ returns-2 c =
     let s = a .state .now in
     let k = taken-whole (c .before .before .before .before) in
     let e = decodes (withRows (a .t) (a .rows .now)) s (a .received) (k .2) in
-    decode-told (lent (a .t) (a .rows .now)) s (a .received) (c .before .before .taken .result) (c .before .before .taken .last .1 .1 .0)
+    decodes-so (lent (a .t) (a .rows .now)) s (a .received) (c .before .before .taken .result)
+    (c .before .before .taken .last .1 .1 .0)
     (c .before .before .taken .ensures .0 ∙ e .0 ∙ ap (λ (u : Table). decodeAnswer u s (a .received)) (sym (k .0)))
     (c .before .before .taken .ensures .1 ∙ e .1 ∙ ap (λ (u : Table). decodeMemory u s (a .received)) (sym (k .0)))
 

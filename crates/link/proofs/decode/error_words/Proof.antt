@@ -18,7 +18,8 @@ abbrev μ-loop : tie.MeasureT-loop
 μ-loop rows n x words₀ i₀ words i = n - 1 - i
 
 -- one more word
-stored : (words : List ℕ) (i v : ℕ) (front : List ℕ) → i < length words → take i words ≡ front → take (i + 1) (set words i v) ≡ front ++ (v ∷ [])
+stored : (words : List ℕ) (i v : ℕ) (front : List ℕ) → i < length words → take i words ≡ front
+    → take (i + 1) (set words i v) ≡ front ++ (v ∷ [])
 stored words i v front h e =
     ap (λ (k : ℕ). take k (set words i v)) (add-one i) ∙ take-suc-set words i v h ∙ ap (λ (l : List ℕ). l ++ (v ∷ [])) e
 
@@ -82,7 +83,8 @@ returns c =
     let one : a .n ≡ a .n - 1 + 1 = omega arith in
     let first : take (a .n - 1) (l .words) ≡ take (a .n - 1) (a .rows .now) = rw all at (l .inv .2) in
     stored words (a .n) (a .x) (codeRows (a .n) (a .rows .now)) (omega arith)
-    (ap (λ (k : ℕ). take k words) one ∙ stored (l .words) (a .n - 1) 1 (take (a .n - 1) (a .rows .now)) (omega arith) first)
+    (ap (λ (k : ℕ). take k words) one
+    ∙ stored (l .words) (a .n - 1) 1 (take (a .n - 1) (a .rows .now)) (omega arith) first)
 
 pub error-words-spec : {M : Type 1} → statement M
 error-words-spec =

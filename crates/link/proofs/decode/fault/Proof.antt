@@ -9,11 +9,11 @@ use lib.Dec.{leb, ltb}
 use lib.ListN.{length}
 use Rattle.tables.specs.declared.table.Table.{Table}
 use Rattle.tables.specs.Table.{fit}
-use Rattle.tables.proofs.Bounds.{fit-facts}
+use Rattle.tables.proofs.Fit.{fit-facts}
 use Rattle.link.specs.Memory.{decoderWords}
-use Rattle.link.specs.Decoder.{decoderMalformed, decoderFault}
+use Rattle.link.specs.Refusals.{decoderMalformed, decoderFault}
 use Rattle.span.proofs.Masks.{above-mask}
-use Rattle.link.proofs.DecoderFaults.{decoder-fault}
+use Rattle.link.proofs.Decoder.{decoder-fault}
 use Rattle.link.proofs.Room.{fit-room}
 use Rattle.tables.specs.Lent.{withRows, lent}
 use Rattle.tables.proofs.Lent.{fit-lent}
@@ -26,49 +26,61 @@ lent-fits-requires c κs = search needs
 returns : tie.Need-returns
 returns c =
     let a = c .before .before .before .before .args in
-    let f : fit (lent (a .t) (a .rows .now)) ≡ false = sym (c .before .lent-fits .ensures) ∙ not-true _ (c .if1 .taken) in
+    let f : fit (lent (a .t) (a .rows .now)) ≡ false =
+    sym (c .before .lent-fits .ensures) ∙ not-true _ (c .if1 .taken) in
     sym (decoder-fault (lent (a .t) (a .rows .now)) (a .state .now) (a .block) ∙ simp f)
 
 add-if2 : tie.Need-add-if2
 add-if2 c =
     let a = c .before .before .before .before .before .args in
-    let f = fit-lent (a .t) (a .rows .now) (sym (c .before .before .lent-fits .ensures) ∙ not-false _ (c .before .if1 .left)) in
+    let f =
+    fit-lent (a .t) (a .rows .now) (sym (c .before .before .lent-fits .ensures) ∙ not-false _ (c .before .if1 .left)) in
     let z = fit-facts (withRows (a .t) (a .rows .now)) (f .1) in
     record { fits = omega arith }
 
 mul-if2 : tie.Need-mul-if2
 mul-if2 c =
     let a = c .before .before .before .before .before .before .args in
-    let f = fit-lent (a .t) (a .rows .now) (sym (c .before .before .before .lent-fits .ensures) ∙ not-false _ (c .before .before .if1 .left)) in
+    let f = fit-lent (a .t) (a .rows .now)
+    (sym (c .before .before .before .lent-fits .ensures) ∙ not-false _ (c .before .before .if1 .left)) in
     let m = fit-room (withRows (a .t) (a .rows .now)) (fit-facts (withRows (a .t) (a .rows .now)) (f .1)) in
     record { fits = omega arith }
 
 add-if2-2 : tie.Need-add-if2-2
 add-if2-2 c =
     let a = c .before .before .before .before .before .before .args in
-    let f = fit-lent (a .t) (a .rows .now) (sym (c .before .before .before .lent-fits .ensures) ∙ not-false _ (c .before .before .if1 .left)) in
+    let f = fit-lent (a .t) (a .rows .now)
+    (sym (c .before .before .before .lent-fits .ensures) ∙ not-false _ (c .before .before .if1 .left)) in
     let m = fit-room (withRows (a .t) (a .rows .now)) (fit-facts (withRows (a .t) (a .rows .now)) (f .1)) in
     record { fits = omega arith }
 
 returns-2 : tie.Need-returns-2
 returns-2 c =
     let a = c .before .before .before .before .before .before .before .args in
-    let f = fit-lent (a .t) (a .rows .now) (sym (c .before .before .before .before .lent-fits .ensures) ∙ not-false _ (c .before .before .before .if1 .left)) in
-    sym (ap (λ (u : Table). decoderFault u (a .state .now) (a .block)) (f .0) ∙ decoder-fault (withRows (a .t) (a .rows .now)) (a .state .now) (a .block) ∙ simp (f .1, ne-eqb (length (a .state .now)) (decoderWords (withRows (a .t) (a .rows .now))) (c .if2 .taken)))
+    let f = fit-lent (a .t) (a .rows .now) (sym (c .before .before .before .before .lent-fits .ensures)
+    ∙ not-false _ (c .before .before .before .if1 .left)) in
+    sym (ap (λ (u : Table). decoderFault u (a .state .now) (a .block)) (f .0)
+    ∙ decoder-fault (withRows (a .t) (a .rows .now)) (a .state .now) (a .block)
+    ∙ simp (f .1, ne-eqb (length (a .state .now)) (decoderWords (withRows (a .t) (a .rows .now))) (c .if2 .taken)))
 
 malformed-requires : tie.Need-malformed-requires
 malformed-requires c κs =
     let a = c .before .before .before .before .before .before .before .args in
-    let f = fit-lent (a .t) (a .rows .now) (sym (c .before .before .before .before .lent-fits .ensures) ∙ not-false _ (c .before .before .before .if1 .left)) in
+    let f = fit-lent (a .t) (a .rows .now) (sym (c .before .before .before .before .lent-fits .ensures)
+    ∙ not-false _ (c .before .before .before .if1 .left)) in
     ((a .rows .now, f .1), c .if2 .left)
 
 returns-3 : tie.Need-returns-3
 returns-3 c =
-    let a = c .before .before .before .before .before .before .before .before .before .args in
-    let f = fit-lent (a .t) (a .rows .now) (sym (c .before .before .before .before .before .before .lent-fits .ensures) ∙ not-false _ (c .before .before .before .before .before .if1 .left)) in
-    let size = eq-eqb (length (a .state .now)) (decoderWords (withRows (a .t) (a .rows .now))) (c .before .before .if2 .left) in
-    let out : decoderMalformed (withRows (a .t) (a .rows .now)) (a .state .now) ≡ true = sym (c .before .malformed .ensures) ∙ c .if3 .taken in
-    sym (ap (λ (u : Table). decoderFault u (a .state .now) (a .block)) (f .0) ∙ decoder-fault (withRows (a .t) (a .rows .now)) (a .state .now) (a .block) ∙ simp (f .1, size, out))
+    let here = c .before .before .before .before .before in
+    let a = here .before .before .before .before .args in
+    let f = fit-lent (a .t) (a .rows .now) (sym (here .before .lent-fits .ensures) ∙ not-false _ (here .if1 .left)) in
+    let size =
+    eq-eqb (length (a .state .now)) (decoderWords (withRows (a .t) (a .rows .now))) (c .before .before .if2 .left) in
+    let out : decoderMalformed (withRows (a .t) (a .rows .now)) (a .state .now) ≡ true =
+    sym (c .before .malformed .ensures) ∙ c .if3 .taken in
+    sym (ap (λ (u : Table). decoderFault u (a .state .now) (a .block)) (f .0)
+    ∙ decoder-fault (withRows (a .t) (a .rows .now)) (a .state .now) (a .block) ∙ simp (f .1, size, out))
 
 mask-requires : tie.Need-mask-requires
 mask-requires c κs = search needs
@@ -76,16 +88,21 @@ mask-requires c κs = search needs
 -- once 12 to 14 are settled, 15 is left
 settled : (c : tie.After-mask) (b : Bool)
     → let a = c .before .before .before .before .before .before .before .before .before .before .args in
-    ltb (c .mask .result) (a .block) ≡ b → cond b 15 0 ≡ decoderFault (lent (a .t) (a .rows .now)) (a .state .now) (a .block)
+    ltb (c .mask .result) (a .block) ≡ b
+    → cond b 15 0 ≡ decoderFault (lent (a .t) (a .rows .now)) (a .state .now) (a .block)
 settled c b out =
-    let a = c .before .before .before .before .before .before .before .before .before .before .args in
-    let f = fit-lent (a .t) (a .rows .now) (sym (c .before .before .before .before .before .before .before .lent-fits .ensures) ∙ not-false _ (c .before .before .before .before .before .before .if1 .left)) in
-    let size = eq-eqb (length (a .state .now)) (decoderWords (withRows (a .t) (a .rows .now))) (c .before .before .before .if2 .left) in
-    let in14 : decoderMalformed (withRows (a .t) (a .rows .now)) (a .state .now) ≡ false = sym (c .before .before .malformed .ensures) ∙ c .before .if3 .left in
+    let here = c .before .before .before .before .before .before in
+    let a = here .before .before .before .before .args in
+    let f = fit-lent (a .t) (a .rows .now) (sym (here .before .lent-fits .ensures) ∙ not-false _ (here .if1 .left)) in
+    let size = eq-eqb (length (a .state .now)) (decoderWords (withRows (a .t) (a .rows .now)))
+    (c .before .before .before .if2 .left) in
+    let in14 : decoderMalformed (withRows (a .t) (a .rows .now)) (a .state .now) ≡ false =
+    sym (c .before .before .malformed .ensures) ∙ c .before .if3 .left in
     let z = fit-facts (withRows (a .t) (a .rows .now)) (f .1) in
     let in15 : leb (2 ^ (a .t .symbols)) (a .block) ≡ b =
     sym (above-mask (a .t .symbols) (c .mask .result) (a .block) (omega arith) (c .mask .ensures)) ∙ out in
-    sym (ap (λ (u : Table). decoderFault u (a .state .now) (a .block)) (f .0) ∙ decoder-fault (withRows (a .t) (a .rows .now)) (a .state .now) (a .block) ∙ simp (f .1, size, in14, in15))
+    sym (ap (λ (u : Table). decoderFault u (a .state .now) (a .block)) (f .0)
+    ∙ decoder-fault (withRows (a .t) (a .rows .now)) (a .state .now) (a .block) ∙ simp (f .1, size, in14, in15))
 
 returns-4 : tie.Need-returns-4
 returns-4 c = settled (c .before) true (lt-ltb _ _ (c .if4 .taken))

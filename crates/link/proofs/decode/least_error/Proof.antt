@@ -38,20 +38,24 @@ shl-t12 c = search needs
 
 sub-t13 : tie.Need-sub-t13
 sub-t13 c =
-    let a = c .before .before .before .before .before .before .before .args in
+    let here = c .before .before .before .before .before in
+    let a = here .before .before .args in
     let R = codeRows (a .n) (a .rows .now) in
     let size : length R ≡ a .n = code-length (a .n) (a .rows .now) (omega arith) (omega arith) in
     let one = one-at (a .n) (omega arith) in
-    let f = error-found R (c .before .before .before .before .before .error-words .result) (a .n) (a .x) size (omega arith) (c .before .before .before .before .before .error-words .ensures) (c .before .relation .given .0 .0)
+    let f = error-found R (here .error-words .result) (a .n) (a .x) size (omega arith) (here .error-words .ensures)
+    (c .before .relation .given .0 .0)
     (sym (c .before .before .before .least-relation .ensures) ∙ c .before .relation .given .1) in
     omega arith
 
 returns : tie.Need-returns
 returns c =
-    let a = c .before .before .before .before .before .before .before .args in
+    let here = c .before .before .before .before .before in
+    let a = here .before .before .args in
     let R = codeRows (a .n) (a .rows .now) in
     let size : length R ≡ a .n = code-length (a .n) (a .rows .now) (omega arith) (omega arith) in
-    let f = error-found R (c .before .before .before .before .before .error-words .result) (a .n) (a .x) size (omega arith) (c .before .before .before .before .before .error-words .ensures) (c .before .relation .given .0 .0)
+    let f = error-found R (here .error-words .result) (a .n) (a .x) size (omega arith) (here .error-words .ensures)
+    (c .before .relation .given .0 .0)
     (sym (c .before .before .before .least-relation .ensures) ∙ c .before .relation .given .1) in
     sym (f .1 ∙ ap (λ (y : ℕ). Found (c .before .relation .given .0 .0 - y)) (sym (one-at (a .n) (omega arith))))
 
@@ -63,7 +67,8 @@ returns-2 c =
     let a = c .before .before .before .before .before .before .args in
     let R = codeRows (a .n) (a .rows .now) in
     let size : length R ≡ a .n = code-length (a .n) (a .rows .now) (omega arith) (omega arith) in
-    sym (error-missing R (c .before .before .before .before .error-words .result) (a .n) (a .x) size (omega arith) (c .before .before .before .before .error-words .ensures)
+    sym (error-missing R (c .before .before .before .before .error-words .result) (a .n) (a .x) size (omega arith)
+    (c .before .before .before .before .error-words .ensures)
     (sym (c .before .before .least-relation .ensures) ∙ c .enum-told .given .1))
 
 pub least-error-spec : {M : Type 1} → statement M

@@ -2,17 +2,18 @@
 use mathlib.Core.Path.{_≡_, sym, ap, ap₂, _∙_}
 use mathlib.Core.Bool.{Bool, _||_}
 use mathlib.Core.List.{List}
-use Prim.Native.Nat.{ℕ, _-_, _^_, _≤_, _<_}
+use Prim.Native.Nat.{ℕ, _+_, _-_, _^_, _≤_, _<_}
 use native.Mathlib.Omega.{arith}
 use borrow.Author.Needs.{needs}
 use borrow.Author.Tests.{le-leb, lt-leb, lt-ltb, le-ltb}
 use lib.Dec.{leb}
 use lib.ListN.{getD}
 use Rattle.tables.specs.declared.table.Table.{Table}
+use Rattle.tables.specs.Table.{infoRows}
 use Rattle.tables.specs.Lent.{withRows}
-use Rattle.tables.proofs.Bounds.{Fitting, fit-facts}
-use Rattle.link.specs.Memory.{turnOf}
-use Rattle.link.specs.Decoder.{fillOf, delayOf, pendingOf, syndromeOf, delayedOut, decoderMalformed}
+use Rattle.tables.proofs.Fit.{Fits, fit-facts}
+use Rattle.link.specs.Memory.{turnOf, fillOf, delayOf, streamAt, pendingOf, syndromeOf, delayedBound}
+use Rattle.link.specs.Refusals.{someAbove, decoderMalformed}
 use Rattle.link.proofs.Room.{fit-room, turn-room}
 use Rattle.link.proofs.decode.malformed.Statement.{statement}
 use Rattle.link.proofs.decode.malformed.Tie as tie
@@ -21,18 +22,19 @@ use Rattle.link.proofs.decode.malformed.Tie as tie
 late : (t : Table) (s : List ℕ) (r : Bool) → turnOf s < t .depth → fillOf s ≤ delayOf t
     → r
     ≡ leb (2 ^ (t .span - 1)) (pendingOf t s (turnOf s)) || leb (2 ^ (t .span - 1)) (syndromeOf t s (turnOf s))
-    || delayedOut t s (turnOf s) (t .span - 1)
+    || someAbove (delayedBound t) s (streamAt t (turnOf s) + 2) (t .span - 1)
     → r ≡ decoderMalformed t s
 late t s r turn fill e =
     e
     ∙ ap
-    (λ (b : Bool). b || leb (2 ^ (t .span - 1)) (pendingOf t s (turnOf s)) || leb (2 ^ (t .span - 1)) (syndromeOf t s (turnOf s)) || delayedOut t s (turnOf s) (t .span - 1))
+    (λ (b : Bool). b || leb (2 ^ (t .span - 1)) (pendingOf t s (turnOf s)) || leb (2 ^ (t .span - 1))
+    (syndromeOf t s (turnOf s)) || someAbove (delayedBound t) s (streamAt t (turnOf s) + 2) (t .span - 1))
     (sym (ap₂ _||_ (lt-leb (t .depth) (turnOf s) turn) (le-ltb (delayOf t) (fillOf s) fill)))
 
 abbrev table : tie.Start → Table
 table c = withRows (c .args .t) (c .pre .0 .0)
 
-sizes : (c : tie.Start) → Fitting (table c)
+sizes : (c : tie.Start) → Fits (table c .symbols) (table c .span) (table c .depth) (infoRows (table c))
 sizes c = fit-facts (table c) (c .pre .0 .1)
 
 shared-slice-read-turn : tie.Need-shared-slice-read-turn

@@ -1,4 +1,5 @@
--- `decoder::decode::push`: after i − 2 turns the words from 2 to i − 1 are those that stood one place later. Assumes nothing.
+-- `decoder::decode::push`: after i − 2 turns the words from 2 to i − 1 are those that stood one place later. Assumes
+-- nothing.
 use mathlib.Core.Path.{_≡_, refl, sym, ap, _∙_}
 use mathlib.Core.List.{List, [], _∷_, _++_}
 use Prim.Native.Nat.{ℕ, suc, _+_, _-_, _≤_, _<_}
@@ -25,12 +26,14 @@ Inv-loop part₀ youngest last i₀ part i = Moved part₀ part i
 abbrev μ-loop : tie.MeasureT-loop
 μ-loop part₀ youngest last i₀ part i = length part₀ - i
 
-moved-more : (old new : List ℕ) (i : ℕ) → suc i < length old → Moved old new i → Moved old (set new i (getD new (i + 1) 0)) (i + 1)
+moved-more : (old new : List ℕ) (i : ℕ) → suc i < length old → Moved old new i
+    → Moved old (set new i (getD new (i + 1) 0)) (i + 1)
 moved-more old new i h m = record {
   from = let z = m .from in omega arith;
   to = omega arith;
   size = length-set new i (getD new (i + 1) 0) ∙ m .size;
-  front = λ j l. let z = m .from in getD-set-other new i j (getD new (i + 1) 0) 0 (λ (e : j ≡ i). omega arith) ∙ m .front j l;
+  front = λ j l. let z = m .from in
+      getD-set-other new i j (getD new (i + 1) 0) 0 (λ (e : j ≡ i). omega arith) ∙ m .front j l;
   moved = λ j l u. here j l u (ℕ-discrete j i);
   rest = λ j l. getD-set-other new i j (getD new (i + 1) 0) 0 (λ (e : j ≡ i). omega arith) ∙ m .rest j (omega arith);
 }
@@ -38,13 +41,17 @@ moved-more old new i h m = record {
     here : (j : ℕ) → 2 ≤ j → j < i + 1 → Dec (j ≡ i) → getD (set new i (getD new (i + 1) 0)) j 0 ≡ getD old (suc j) 0
     here j l u (yes e) =
         let z = m .size in
-        ap (λ (k : ℕ). getD (set new i (getD new (i + 1) 0)) k 0) e ∙ getD-set-same new i (getD new (i + 1) 0) 0 (omega arith)
+        ap (λ (k : ℕ). getD (set new i (getD new (i + 1) 0)) k 0) e
+        ∙ getD-set-same new i (getD new (i + 1) 0) 0 (omega arith)
         ∙ m .rest (i + 1) (omega arith) ∙ ap (λ (k : ℕ). getD old k 0) (let q : i + 1 ≡ suc j = omega arith in q)
     here j l u (no e) = getD-set-other new i j (getD new (i + 1) 0) 0 e ∙ m .moved j l (omega arith)
 
 -- with the youngest at the end all have moved
-moved-all : (old new : List ℕ) (i y : ℕ) → suc i ≡ length old → Moved old new i → set new i y ≡ take 2 old ++ (drop 3 old ++ (y ∷ []))
-moved-all old new i y last m = ext-getD 0 (set new i y) goal (length-set new i y ∙ m .size ∙ sym whole) (λ j l. at j (decLt j 2) (ℕ-discrete j i) (l-of j l))
+moved-all : (old new : List ℕ) (i y : ℕ) → suc i ≡ length old → Moved old new i
+    → set new i y ≡ take 2 old ++ (drop 3 old ++ (y ∷ []))
+moved-all old new i y last m =
+    ext-getD 0 (set new i y) goal (length-set new i y ∙ m .size ∙ sym whole)
+    (λ j l. at j (decLt j 2) (ℕ-discrete j i) (l-of j l))
   where
     goal : List ℕ
     goal = take 2 old ++ (drop 3 old ++ (y ∷ []))
@@ -75,12 +82,14 @@ moved-all old new i y last m = ext-getD 0 (set new i y) goal (length-set new i y
     at j (yes a) e l =
         let z = m .from in
         getD-set-other new i j y 0 (λ (q : j ≡ i). omega arith) ∙ m .front j a
-        ∙ sym (List·getD-append (take 2 old) (drop 3 old ++ (y ∷ [])) 0 j (let t = two in omega arith) ∙ getD-take 2 old j 0 a)
+        ∙ sym (List·getD-append (take 2 old) (drop 3 old ++ (y ∷ [])) 0 j (let t = two in omega arith)
+        ∙ getD-take 2 old j 0 a)
     at j (no a) (yes e) l =
         let z = m .size in
         let p : j ≡ 2 + (j - 2) = omega arith in
         ap (λ (k : ℕ). getD (set new i y) k 0) e ∙ getD-set-same new i y 0 (omega arith)
-        ∙ sym (ap (λ (k : ℕ). getD goal k 0) p ∙ past (j - 2) ∙ getD-at (drop 3 old) y [] 0 (j - 2) (let t = tail in omega arith))
+        ∙ sym (ap (λ (k : ℕ). getD goal k 0) p ∙ past (j - 2)
+        ∙ getD-at (drop 3 old) y [] 0 (j - 2) (let t = tail in omega arith))
     at j (no a) (no e) l =
         let p : j ≡ 2 + (j - 2) = omega arith in
         let q : 3 + (j - 2) ≡ suc j = omega arith in
@@ -137,14 +146,16 @@ slice-write-part-2 c = search needs
 same-length : tie.Need-same-length Inv-loop μ-loop
 same-length c =
     let l = c .before .loop in
-    length-set (l .part) (length (c .before .before .args .part .now) - 1) (c .before .before .args .youngest) ∙ l .inv .size
+    length-set (l .part) (length (c .before .before .args .part .now) - 1) (c .before .before .args .youngest)
+    ∙ l .inv .size
 
 returns : tie.Need-returns Inv-loop μ-loop
 returns c =
     let l = c .before .loop in
     let a = c .before .before .args in
     let e : length (a .part .now) - 1 ≡ l .i = omega arith in
-    ap (λ (k : ℕ). set (l .part) k (a .youngest)) e ∙ moved-all (a .part .now) (l .part) (l .i) (a .youngest) (omega arith) (l .inv)
+    ap (λ (k : ℕ). set (l .part) k (a .youngest)) e
+    ∙ moved-all (a .part .now) (l .part) (l .i) (a .youngest) (omega arith) (l .inv)
 
 pub push-spec : {M : Type 1} → statement M
 push-spec =

@@ -17,7 +17,8 @@ use Rattle.link.proofs.decode.register.Tie as tie
 raw-is : (w n r : ℕ) → bitXor w (r / 2 ^ (n - 1)) % 2 ≡ digit (rawTerm w n r)
 raw-is w n r =
     let high = r / 2 ^ (n - 1) in
-    ap (λ (x : ℕ). x % 2) (xor-code w high) ∙ odd-mod (w ⊕ high) ∙ ap digit (odd-xor w high ∙ ap (λ (b : Bool). xor (odd w) b) (sym (bit-odd (n - 1) r)))
+    ap (λ (x : ℕ). x % 2) (xor-code w high) ∙ odd-mod (w ⊕ high)
+    ∙ ap digit (odd-xor w high ∙ ap (λ (b : Bool). xor (odd w) b) (sym (bit-odd (n - 1) r)))
 
 raised : (w n r k : ℕ) → k < 64 → bitXor w (r / 2 ^ (n - 1)) % 2 * 2 ^ k % 2 ^ 64 ≡ digit (rawTerm w n r) * 2 ^ k
 raised w n r k h = ap (λ (x : ℕ). x * 2 ^ k % 2 ^ 64) (raw-is w n r) ∙ bit-shifted (rawTerm w n r) k h

@@ -1,4 +1,5 @@
--- `decoder::decode::some_above`: the ones of the first i words together are above the bound exactly if one of them is. Assumes nothing.
+-- `decoder::decode::some_above`: the ones of the first i words together are above the bound exactly if one of them is.
+-- Assumes nothing.
 use mathlib.Core.Path.{_≡_, sym, ap, _∙_}
 use mathlib.Core.Bool.{Bool, _||_}
 use Prim.Native.Nat.{_+_, _-_, _^_, _≤_}
@@ -9,13 +10,14 @@ use borrow.Author.Tests.{lt-leb}
 use lib.Dec.{leb}
 use lib.ListN.{getD}
 use lib.Pow.{pow-pos}
-use Rattle.link.specs.Decoder.{someAbove}
+use Rattle.link.specs.Refusals.{someAbove}
 use Rattle.span.proofs.Masks.{above-mask, or-above}
 use Rattle.link.proofs.decode.some_above.Statement.{statement}
 use Rattle.link.proofs.decode.some_above.Tie as tie
 
 abbrev Inv-loop : tie.InvT-loop
-Inv-loop words from count width seen₀ i₀ seen i = (i ≤ count) × (leb (2 ^ width) seen ≡ someAbove (2 ^ width) words from i)
+Inv-loop words from count width seen₀ i₀ seen i =
+    (i ≤ count) × (leb (2 ^ width) seen ≡ someAbove (2 ^ width) words from i)
 
 abbrev μ-loop : tie.MeasureT-loop
 μ-loop words from count width seen₀ i₀ seen i = count - i

@@ -12,20 +12,24 @@ use Rattle.span.specs.Word.{_⊕_}
 use Rattle.span.proofs.Word.{xor-code}
 use Rattle.tables.specs.Table.{codeRows}
 use Rattle.link.specs.declared.decode.Mark.{Mark}
-use Rattle.link.specs.Stream.{joining}
-use Rattle.link.specs.Step.{information, rawTerm, register, streamJoining, streamRegister, streamFound, streamNext, streamInfo, streamMark, found, errorOf, keptOf, markOf}
+use Rattle.link.specs.Memory.{joining}
+use Rattle.link.specs.Step.{information, rawTerm, register, streamJoining, streamRegister, streamFound}
+use Rattle.link.specs.Step.{streamNext, streamInfo, streamMark, found, errorOf, keptOf, markOf}
 use Rattle.link.proofs.decode.step.Statement.{statement}
 use Rattle.link.proofs.decode.step.Tie as tie
 
 -- two words written, and the delayed blocks moved
-pushed : (part last : List ℕ) (a b y : ℕ) → 3 ≤ length part → last ≡ take 2 (set (set part 0 a) 1 b) ++ (drop 3 (set (set part 0 a) 1 b) ++ (y ∷ []))
+pushed : (part last : List ℕ) (a b y : ℕ) → 3 ≤ length part
+    → last ≡ take 2 (set (set part 0 a) 1 b) ++ (drop 3 (set (set part 0 a) 1 b) ++ (y ∷ []))
     → last ≡ a ∷ b ∷ (drop 3 part ++ (y ∷ []))
 pushed [] last a b y h e = absurd (omega arith)
 pushed (u ∷ []) last a b y h e = absurd (omega arith)
 pushed (u ∷ v ∷ part) last a b y h e = e
 
--- the four lines, in plain terms: information, the word that joins and the register, and what follows from the error found
-module _ (n N : ℕ) (rows part : List ℕ) (r i w x : ℕ) (low : i ≡ information n r) (joins : w ≡ joining (take (n - 1) rows) (getD part 0 0) i)
+-- the four lines, in plain terms: information, the word that joins and the register, and what follows from the error
+-- found
+module _ (n N : ℕ) (rows part : List ℕ) (r i w x : ℕ) (low : i ≡ information n r)
+    (joins : w ≡ joining (take (n - 1) rows) (getD part 0 0) i)
     (topped : x ≡ register N (getD part 1 0) (rawTerm w n r)) where
   joined : w ≡ streamJoining n rows (getD part 0 0) r
   joined = joins ∙ ap (joining (take (n - 1) rows) (getD part 0 0)) low
@@ -38,16 +42,20 @@ module _ (n N : ℕ) (rows part : List ℕ) (r i w x : ℕ) (low : i ≡ informa
       → last ≡ streamNext n N rows (getD part 0 0) (getD part 1 0) (drop 3 part) r
   part-is h kept k last e =
       pushed part last (w / 2) kept i h e
-      ∙ ap₂ (λ (y z : ℕ). y / 2 ∷ z ∷ (drop 3 part ++ (i ∷ []))) joined (k ∙ ap (λ (y : ℕ). keptOf (found (codeRows n rows) y) y) judged)
-      ∙ ap (λ (j : ℕ). streamJoining n rows (getD part 0 0) r / 2 ∷ keptOf (streamFound n N rows (getD part 0 0) (getD part 1 0) r) (streamRegister n N rows (getD part 0 0) (getD part 1 0) r) ∷ (drop 3 part ++ (j ∷ []))) low
+      ∙ ap₂ (λ (y z : ℕ). y / 2 ∷ z ∷ (drop 3 part ++ (i ∷ []))) joined
+      (k ∙ ap (λ (y : ℕ). keptOf (found (codeRows n rows) y) y) judged)
+      ∙ ap (λ (j : ℕ). streamJoining n rows (getD part 0 0) r / 2 ∷ keptOf (streamFound n N rows (getD part 0 0)
+      (getD part 1 0) r) (streamRegister n N rows (getD part 0 0) (getD part 1 0) r) ∷ (drop 3 part ++ (j ∷ []))) low
 
   info-is : (error corrected : ℕ) → error ≡ errorOf (found (codeRows n rows) x) → corrected ≡ information n error
       → bitXor (getD part 2 0) corrected ≡ streamInfo n N rows (getD part 0 0) (getD part 1 0) (getD part 2 0) r
   info-is error corrected e c =
       xor-code (getD part 2 0) corrected
-      ∙ ap (λ (y : ℕ). getD part 2 0 ⊕ y) (c ∙ ap (information n) (e ∙ ap (λ (y : ℕ). errorOf (found (codeRows n rows) y)) judged))
+      ∙ ap (λ (y : ℕ). getD part 2 0 ⊕ y)
+      (c ∙ ap (information n) (e ∙ ap (λ (y : ℕ). errorOf (found (codeRows n rows) y)) judged))
 
-  mark-is : (m : Mark) → m ≡ markOf (found (codeRows n rows) x) x → m ≡ streamMark n N rows (getD part 0 0) (getD part 1 0) r
+  mark-is : (m : Mark) → m ≡ markOf (found (codeRows n rows) x) x
+      → m ≡ streamMark n N rows (getD part 0 0) (getD part 1 0) r
   mark-is m e = e ∙ ap (λ (y : ℕ). markOf (found (codeRows n rows) y) y) judged
 
 information-requires : tie.Need-information-requires
@@ -68,8 +76,8 @@ slice-read-register c = search needs
 register-requires : tie.Need-register-requires
 register-requires c κs = search needs
 
-judge-requires : tie.Need-judge-requires
-judge-requires c κs = search needs
+explain-requires : tie.Need-explain-requires
+explain-requires c κs = search needs
 
 cast-error : tie.Need-cast-error
 cast-error c = search needs
@@ -91,48 +99,59 @@ information-requires-2 c κs = search needs
 
 cast-t23 : tie.Need-cast-t23
 cast-t23 c =
-    let a = c .before .before .before .before .before .before .before .before .before .before .before .before .before .before .before .args in
+    let here = c .before .before .before .before .before .before .before in
+    let a = here .before .before .before .before .before .before .before .before .args in
     let some = pow-pos (a .n - 1) in
     let e = c .information2 .ensures in
-    let low : c .information2 .result < 2 ^ (a .n - 1) = rw e (mod-lt (c .before .before .before .before .before .before .before .judge .result .error) (omega arith)) in
-    let l = xor-lt (a .n - 1) (getD (a .part .now) 2 0) (c .information2 .result) (c .before .before .before .before .before .before .before .before .before .before .before .before .before .before .before .pre .7) low in
+    let low : c .information2 .result < 2 ^ (a .n - 1) = rw e (mod-lt (here .explain .result .error) (omega arith)) in
+    let l = xor-lt (a .n - 1) (getD (a .part .now) 2 0) (c .information2 .result)
+    (here .before .before .before .before .before .before .before .before .pre .7) low in
     let h : a .n - 1 ≤ 16 = omega arith in
     let m = pow-mono h in
     record { fits = omega arith }
 
 -- the part as it comes back
 part-next : (c : tie.After-information2)
-    → let a = c .before .before .before .before .before .before .before .before .before .before .before .before .before .before .before .args in
-    c .before .before .before .push .last .0 ≡ streamNext (a .n) (a .span) (a .rows .now) (getD (a .part .now) 0 0) (getD (a .part .now) 1 0) (drop 3 (a .part .now)) (a .received)
+    → let a = c .before .before .before .before .before .before .before .before .before .before .before .before .before
+    .before .before .args in
+    c .before .before .before .push .last .0 ≡ streamNext (a .n) (a .span) (a .rows .now) (getD (a .part .now) 0 0)
+    (getD (a .part .now) 1 0) (drop 3 (a .part .now)) (a .received)
 part-next c =
-    let a = c .before .before .before .before .before .before .before .before .before .before .before .before .before .before .before .args in
-    let i = c .before .before .before .before .before .before .before .before .before .before .before .before .information in
-    let w = c .before .before .before .before .before .before .before .before .before .before .joining in
-    let x = c .before .before .before .before .before .before .before .before .register in
-    let v = c .before .before .before .before .before .before .before .judge in
+    let here = c .before .before .before .before .before .before .before in
+    let a = here .before .before .before .before .before .before .before .before .args in
+    let i = here .before .before .before .before .before .information in
+    let w = here .before .before .before .joining in
+    let x = here .before .register in
+    let v = here .explain in
     let p = c .before .before .before .push in
-    let size = c .before .before .before .before .before .before .before .before .before .before .before .before .before .before .before .pre .0 in
-    let from = c .before .before .before .before .before .before .before .before .before .before .before .before .before .before .before .pre .3 in
-    part-is (a .n) (a .span) (a .rows .now) (a .part .now) (a .received) (i .result) (w .result) (x .result) (i .ensures) (w .ensures) (x .ensures) (omega arith)
+    let size = here .before .before .before .before .before .before .before .before .pre .0 in
+    let from = here .before .before .before .before .before .before .before .before .pre .3 in
+    part-is (a .n) (a .span) (a .rows .now) (a .part .now) (a .received) (i .result) (w .result) (x .result)
+    (i .ensures) (w .ensures) (x .ensures) (omega arith)
     (v .result .kept) (v .ensures .1 .0) (p .last .0) (p .ensures)
 
 same-length : tie.Need-same-length
 same-length c =
-    let a = c .before .before .before .before .before .before .before .before .before .before .before .before .before .before .before .args in
+    let a = c .before .before .before .before .before .before .before .before .before .before .before .before .before
+    .before .before .args in
     let l = length-append (drop 3 (a .part .now)) (information (a .n) (a .received) ∷ []) in
     let d = length-drop 3 (a .part .now) in
     ap length (part-next c) ∙ omega arith
 
 returns : tie.Need-returns
 returns c =
-    let a = c .before .before .before .before .before .before .before .before .before .before .before .before .before .before .before .args in
-    let i = c .before .before .before .before .before .before .before .before .before .before .before .before .information in
-    let w = c .before .before .before .before .before .before .before .before .before .before .joining in
-    let x = c .before .before .before .before .before .before .before .before .register in
-    let v = c .before .before .before .before .before .before .before .judge in (
-      info-is (a .n) (a .span) (a .rows .now) (a .part .now) (a .received) (i .result) (w .result) (x .result) (i .ensures) (w .ensures) (x .ensures) (v .result .error) (c .information2 .result) (v .ensures .0) (c .information2 .ensures),
+    let here = c .before .before .before .before .before .before .before in
+    let a = here .before .before .before .before .before .before .before .before .args in
+    let i = here .before .before .before .before .before .information in
+    let w = here .before .before .before .joining in
+    let x = here .before .register in
+    let v = here .explain in (
+      info-is (a .n) (a .span) (a .rows .now) (a .part .now) (a .received) (i .result) (w .result) (x .result)
+          (i .ensures) (w .ensures) (x .ensures) (v .result .error) (c .information2 .result) (v .ensures .0)
+          (c .information2 .ensures),
       (
-        mark-is (a .n) (a .span) (a .rows .now) (a .part .now) (a .received) (i .result) (w .result) (x .result) (i .ensures) (w .ensures) (x .ensures) (v .result .mark) (v .ensures .1 .1),
+        mark-is (a .n) (a .span) (a .rows .now) (a .part .now) (a .received) (i .result) (w .result) (x .result)
+            (i .ensures) (w .ensures) (x .ensures) (v .result .mark) (v .ensures .1 .1),
         part-next c,
       ),
     )
@@ -147,7 +166,7 @@ step-spec =
     joining-requires
     slice-read-register
     register-requires
-    judge-requires
+    explain-requires
     cast-error
     slice-read-oldest
     slice-write-part

@@ -8,7 +8,7 @@ use borrow.Author.Tests.{lt-ltb, le-ltb}
 use lib.Bits.{bitOr}
 use lib.Dec.{leb}
 use lib.ListN.{getD}
-use Rattle.link.specs.Decoder.{someAbove}
+use Rattle.link.specs.Refusals.{someAbove}
 use Rattle.span.proofs.Masks.{above-mask, or-above}
 use Rattle.link.proofs.decode.stream_malformed.Statement.{statement}
 use Rattle.link.proofs.decode.stream_malformed.Tie as tie
@@ -42,7 +42,8 @@ returns c =
     let p = getD s (a .at) 0 in
     let q = getD s (a .at + 1) 0 in
     let e : leb (2 ^ k) p || leb (2 ^ k) q ≡ true =
-    sym (or-above k p q) ∙ sym (above-mask k (c .before .before .before .mask .result) (bitOr p q) (omega arith) (c .before .before .before .mask .ensures)) ∙ lt-ltb _ _ (c .if1 .taken) in
+    sym (or-above k p q) ∙ sym (above-mask k (c .before .before .before .mask .result) (bitOr p q) (omega arith)
+    (c .before .before .before .mask .ensures)) ∙ lt-ltb _ _ (c .if1 .taken) in
     ap (λ (b : Bool). b || someAbove (2 ^ (a .n - 1)) s (a .at + 2) k) (sym e)
 
 add-some-above : tie.Need-add-some-above
@@ -65,7 +66,8 @@ returns-2 c =
     let p = getD s (a .at) 0 in
     let q = getD s (a .at + 1) 0 in
     let e : leb (2 ^ k) p || leb (2 ^ k) q ≡ false =
-    sym (or-above k p q) ∙ sym (above-mask k (c .before .before .before .before .mask .result) (bitOr p q) (omega arith) (c .before .before .before .before .mask .ensures)) ∙ le-ltb _ _ (c .before .if1 .left) in
+    sym (or-above k p q) ∙ sym (above-mask k (c .before .before .before .before .mask .result) (bitOr p q) (omega arith)
+    (c .before .before .before .before .mask .ensures)) ∙ le-ltb _ _ (c .before .if1 .left) in
     c .some-above .ensures ∙ ap (λ (b : Bool). b || someAbove (2 ^ (a .n - 1)) s (a .at + 2) k) (sym e)
 
 pub stream-malformed-spec : {M : Type 1} → statement M

@@ -1,4 +1,5 @@
--- `decoder::decode::taken`: the turn's part as the step leaves it; around it nothing changes but fill and turn. Assumes nothing.
+-- `decoder::decode::taken`: the turn's part as the step leaves it; around it nothing changes but fill and turn. Assumes
+-- nothing.
 use mathlib.Core.Path.{_≡_, ap, _∙_}
 use Prim.Native.Nat.{_+_, _-_, _≤_}
 use native.Mathlib.Omega.{arith}
@@ -10,9 +11,9 @@ use lib.ListN.{length, set, length-set}
 use Rattle.tables.specs.declared.table.Table.{Table}
 use Rattle.tables.specs.Lent.{withRows}
 use Rattle.link.specs.declared.decode.DecodeAnswer.the-variants.{Delivery, NothingYet}
-use Rattle.link.specs.Memory.{turnOf}
-use Rattle.link.specs.Decoder.{fillOf, delayOf, streamAt, decoderNext, delivered, delivery}
-use Rattle.link.proofs.Faults.{picked, passed}
+use Rattle.link.specs.Memory.{turnOf, fillOf, delayOf, streamAt}
+use Rattle.link.specs.Decoder.{decoderNext, delivered, delivery}
+use Rattle.link.proofs.Refusals.{picked, passed}
 use Rattle.link.proofs.Decoder.{DecoderTaken, decoder-taken, replaced-front}
 use Rattle.link.proofs.Room.{fit-room, turn-room, oldest-lt}
 use Rattle.link.proofs.LentPart.{syndrome-is, oldest-is, lent-record, lent-memory, lent-next}
@@ -28,12 +29,13 @@ tests c = decoder-taken (table c) (c .args .state .now) (c .args .received) (c .
 
 -- the turn's part lies inside, and nothing overflows
 room : (c : tie.Start)
-    → (2 ≤ c .args .t .span) × (streamAt (table c) (turnOf (c .args .state .now)) + (c .args .t .span + 1) ≤ length (c .args .state .now))
+    → (2 ≤ c .args .t .span)
+    × (streamAt (table c) (turnOf (c .args .state .now)) + (c .args .t .span + 1) ≤ length (c .args .state .now))
     × (length (c .args .state .now) ≤ 4162) × (delayOf (table c) ≤ 4096)
 room c =
     let k = tests c in
     let most = fit-room (table c) (k .sizes) in
-    let inside = turn-room (table c) (k .sizes) (turnOf (c .args .state .now)) (k .turn) in
+    let inside = turn-room (table c) (k .sizes) (turnOf (c .args .state .now)) (k .fine .turn) in
     let size = k .size in
     (k .sizes .N-from, omega arith, omega arith, most .1)
 
@@ -102,7 +104,7 @@ step-requires c κs =
       k .sizes .N-from,
       k .sizes .N-to,
       (let n = k .sizes .n-to in omega arith),
-      rw (syndrome-is (table b) s (b .args .received) (r .0) (r .1)) (k .syndrome),
+      rw (syndrome-is (table b) s (b .args .received) (r .0) (r .1)) (k .fine .syndrome),
       rw (oldest-is (table b) s (b .args .received) (r .0) (r .1)) (oldest-lt (table b) s (b .args .received) k),
     )
 
@@ -147,17 +149,22 @@ slice-write-state-2 c =
 
 -- fill and turn advance from what they were
 next-is : (c : tie.After-next-turn)
-    → let b = c .before .before .before .before .before .before .before .before .before .before .before .before .before .before in
+    → let b =
+    c .before .before .before .before .before .before .before .before .before .before .before .before .before .before in
     let s = b .args .state .now in
     let at = streamAt (table b) (turnOf s) in
-    set (set (putMid at (at + (b .args .t .span + 1) - at) s (c .before .before .before .before .before .before .step .last .0)) 1 (c .before .next-fill .result)) 0 (c .next-turn .result)
+    set (set (putMid at (at + (b .args .t .span + 1) - at) s
+    (c .before .before .before .before .before .before .step .last .0)) 1 (c .before .next-fill .result)) 0
+    (c .next-turn .result)
     ≡ decoderNext (table b) s (b .args .received)
 next-is c =
-    let b = c .before .before .before .before .before .before .before .before .before .before .before .before .before .before in
+    let here = c .before .before .before .before .before .before in
+    let b = here .before .before .before .before .before .before .before .before in
     let r = room b in
-    let p = c .before .before .before .before .before .before .step in
+    let p = here .step in
     lent-next (table b) (b .args .state .now) (b .args .received) (r .0) (r .1) (p .last .0) (p .ensures .1 .1)
-    (c .before .next-fill .result) (c .next-turn .result) (c .before .next-fill .ensures) (c .next-turn .ensures .0 (tests b .turn))
+    (c .before .next-fill .result) (c .next-turn .result) (c .before .next-fill .ensures)
+    (c .next-turn .ensures .0 (tests b .fine .turn))
 
 same-length : tie.Need-same-length
 same-length c = search needs
@@ -165,9 +172,13 @@ same-length c = search needs
 returns : tie.Need-returns
 unfolding delivery
 returns c =
-    let b = c .before .before .before .before .before .before .before .before .before .before .before .before .before .before .before in
-    let s = b .args .state .now in
-    (picked (ltb (fillOf s) (delayOf (table b))) NothingYet (Delivery (delivered (table b) s (b .args .received))) (lt-ltb (fillOf s) (delayOf (table b)) (c .if1 .taken)), next-is (c .before))
+    let b = c .before .before .before .before .before .before .before .before .before .before .before .before .before
+    .before .before in
+    let s = b .args .state .now in (
+      picked (ltb (fillOf s) (delayOf (table b))) NothingYet (Delivery (delivered (table b) s (b .args .received)))
+          (lt-ltb (fillOf s) (delayOf (table b)) (c .if1 .taken)),
+      next-is (c .before),
+    )
 
 same-length-2 : tie.Need-same-length-2
 same-length-2 c = search needs
@@ -175,12 +186,15 @@ same-length-2 c = search needs
 returns-2 : tie.Need-returns-2
 unfolding delivery
 returns-2 c =
-    let b = c .before .before .before .before .before .before .before .before .before .before .before .before .before .before .before in
+    let here = c .before .before .before .before .before .before .before in
+    let b = here .before .before .before .before .before .before .before .before in
     let s = b .args .state .now in
     let r = room b in
-    let p = c .before .before .before .before .before .before .before .step in (
-      ap Delivery (lent-record (table b) s (b .args .received) (r .0) (r .1) (p .result) (p .ensures .0) (p .ensures .1 .0))
-          ∙ passed (ltb (fillOf s) (delayOf (table b))) NothingYet (Delivery (delivered (table b) s (b .args .received))) (le-ltb (fillOf s) (delayOf (table b)) (c .if1 .left)),
+    let p = here .step in (
+      ap Delivery
+          (lent-record (table b) s (b .args .received) (r .0) (r .1) (p .result) (p .ensures .0) (p .ensures .1 .0))
+          ∙ passed (ltb (fillOf s) (delayOf (table b))) NothingYet
+          (Delivery (delivered (table b) s (b .args .received))) (le-ltb (fillOf s) (delayOf (table b)) (c .if1 .left)),
       next-is (c .before),
     )
 

@@ -5,7 +5,8 @@ use Prim.Native.Nat.{ℕ, suc, _+_, _-_, _≤_, _<_}
 use native.Mathlib.Numerals.{add-one}
 use native.Mathlib.Omega.{arith}
 use borrow.Author.Needs.{needs}
-use lib.ListN.{length, set, drop, replicate, length-replicate, length-set, replicate-append-replicate, drop-of-length-le}
+use lib.ListN.{length, set, drop, replicate, length-replicate, length-set, replicate-append-replicate}
+use lib.ListN.{drop-of-length-le}
 use lib.Seq.{drop-cons, set-at}
 use Rattle.link.proofs.start.clear.Statement.{statement}
 use Rattle.link.proofs.start.clear.Tie as tie
@@ -59,7 +60,8 @@ returns c =
     let l = c .before .loop in
     let s = c .before .before .args .state .now in
     let all : l .i ≡ length s = omega arith in
-    l .inv .2 ∙ ap (cleared s) all ∙ ap (λ (x : List ℕ). replicate (length s) 0 ++ x) (drop-of-length-le s {i = length s} (omega arith))
+    l .inv .2 ∙ ap (cleared s) all
+    ∙ ap (λ (x : List ℕ). replicate (length s) 0 ++ x) (drop-of-length-le s {i = length s} (omega arith))
     ∙ append-nil (replicate (length s) 0)
 
 pub clear-spec : {M : Type 1} → statement M

@@ -7,8 +7,10 @@ use borrow.Author.Tests.{eq-eqb, ne-eqb}
 use lib.ListN.{length}
 use Rattle.tables.specs.declared.table.Table.{Table}
 use Rattle.tables.specs.Table.{fit}
-use Rattle.link.specs.Start.{startFault, started}
-use Rattle.link.proofs.Faults.{start-fault, start-refuses, starts}
+use Rattle.link.specs.Refusals.{startFault}
+use Rattle.link.specs.Memory.{started}
+use Rattle.link.proofs.Refusals.{start-fault}
+use Rattle.link.proofs.Starting.{start-refuses, starts}
 use Rattle.link.proofs.start.start.Statement.{statement}
 use Rattle.link.proofs.start.start.Tie as tie
 
@@ -17,8 +19,10 @@ returns c =
     let a = c .before .before .args in
     let s = a .state .now in
     let e : (t : Table) → fit t ≡ true → startFault t (a .words) s ≡ 13 =
-    (λ t f. start-fault t (a .words) s ∙ simp (f, ne-eqb (length s) (a .words) (c .if1 .taken))) in
-    (λ t f. start-refuses t (a .words) s 13 (e t f) (omega arith) .0, λ t f. start-refuses t (a .words) s 13 (e t f) (omega arith) .1)
+    (λ t f. start-fault t (a .words) s ∙ simp (f, ne-eqb (length s) (a .words) (c .if1 .taken))) in (
+      λ t f. start-refuses t (a .words) s 13 (e t f) (omega arith) .0,
+      λ t f. start-refuses t (a .words) s 13 (e t f) (omega arith) .1,
+    )
 
 clear-requires : tie.Need-clear-requires
 clear-requires c κs = search needs

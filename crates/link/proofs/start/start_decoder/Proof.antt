@@ -4,10 +4,10 @@ use Prim.Native.Nat.{_+_}
 use native.Mathlib.Nat.{mul-le-mul-right}
 use native.Mathlib.Omega.{arith}
 use borrow.Author.Needs.{needs}
-use Rattle.tables.proofs.Bounds.{fit-facts}
+use Rattle.tables.proofs.Fit.{fit-facts}
 use Rattle.link.specs.Memory.{decoderWords}
-use Rattle.link.proofs.Faults.{start-fault, start-refuses}
-use Rattle.link.proofs.Answers.{start-told}
+use Rattle.link.proofs.Refusals.{start-fault}
+use Rattle.link.proofs.Starting.{start-refuses, starts-so}
 use Rattle.link.specs.declared.start.StartAnswer.the-variants.{Refused}
 use Rattle.link.proofs.start.start_decoder.Statement.{statement}
 use Rattle.link.proofs.start.start_decoder.Tie as tie
@@ -24,14 +24,16 @@ add-start c =
 mul-start : tie.Need-mul-start
 mul-start c =
     let t = c .before .before .before .before .before .before .args .t in
-    let z = fit-facts t (sym (c .before .before .before .before .fits2 .ensures) ∙ c .before .before .before .if1 .taken) in
+    let z =
+    fit-facts t (sym (c .before .before .before .before .fits2 .ensures) ∙ c .before .before .before .if1 .taken) in
     let most = mul-le-mul-right (t .span + 1) (z .m-to) in
     record { fits = omega arith }
 
 add-start-2 : tie.Need-add-start-2
 add-start-2 c =
     let t = c .before .before .before .before .before .before .args .t in
-    let z = fit-facts t (sym (c .before .before .before .before .fits2 .ensures) ∙ c .before .before .before .if1 .taken) in
+    let z =
+    fit-facts t (sym (c .before .before .before .before .fits2 .ensures) ∙ c .before .before .before .if1 .taken) in
     let most = mul-le-mul-right (t .span + 1) (z .m-to) in
     record { fits = omega arith }
 
@@ -43,17 +45,20 @@ same-length c = search needs
 
 returns : tie.Need-returns
 returns c =
-    let a = c .before .before .before .before .before .before .before .before .before .args in
-    let f = sym (c .before .before .before .before .before .before .before .fits2 .ensures) ∙ c .before .before .before .before .before .before .if1 .taken in
-    start-told (a .t) (decoderWords (a .t)) (a .state .now) (c .before .before .start .result) (c .before .before .start .last .0)
+    let here = c .before .before .before .before .before .before in
+    let a = here .before .before .before .args in
+    let f = sym (here .before .fits2 .ensures) ∙ here .if1 .taken in
+    starts-so (a .t) (decoderWords (a .t)) (a .state .now) (c .before .before .start .result)
+    (c .before .before .start .last .0)
     (c .before .before .start .ensures .0 (a .t) f) (c .before .before .start .ensures .1 (a .t) f)
 
 returns-2 : tie.Need-returns-2
 returns-2 c =
     let a = c .before .before .before .args in
     let f = sym (c .before .fits2 .ensures) ∙ c .if1 .left in
-    let e = start-refuses (a .t) (decoderWords (a .t)) (a .state .now) 12 (start-fault (a .t) (decoderWords (a .t)) (a .state .now) ∙ simp f) (omega arith) in
-    start-told (a .t) (decoderWords (a .t)) (a .state .now) (Refused 12) (a .state .now) (e .0) (e .1)
+    let e = start-refuses (a .t) (decoderWords (a .t)) (a .state .now) 12
+    (start-fault (a .t) (decoderWords (a .t)) (a .state .now) ∙ simp f) (omega arith) in
+    starts-so (a .t) (decoderWords (a .t)) (a .state .now) (Refused 12) (a .state .now) (e .0) (e .1)
 
 pub start-decoder-spec : {M : Type 1} → statement M
 start-decoder-spec =

@@ -4,7 +4,7 @@ use Prim.Native.Nat.{ℕ}
 use borrow.Author.Needs.{needs}
 use Rattle.span.specs.Word.{_⊕_}
 use Rattle.span.proofs.Word.{xor-code}
-use Rattle.link.specs.Stream.{joining}
+use Rattle.link.specs.Memory.{joining}
 use Rattle.link.proofs.stream.joining.Statement.{statement}
 use Rattle.link.proofs.stream.joining.Tie as tie
 

@@ -15,7 +15,8 @@ add-next c = search needs
 returns : tie.Need-returns
 returns c =
     let a = c .before .before .args in (
-      λ h. add-one (a .turn) ∙ ap (λ (b : Bool). cond b 0 (suc (a .turn))) (sym (ne-eqb (suc (a .turn)) (a .depth) (λ (e : suc (a .turn) ≡ a .depth). omega arith))),
+      λ h. add-one (a .turn) ∙ ap (λ (b : Bool). cond b 0 (suc (a .turn)))
+          (sym (ne-eqb (suc (a .turn)) (a .depth) (λ (e : suc (a .turn) ≡ a .depth). omega arith))),
       λ h. absurd (omega arith),
     )
 

@@ -52,7 +52,8 @@ same-length c = search needs
 returns-2 : tie.Need-returns-2
 returns-2 c =
     let a = c .before .before .before .before .before .before .before .before .before .before .before .args in
-    opens-short (a .memory .now) (a .sizes .now) (c .stopped2 .result) (with-room (c .before .before .before .before)) (c .before .if2 .taken) (headed (c .before .before .before .before)) (c .stopped2 .ensures)
+    opens-short (a .memory .now) (a .sizes .now) (c .stopped2 .result) (with-room (c .before .before .before .before))
+    (c .before .if2 .taken) (headed (c .before .before .before .before)) (c .stopped2 .ensures)
 
 shared-slice-read-after-header : tie.Need-shared-slice-read-after-header
 shared-slice-read-after-header c = search needs
@@ -68,8 +69,9 @@ cast-after-header-2 c = record { fits = omega (arith, c .shared-slice-known3 .gi
 
 after-header-requires : tie.Need-after-header-requires
 after-header-requires c κs =
-    let a = c .before .before .before .before .before .before .before .before .before .before .before .before .before .before .args in
-    let h = c .before .before .before .before .before .before .before in
+    let here = c .before .before .before .before .before .before .before in
+    let a = here .before .before .before .before .before .before .before .args in
+    let h = here in
     let r = room-there (length (a .memory .now)) (length (a .out .now)) (with-room h) in
     (r .0, omega (arith, r .1, headed h .position, h .header .kept .0))
 
@@ -81,10 +83,12 @@ same-length-3 c = search needs
 
 returns-3 : tie.Need-returns-3
 returns-3 c =
-    let a = c .before .before .before .before .before .before .before .before .before .before .before .before .before .before .before .before .before .before .before .args in
-    let h = c .before .before .before .before .before .before .before .before .before .before .before .before in
+    let here = c .before .before .before .before .before .before .before .before .before in
+    let a = here .before .before .before .before .before .before .before .before .before .before .args in
+    let h = here .before .before .before in
     let r = room-there (length (a .memory .now)) (length (a .out .now)) (with-room h) in
-    opens-sizes (a .sizes .now) (with-room h) (c .before .before .before .before .before .before .before .before .before .if2 .left) (headed h) (c .before .before .before .before .after-header .ensures) (omega (arith, r .1))
+    opens-sizes (a .sizes .now) (with-room h) (here .if2 .left) (headed h)
+    (c .before .before .before .before .after-header .ensures) (omega (arith, r .1))
 
 pub opening-spec : {M : Type 1} → statement M
 opening-spec =

@@ -1,4 +1,5 @@
--- `report::opening::started`: the words of a made table's decoder are few, and a fit table starts them. Assumes nothing.
+-- `report::opening::started`: the words of a made table's decoder are few, and a fit table starts them. Assumes
+-- nothing.
 use mathlib.Core.Path.{refl, ap₂, _∙_}
 use mathlib.Core.List.{_++_}
 use Prim.Native.Nat.{_+_, _-_, _*_, _≤_}
@@ -7,9 +8,9 @@ use native.Mathlib.Omega.{arith}
 use borrow.Rule.Slice.PartMut.{midOf, mid-len, post-is}
 use borrow.Author.Needs.{needs}
 use lib.ListN.{length}
-use Rattle.tables.proofs.Bounds.{fit-facts}
+use Rattle.tables.proofs.Fit.{fit-facts}
 use Rattle.link.specs.Memory.{decoderWords}
-use Rattle.link.proofs.Answers.{starts-whole}
+use Rattle.link.proofs.Starting.{started-whole}
 use Rattle.report.proofs.opening.started.Statement.{statement}
 use Rattle.report.proofs.opening.started.Tie as tie
 
@@ -46,13 +47,16 @@ same-length c = search needs
 
 returns : tie.Need-returns
 returns c =
-    let a = c .before .before .before .before .before .before .before .args in
-    let p = c .before .before .before .before .before .before .before .pre in
+    let here = c .before .before .before .before .before .before .before in
+    let a = here .args in
+    let p = here .pre in
     let n = decoderWords (a .t) in
-    let room : n ≤ length (a .memory .now) = omega (arith, few (c .before .before .before .before .before .before .before), p .2) in
-    let whole = starts-whole (a .t) n (midOf 0 (n - 0) (a .memory .now)) (p .0) (let l = mid-len 0 n (a .memory .now) room in omega arith) in (
+    let room : n ≤ length (a .memory .now) = omega (arith, few (here), p .2) in
+    let whole = started-whole (a .t) n (midOf 0 (n - 0) (a .memory .now)) (p .0)
+    (let l = mid-len 0 n (a .memory .now) room in omega arith) in (
       refl,
-      ap₂ _++_ (c .before .before .start-decoder .ensures .1 .0 ∙ whole .1) (post-is 0 n (a .memory .now) (omega arith)),
+      ap₂ _++_ (c .before .before .start-decoder .ensures .memory ∙ whole .1)
+          (post-is 0 n (a .memory .now) (omega arith)),
     )
 
 pub started-spec : {M : Type 1} → statement M

@@ -11,7 +11,8 @@ zero-table-requires c κs = search needs
 
 returns : tie.Need-returns
 returns c =
-    ap (λ (t : Table). record { table = t; words = 0; end = c .before .args .end; number = 0; stopped = true }) (c .zero-table .ensures)
+    ap (λ (t : Table). record { table = t; words = 0; end = c .before .args .end; number = 0; stopped = true })
+    (c .zero-table .ensures)
 
 pub stopped-spec : {M : Type 1} → statement M
 stopped-spec = tie.close (tie.spec zero-table-requires returns)

@@ -29,8 +29,9 @@ same-length c = search needs
 
 returns : tie.Need-returns
 returns c =
-    let a = c .before .before .before .before .before .before .before .before .args in
-    let g = c .before .before .before .before .before .answer .given in
+    let here = c .before .before .before .before .before in
+    let a = here .before .before .before .args in
+    let g = here .answer .given in
     let w = c .before .before .line .ensures in
     printed-delivery (a .number) (a .answer) (g .0 .0) (g .1) (omega arith) (w .0) (w .1 .0) (w .1 .1)
 
@@ -44,10 +45,12 @@ same-length-2 c = search needs
 
 returns-3 : tie.Need-returns-3
 returns-3 c =
-    let a = c .before .before .before .before .before .before .before .before .args in
-    let g = c .before .before .before .before .before .answer2 .given in
+    let here = c .before .before .before .before .before in
+    let a = here .before .before .before .args in
+    let g = here .answer2 .given in
     let w = c .before .before .refusal .ensures in
-    printed-refusal (a .number) (a .answer) (g .0 .0) (g .1) (omega arith) (w .0) (w .1) (longest-line .refusal (g .0 .0) (omega arith))
+    printed-refusal (a .number) (a .answer) (g .0 .0) (g .1) (omega arith) (w .0) (w .1)
+    (longest-line .refusal (g .0 .0) (omega arith))
 
 pub answer-line-spec : {M : Type 1} → statement M
 answer-line-spec =

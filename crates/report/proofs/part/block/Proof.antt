@@ -7,7 +7,8 @@ use Rattle.report.proofs.part.block.Statement.{statement}
 use Rattle.report.proofs.part.block.Tie as tie
 
 -- the high byte is a byte
-high : (c : tie.After-shared-slice-known2) → getD (c .before .before .args .bytes .now) (c .before .before .args .at + 1) 0 < 256
+high : (c : tie.After-shared-slice-known2)
+    → getD (c .before .before .args .bytes .now) (c .before .before .args .at + 1) 0 < 256
 high c = let a = c .before .before .args in omega (arith, c .shared-slice-known2 .given (a .at + 1))
 
 shared-slice-read-result : tie.Need-shared-slice-read-result
@@ -29,7 +30,9 @@ mul-result : tie.Need-mul-result
 mul-result c = record { fits = omega (arith, high c) }
 
 add-result-2 : tie.Need-add-result-2
-add-result-2 c = let a = c .before .before .args in record { fits = omega (arith, high c, c .before .shared-slice-known .given (a .at)) }
+add-result-2 c =
+    let a = c .before .before .args in
+    record { fits = omega (arith, high c, c .before .shared-slice-known .given (a .at)) }
 
 returns : tie.Need-returns
 returns c = search needs

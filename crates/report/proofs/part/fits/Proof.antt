@@ -14,7 +14,9 @@ add-result c = search needs
 
 returns : tie.Need-returns
 unfolding partRoom
-returns c = let a = c .args in ap (λ (b : Bool). leb (a .number) (2 ^ 63) && b) (room-divided (a .bytes / 2 + 1) (a .room))
+returns c =
+    let a = c .args in
+    ap (λ (b : Bool). leb (a .number) (2 ^ 63) && b) (room-divided (a .bytes / 2 + 1) (a .room))
 
 pub fits-spec : {M : Type 1} → statement M
 fits-spec = tie.close (tie.spec add-result returns)

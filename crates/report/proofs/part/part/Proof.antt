@@ -12,7 +12,8 @@ fits-requires c κs = search needs
 list-requires : tie.Need-list-requires
 list-requires c κs =
     let a = c .before .before .before .before .before .before .before .args in
-    room-there (a .number) (length (a .bytes .now)) (length (a .out .now)) (sym (c .before .before .before .fits2 .ensures) ∙ c .before .before .if1 .taken)
+    room-there (a .number) (length (a .bytes .now)) (length (a .out .now))
+    (sym (c .before .before .before .fits2 .ensures) ∙ c .before .before .if1 .taken)
 
 same-length : tie.Need-same-length
 same-length c = search needs
@@ -22,13 +23,16 @@ same-length-2 c = search needs
 
 returns : tie.Need-returns
 returns c =
-    let a = c .before .before .before .before .before .before .before .before .before .before .before .before .args in
-    rw (listed-there (a .t) (a .state .now) (a .number) (a .bytes .now) (length (a .out .now)) (sym (c .before .before .before .before .before .before .before .before .fits2 .ensures) ∙ c .before .before .before .before .before .before .before .if1 .taken)) (c .before .before .before .before .list .ensures)
+    let here = c .before .before .before .before .before .before .before in
+    let a = here .before .before .before .before .before .args in
+    rw (listed-there (a .t) (a .state .now) (a .number) (a .bytes .now) (length (a .out .now))
+    (sym (here .before .fits2 .ensures) ∙ here .if1 .taken)) (c .before .before .before .before .list .ensures)
 
 returns-2 : tie.Need-returns-2
 returns-2 c =
     let a = c .before .before .before .before .before .args in
-    listed-nowhere (a .t) (a .state .now) (a .number) (a .bytes .now) (a .out .now) (sym (c .before .fits2 .ensures) ∙ c .if1 .left)
+    listed-nowhere (a .t) (a .state .now) (a .number) (a .bytes .now) (a .out .now)
+    (sym (c .before .fits2 .ensures) ∙ c .if1 .left)
 
 pub part-spec : {M : Type 1} → statement M
 part-spec =

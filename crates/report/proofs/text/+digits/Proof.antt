@@ -45,7 +45,9 @@ digits-put-byte-requires : (t : ℕ) → digits-lts.Need-put-byte-requires (
   digits-below t,
   digits.Post,
 ) (digits-at t) digits.Post
-digits-put-byte-requires t c κs = let a = c .before .before .before .args in omega (arith, one-digit (a .x) (omega arith))
+digits-put-byte-requires t c κs =
+    let a = c .before .before .before .args in
+    omega (arith, one-digit (a .x) (omega arith))
 
 digits-digits-requires : (t : ℕ) → digits-lts.Need-digits-requires (
   put-byte-reads.Asked,
@@ -53,7 +55,10 @@ digits-digits-requires : (t : ℕ) → digits-lts.Need-digits-requires (
   digits-below t,
   digits.Post,
 ) (digits-at t) digits.Post
-digits-digits-requires t c κs = let a = c .before .before .before .args in let m = more-digits (a .x) (omega arith) in (omega arith, omega arith)
+digits-digits-requires t c κs =
+    let a = c .before .before .before .args in
+    let m = more-digits (a .x) (omega arith) in
+    (omega arith, omega arith)
 
 digits-cast-put-byte-2 : (t : ℕ) → digits-lts.Need-cast-put-byte-2 (
   put-byte-reads.Asked,
@@ -77,7 +82,9 @@ digits-put-byte-requires-2 : (t : ℕ) → digits-lts.Need-put-byte-requires-2 (
   digits-below t,
   digits.Post,
 ) (digits-at t) digits.Post
-digits-put-byte-requires-2 t c κs = let a = c .before .before .before .before .before .before .before .args in omega (arith, more-digits (a .x) (omega arith), c .before .before .before .digits .ensures .position)
+digits-put-byte-requires-2 t c κs =
+    let a = c .before .before .before .before .before .before .before .args in
+    omega (arith, more-digits (a .x) (omega arith), c .before .before .before .digits .ensures .position)
 
 digits-same-length : (t : ℕ) → digits-lts.Need-same-length (
   put-byte-reads.Asked,
@@ -93,7 +100,9 @@ digits-returns : (t : ℕ) → digits-lts.Need-returns (
   digits-below t,
   digits.Post,
 ) (digits-at t) digits.Post
-digits-returns t c = let a = c .before .before .before .before .before .before .args in rw (decimal (a .x) .0 (omega arith)) (c .before .before .put-byte .ensures)
+digits-returns t c =
+    let a = c .before .before .before .before .before .before .args in
+    rw (decimal (a .x) .0 (omega arith)) (c .before .before .put-byte .ensures)
 
 digits-same-length-2 : (t : ℕ) → digits-lts.Need-same-length-2 (
   put-byte-reads.Asked,
@@ -112,7 +121,9 @@ digits-returns-2 : (t : ℕ) → digits-lts.Need-returns-2 (
 digits-returns-2 t c =
     let a = c .before .before .before .before .before .before .before .before .before .before .args in
     let m = more-digits (a .x) (omega arith) in
-    rw (decimal (a .x) .1 (omega arith)) (wrote-then (decimalOf (a .x / 10)) _ (c .before .before .before .before .before .before .digits .ensures) (c .before .before .put-byte2 .ensures) (omega arith))
+    rw (decimal (a .x) .1 (omega arith))
+    (wrote-then (decimalOf (a .x / 10)) _ (c .before .before .before .before .before .before .digits .ensures)
+    (c .before .before .put-byte2 .ensures) (omega arith))
 
 pub +digits-spec : {M : Type 1} → statement M
 +digits-spec = close μ-digits λ t. digits-lts.spec (

@@ -17,8 +17,9 @@ same-length c = search needs
 
 returns : tie.Need-returns
 returns c =
-    let a = c .before .before .before .before .before .before .before .before .before .args in
-    wrote-then (decimalOf (a .x)) _ (c .before .before .before .before .before .before .digits .ensures) (c .before .before .put-byte .ensures) (omega arith)
+    let here = c .before .before .before .before .before .before in
+    let a = here .before .before .before .args in
+    wrote-then (decimalOf (a .x)) _ (here .digits .ensures) (c .before .before .put-byte .ensures) (omega arith)
 
 pub field-spec : {M : Type 1} → statement M
 field-spec = tie.close (tie.spec digits-requires put-byte-requires same-length returns)

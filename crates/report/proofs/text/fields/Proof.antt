@@ -3,7 +3,8 @@ use mathlib.Core.List.{[], _∷_, _++_}
 use Prim.Native.Nat.{_+_, _≤_}
 use native.Mathlib.Omega.{arith}
 use lib.ListN.{length}
-use Rattle.link.specs.DecoderAnswers.{markWord, markError}
+use Rattle.link.specs.Decoder.{markError}
+use Rattle.report.specs.Text.{markWord}
 use Rattle.report.specs.Writing.{Wrote, longest}
 use Rattle.report.specs.Text.{decimalOf, space, newline}
 use Rattle.report.proofs.Digits.{digits-64, digits-16}
@@ -14,7 +15,8 @@ use Rattle.report.proofs.text.fields.Tie as tie
 
 -- what is known at the entry
 known : (s : tie.Start)
-    → (length (decimalOf (s .args .number)) ≤ 20) × (length (decimalOf (s .args .d .info)) ≤ 5) × (s .args .at + longest ≤ length (s .args .out .now))
+    → (length (decimalOf (s .args .number)) ≤ 20) × (length (decimalOf (s .args .d .info)) ≤ 5)
+    × (s .args .at + longest ≤ length (s .args .out .now))
 known s = (digits-64 (s .args .number) (omega arith), digits-16 (s .args .d .info) (omega arith), s .pre)
 
 field-requires : tie.Need-field-requires
@@ -27,12 +29,20 @@ field-requires-2 : tie.Need-field-requires-2
 field-requires-2 c κs =
     let a = c .before .before .before .before .before .before .before .args in
     let f = c .before .before .before .before .field in
-    omega (arith, digits-64 (a .number) (omega arith), digits-16 (a .d .info) (omega arith), f .ensures .position, f .kept .0, field-length (a .number) space)
+    omega (
+      arith,
+      digits-64 (a .number) (omega arith),
+      digits-16 (a .d .info) (omega arith),
+      f .ensures .position,
+      f .kept .0,
+      field-length (a .number) space,
+    )
 
 word-requires : tie.Need-word-requires
 word-requires c κs =
-    let a = c .before .before .before .before .before .before .before .before .before .before .before .args in
-    let f = c .before .before .before .before .before .before .before .before .field in
+    let here = c .before .before .before .before .before .before .before .before in
+    let a = here .before .before .before .args in
+    let f = here .field in
     let g = c .before .before .before .field2 in
     omega (
       arith,
@@ -54,9 +64,10 @@ cast-field-2 c = search needs
 
 field-requires-3 : tie.Need-field-requires-3
 field-requires-3 c κs =
-    let a = c .before .before .before .before .before .before .before .before .before .before .before .before .before .before .before .before .args in
-    let f = c .before .before .before .before .before .before .before .before .before .before .before .before .before .field in
-    let g = c .before .before .before .before .before .before .before .before .field2 in
+    let here = c .before .before .before .before .before .before .before .before in
+    let a = here .before .before .before .before .before .before .before .before .args in
+    let f = here .before .before .before .before .before .field in
+    let g = here .field2 in
     let w = c .before .before .before .before .word in
     omega (
       arith,
@@ -79,19 +90,23 @@ same-length c = search needs
 
 returns : tie.Need-returns
 returns c =
-    let a = c .before .before .before .before .before .before .before .before .before .before .before .before .before .before .before .before .before .before .before .args in
-    let f = c .before .before .before .before .before .before .before .before .before .before .before .before .before .before .before .before .field in
-    let g = c .before .before .before .before .before .before .before .before .before .before .before .field2 in
-    let w = c .before .before .before .before .before .before .before .word in
+    let here = c .before .before .before .before .before .before .before in
+    let a =
+    here .before .before .before .before .before .before .before .before .before .before .before .before .args in
+    let f = here .before .before .before .before .before .before .before .before .before .field in
+    let g = here .before .before .before .before .field2 in
+    let w = here .word in
     let z = c .before .before .field3 in
     let number = decimalOf (a .number) ++ (space ∷ []) in
     let info = decimalOf (a .d .info) ++ (space ∷ []) in
     let mark = markWord (a .d .mark) ++ (space ∷ []) in
     let error = decimalOf (markError (a .d .mark)) ++ (newline ∷ []) in
-    let last : Wrote (w .last .0) (w .result) error (z .last .0) (z .result) = rw (c .before .before .before .error-of .ensures) at (z .ensures) in
+    let last : Wrote (w .last .0) (w .result) error (z .last .0) (z .result) =
+    rw (c .before .before .before .error-of .ensures) at (z .ensures) in
     let n₁ = field-length (a .number) space in
     let n₂ = field-length (a .d .info) space in
-    let e = known (c .before .before .before .before .before .before .before .before .before .before .before .before .before .before .before .before .before .before .before) in
+    let e =
+    known (here .before .before .before .before .before .before .before .before .before .before .before .before) in
     let m₃ = word-length (a .d .mark) in
     let p₁ = f .ensures .position in
     let k₁ = f .kept .0 in
@@ -104,7 +119,8 @@ returns c =
     let m₄ = digits-16 (c .before .before .before .error-of .result) (omega arith) in (
       rw (← line-fields (a .number) (a .d))
           (wrote-then number (info ++ (mark ++ error)) (f .ensures)
-          (wrote-then info (mark ++ error) (g .ensures) (wrote-then mark error (w .ensures) last (omega arith)) (omega arith))
+          (wrote-then info (mark ++ error) (g .ensures)
+          (wrote-then mark error (w .ensures) last (omega arith)) (omega arith))
           (omega arith)),
       omega arith,
     )

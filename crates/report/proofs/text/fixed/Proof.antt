@@ -13,17 +13,20 @@ has-room-requires c κs = search needs
 
 put-bytes-requires : tie.Need-put-bytes-requires
 put-bytes-requires c κs =
-    let a = c .before .before .before .before .before .before .args in
+    let here = c .before .before .before .before .before .before in
+    let a = here .args in
     let h : room (a .out .now) (a .at) ≡ true = sym (c .before .before .has-room .ensures) ∙ c .before .if1 .taken in
-    omega (arith, room-free (a .out .now) (a .at) h, c .before .before .before .before .before .before .pre)
+    omega (arith, room-free (a .out .now) (a .at) h, here .pre)
 
 same-length : tie.Need-same-length
 same-length c = search needs
 
 returns : tie.Need-returns
 returns c =
-    let a = c .before .before .before .before .before .before .before .before .before .args in
-    let h : room (a .out .now) (a .at) ≡ true = sym (c .before .before .before .before .before .has-room .ensures) ∙ c .before .before .before .before .if1 .taken in
+    let here = c .before .before .before .before .before in
+    let a = here .before .before .before .before .args in
+    let h : room (a .out .now) (a .at) ≡ true =
+    sym (here .has-room .ensures) ∙ c .before .before .before .before .if1 .taken in
     put-there (a .bytes .now) h (c .before .before .put-bytes .ensures)
 
 same-length-2 : tie.Need-same-length-2

@@ -17,7 +17,10 @@ returns : tie.Need-returns
 returns c = let a = c .before .args in room-left (length (a .out .now)) (a .at) (omega arith)
 
 returns-2 : tie.Need-returns-2
-returns-2 c = let a = c .before .args in lt-leb (a .at) (length (a .out .now)) (omega arith) ∙ sym (lt-leb (a .at + longest) (length (a .out .now)) (omega arith))
+returns-2 c =
+    let a = c .before .args in
+    lt-leb (a .at) (length (a .out .now)) (omega arith)
+    ∙ sym (lt-leb (a .at + longest) (length (a .out .now)) (omega arith))
 
 pub has-room-spec : {M : Type 1} → statement M
 has-room-spec = tie.close (tie.spec sub-result returns returns-2)

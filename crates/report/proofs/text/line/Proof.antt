@@ -23,9 +23,12 @@ same-length c = search needs
 
 returns : tie.Need-returns
 returns c =
-    let a = c .before .before .before .before .before .before .before .before .args in
-    let h : room (a .out .now) (a .at) ≡ true = sym (c .before .before .before .before .before .has-room .ensures) ∙ c .before .before .before .before .if1 .taken in
-    let p = put-there (lineOf (a .number) (a .d)) h (c .before .before .fields .ensures .0) in (p .0, (p .1, c .before .before .fields .ensures .1))
+    let here = c .before .before .before .before .before in
+    let a = here .before .before .before .args in
+    let h : room (a .out .now) (a .at) ≡ true =
+    sym (here .has-room .ensures) ∙ c .before .before .before .before .if1 .taken in
+    let p = put-there (lineOf (a .number) (a .d)) h (c .before .before .fields .ensures .0) in
+    (p .0, (p .1, c .before .before .fields .ensures .1))
 
 same-length-2 : tie.Need-same-length-2
 same-length-2 c = search needs

@@ -12,7 +12,8 @@ use Rattle.report.proofs.text.put_bytes.Statement.{statement}
 use Rattle.report.proofs.text.put_bytes.Tie as tie
 
 abbrev Inv-loop : tie.InvT-loop
-Inv-loop out₀ at bytes end₀ i₀ out end i = (i ≤ length bytes) × (length out ≡ length out₀) × Wrote out₀ at (take i bytes) out end
+Inv-loop out₀ at bytes end₀ i₀ out end i =
+    (i ≤ length bytes) × (length out ≡ length out₀) × Wrote out₀ at (take i bytes) out end
 
 abbrev μ-loop : tie.MeasureT-loop
 μ-loop out₀ at bytes end₀ i₀ out end i = length bytes - i
@@ -24,7 +25,11 @@ shared-slice-read-put-byte : tie.Need-shared-slice-read-put-byte Inv-loop μ-loo
 shared-slice-read-put-byte c = search needs
 
 put-byte-requires : tie.Need-put-byte-requires Inv-loop μ-loop
-put-byte-requires c κs = let l = c .before .before .before .loop in omega (arith, l .inv .2 .position, length-take-le (l .i) (c .before .before .before .before .before .before .args .bytes .now) (omega arith))
+put-byte-requires c κs = let l = c .before .before .before .loop in omega (
+  arith,
+  l .inv .2 .position,
+  length-take-le (l .i) (c .before .before .before .before .before .before .args .bytes .now) (omega arith),
+)
 
 add-i : tie.Need-add-i Inv-loop μ-loop
 add-i c = search needs
@@ -34,12 +39,14 @@ loop-less c = omega arith
 
 loop-again : tie.Need-loop-again Inv-loop μ-loop
 loop-again c =
-    let l = c .before .before .before .before .before .before .loop in
-    let a = c .before .before .before .before .before .before .before .before .before .args in
+    let here = c .before .before .before .before .before .before in
+    let l = here .loop in
+    let a = here .before .before .before .args in
     let n = length-take-le (l .i) (a .bytes .now) (omega arith) in (
       omega arith,
       c .before .before .put-byte .kept .0 ∙ l .inv .1,
-      rw (add-one, take-suc (a .bytes .now) (l .i) 0 (omega arith)) (wrote-then (take (l .i) (a .bytes .now)) _ (l .inv .2) (c .before .before .put-byte .ensures) (omega arith)),
+      rw (add-one, take-suc (a .bytes .now) (l .i) 0 (omega arith))
+          (wrote-then (take (l .i) (a .bytes .now)) _ (l .inv .2) (c .before .before .put-byte .ensures) (omega arith)),
     )
 
 same-length : tie.Need-same-length Inv-loop μ-loop

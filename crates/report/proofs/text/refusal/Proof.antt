@@ -20,15 +20,23 @@ slice-aggregate-put-bytes c = search needs
 put-bytes-requires : tie.Need-put-bytes-requires
 put-bytes-requires c κs =
     let a = c .before .before .before .before .before .before .args in
-    let h : room (a .out .now) (a .at) ≡ true = sym (c .before .before .before .has-room .ensures) ∙ c .before .before .if1 .taken in
+    let h : room (a .out .now) (a .at) ≡ true =
+    sym (c .before .before .before .has-room .ensures) ∙ c .before .before .if1 .taken in
     omega (arith, room-free (a .out .now) (a .at) h)
 
 field-requires : tie.Need-field-requires
 field-requires c κs =
-    let a = c .before .before .before .before .before .before .before .before .before .before .args in
-    let h : room (a .out .now) (a .at) ≡ true = sym (c .before .before .before .before .before .before .before .has-room .ensures) ∙ c .before .before .before .before .before .before .if1 .taken in
+    let here = c .before .before .before .before .before .before in
+    let a = here .before .before .before .before .args in
+    let h : room (a .out .now) (a .at) ≡ true = sym (here .before .has-room .ensures) ∙ here .if1 .taken in
     let p = c .before .before .before .put-bytes in
-    omega (arith, room-free (a .out .now) (a .at) h, p .ensures .position, p .kept .0, digits-64 (a .number) (omega arith))
+    omega (
+      arith,
+      room-free (a .out .now) (a .at) h,
+      p .ensures .position,
+      p .kept .0,
+      digits-64 (a .number) (omega arith),
+    )
 
 same-length : tie.Need-same-length
 same-length c = search needs
@@ -36,11 +44,14 @@ same-length c = search needs
 returns : tie.Need-returns
 unfolding refusedLine
 returns c =
-    let a = c .before .before .before .before .before .before .before .before .before .before .before .before .before .args in
-    let h : room (a .out .now) (a .at) ≡ true = sym (c .before .before .before .before .before .before .before .before .before .before .has-room .ensures) ∙ c .before .before .before .before .before .before .before .before .before .if1 .taken in
+    let here = c .before .before .before .before .before .before in
+    let a = here .before .before .before .before .before .before .before .args in
+    let h : room (a .out .now) (a .at) ≡ true =
+    sym (here .before .before .before .before .has-room .ensures) ∙ here .before .before .before .if1 .taken in
     let free = room-free (a .out .now) (a .at) h in
     put-there (refusedLine (a .number)) h
-    (wrote-then (114 ∷ 101 ∷ 102 ∷ 117 ∷ 115 ∷ 101 ∷ 100 ∷ 32 ∷ []) (decimalOf (a .number) ++ (10 ∷ [])) (c .before .before .before .before .before .before .put-bytes .ensures) (c .before .before .field .ensures) (omega arith))
+    (wrote-then (114 ∷ 101 ∷ 102 ∷ 117 ∷ 115 ∷ 101 ∷ 100 ∷ 32 ∷ []) (decimalOf (a .number) ++ (10 ∷ []))
+    (here .put-bytes .ensures) (c .before .before .field .ensures) (omega arith))
 
 same-length-2 : tie.Need-same-length-2
 same-length-2 c = search needs

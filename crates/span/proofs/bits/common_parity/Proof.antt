@@ -1,4 +1,5 @@
--- `words::bits::common_parity`: the count of common ones, taken modulo 2, is the exclusive or over the 64 places. Assumes nothing.
+-- `words::bits::common_parity`: the count of common ones, taken modulo 2, is the exclusive or over the 64 places.
+-- Assumes nothing.
 use mathlib.Core.Path.{_≡_, sym, ap, _∙_}
 use Prim.Native.Nat.{ℕ, _%_, _^_, _<_}
 use borrow.Author.Needs.{needs}

@@ -14,7 +14,8 @@ use Rattle.span.proofs.bits.select.Tie as tie
 wrapping-sub-u64-requires : tie.Need-wrapping-sub-u64-requires
 wrapping-sub-u64-requires c κs = search needs
 
-masked : (word mask : ℕ) (s : Bool) → word < 2 ^ 64 → mask < 2 ^ 64 → (mask + digit s) % 2 ^ 64 ≡ 0 → bitAnd word mask ≡ sel s word
+masked : (word mask : ℕ) (s : Bool) → word < 2 ^ 64 → mask < 2 ^ 64 → (mask + digit s) % 2 ^ 64 ≡ 0
+    → bitAnd word mask ≡ sel s word
 masked word mask true hw hm e =
     ap (bitAnd word) (omega arith) ∙ and-mask word 64 ∙ mod-eq-of-lt hw
 masked word mask false hw hm e = ap (bitAnd word) (omega arith) ∙ and-zero-r word

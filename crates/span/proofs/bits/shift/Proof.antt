@@ -16,7 +16,8 @@ cut x k h =
     ap (λ (j : ℕ). x % 2 ^ j % 2 ^ k) whole ∙ mod-mod-pow x (64 - k) k
 
 returns : tie.Need-returns
-returns c = sym (shifted-past (min (c .before .args .bits) 64) (c .before .args .by) (c .before .args .word) (omega arith))
+returns c =
+    sym (shifted-past (min (c .before .args .bits) 64) (c .before .args .by) (c .before .args .word) (omega arith))
 
 shl-result : tie.Need-shl-result
 shl-result c = search needs

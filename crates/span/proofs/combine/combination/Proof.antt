@@ -1,4 +1,5 @@
--- `span::combine::combination`: what was summed so far and the combination of the words still to come make the whole. Assumes nothing.
+-- `span::combine::combination`: what was summed so far and the combination of the words still to come make the whole.
+-- Assumes nothing.
 use mathlib.Core.Path.{_≡_, sym, ap, _∙_}
 use Prim.Native.Nat.{ℕ, _+_, _-_, _/_, _≤_, _<_, min}
 use native.Mathlib.Numerals.{add-one}

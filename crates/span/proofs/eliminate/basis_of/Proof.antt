@@ -28,7 +28,8 @@ returns c =
     let ws = take end (a .words .now) in
     let fits : end ≤ length (a .words .now) = omega arith in
     let size : length ws ≤ end = rw (length-take-le end (a .words .now) fits) (omega arith) in
-    c .before .eliminate .ensures .1 (c .before .eliminate .ensures .0 ∙ sym (relation-missing ws end end size (λ d l u e. omega arith)))
+    c .before .eliminate .ensures .1
+    (c .before .eliminate .ensures .0 ∙ sym (relation-missing ws end end size (λ d l u e. omega arith)))
     ∙ ap basisOf (ap (λ (e : ℕ). take e (a .words .now)) end-is ∙ counted-take (a .count) (a .words .now))
 
 pub basis-of-spec : {M : Type 1} → statement M

@@ -1,5 +1,5 @@
--- `span::eliminate::eliminate`: after i turns the basis is that of the first i words, and no relation from f ends below word i.
--- Assumes nothing.
+-- `span::eliminate::eliminate`: after i turns the basis is that of the first i words, and no relation from f ends below
+-- word i. Assumes nothing.
 use mathlib.Core.Path.{_≡_, refl, sym, ap, _∙_}
 use mathlib.Core.Logic.{⊎-elim}
 use mathlib.Core.List.{List}
@@ -31,7 +31,8 @@ abbrev μ-loop : tie.MeasureT-loop
 μ-loop words end f b₀ i₀ b i = end - i
 
 -- one turn of the loop, in plain terms
-module _ (words : List ℕ) (end f i : ℕ) (pre : (end ≤ length words) × (end ≤ 32)) (bound : (j : ℕ) → getD words j 0 < 2 ^ 64) (h : i < end)
+module _ (words : List ℕ) (end f i : ℕ) (pre : (end ≤ length words) × (end ≤ 32))
+    (bound : (j : ℕ) → getD words j 0 < 2 ^ 64) (h : i < end)
     (b : Basis) (so-far : b ≡ basisOf (take i (take end words)))
     (none : IsLeast (λ (c : ℕ). combination (take end words) c ≡ 0) (2 ^ f) (2 ^ i) Missing)
     (r : Reduced) (reduced : r ≡ reduction b (getD words i 0)) where
@@ -53,17 +54,21 @@ module _ (words : List ℕ) (end f i : ℕ) (pre : (end ≤ length words) × (en
   reduced-word : r ≡ reduction b (getD (take end words) i 0)
   reduced-word = rw word reduced
 
-  found : f ≤ i → r .rest ≡ 0 → (one : ℕ) → one ≡ 2 ^ i → Found (r .coefficients ⊕ one) ≡ leastRelation (take end words) f
+  found : f ≤ i → r .rest ≡ 0 → (one : ℕ) → one ≡ 2 ^ i
+      → Found (r .coefficients ⊕ one) ≡ leastRelation (take end words) f
   found l e one o =
       rw (o, reduced-word)
-      (turn-found (take end words) room below i inside b so-far f none l (ap (λ (s : Reduced). s .rest) (sym reduced-word) ∙ e))
+      (turn-found (take end words) room below i inside b so-far f none l
+      (ap (λ (s : Reduced). s .rest) (sym reduced-word) ∙ e))
 
   basis-next : basisOf (take (i + 1) (take end words)) ≡ joined i b r
   basis-next = rw reduced-word (turn-basis (take end words) room below i inside b so-far)
 
-  none-next : (f ≤ i → r .rest ≡ 0 → ⊥) → IsLeast (λ (c : ℕ). combination (take end words) c ≡ 0) (2 ^ f) (2 ^ (i + 1)) Missing
+  none-next : (f ≤ i → r .rest ≡ 0 → ⊥)
+      → IsLeast (λ (c : ℕ). combination (take end words) c ≡ 0) (2 ^ f) (2 ^ (i + 1)) Missing
   none-next ne =
-      turn-none (take end words) room below i inside b so-far f none (λ l e. ne l (ap (λ (s : Reduced). s .rest) reduced-word ∙ e))
+      turn-none (take end words) room below i inside b so-far f none
+      (λ l e. ne l (ap (λ (s : Reduced). s .rest) reduced-word ∙ e))
 
 found-some : (c : ℕ) → Found c ≡ Missing → ⊥
 found-some c e = let z : _≡_ {A = ℕ} 0 1 = cc in omega arith
@@ -91,8 +96,10 @@ returns c =
     let l = r .before .before .before .before .before .before .before in
     let a = l .before .before .args in
     let known = l .before .shared-slice-known in (
-      found (a .words .now) (a .end) (a .f) (l .loop .i) (l .before .before .pre) (λ j. omega (arith, known .given j)) (omega arith) (l .loop .b)
-          (l .loop .inv .2) (l .loop .inv .3) (r .reduce-by .result) (r .reduce-by .ensures) (omega arith) (c .before .if1 .taken)
+      found (a .words .now) (a .end) (a .f) (l .loop .i) (l .before .before .pre) (λ j. omega (arith, known .given j))
+          (omega arith) (l .loop .b)
+          (l .loop .inv .2) (l .loop .inv .3) (r .reduce-by .result) (r .reduce-by .ensures) (omega arith)
+          (c .before .if1 .taken)
           (c .before .before .before .one-at .result) (c .before .before .before .one-at .ensures),
       λ e. absurd (found-some _ e),
     )
@@ -103,8 +110,8 @@ mul-b c = search needs
 element-write-b : tie.Need-element-write-b Inv-loop μ-loop
 element-write-b c = search needs
 
-lowest-one-requires : tie.Need-lowest-one-requires Inv-loop μ-loop
-lowest-one-requires c κs = search needs
+check-word-requires : tie.Need-check-word-requires Inv-loop μ-loop
+check-word-requires c κs = search needs
 
 mul-b-2 : tie.Need-mul-b-2 Inv-loop μ-loop
 mul-b-2 c = search needs
@@ -135,15 +142,28 @@ loop-again c =
     let l = r .before .before .before .before .before .before .before in
     let a = l .before .before .args in
     let known = l .before .shared-slice-known in
-    let next = basis-next (a .words .now) (a .end) (a .f) (l .loop .i) (l .before .before .pre) (λ j. omega (arith, known .given j)) (omega arith) (l .loop .b)
+    let next = basis-next (a .words .now) (a .end) (a .f) (l .loop .i) (l .before .before .pre)
+    (λ j. omega (arith, known .given j)) (omega arith) (l .loop .b)
     (l .loop .inv .2) (l .loop .inv .3) (r .reduce-by .result) (r .reduce-by .ensures)
     in
-    let none = none-next (a .words .now) (a .end) (a .f) (l .loop .i) (l .before .before .pre) (λ j. omega (arith, known .given j)) (omega arith) (l .loop .b)
+    let none = none-next (a .words .now) (a .end) (a .f) (l .loop .i) (l .before .before .pre)
+    (λ j. omega (arith, known .given j)) (omega arith) (l .loop .b)
     (l .loop .inv .2) (l .loop .inv .3) (r .reduce-by .result) (r .reduce-by .ensures)
     in
     ⊎-elim
-    (λ w. (omega arith, (let e = ap (λ (b : Basis). b .size) (w .2) in omega arith), w .2 ∙ sym (next ∙ joined-passed (l .loop .i) (l .loop .b) (r .reduce-by .result) (w .0 .taken)), none (λ u e. omega arith)))
-    (λ w. (omega arith, (let e = ap (λ (b : Basis). b .size) (w .2) in omega arith), w .2 ∙ sym (next ∙ joined-stored (l .loop .i) (l .loop .b) (r .reduce-by .result) (w .1 .result) (one .result) (w .0 .left) (w .1 .ensures) (one .ensures)), none (λ u e. w .0 .left e)))
+    (λ w. (
+      omega arith,
+      (let e = ap (λ (b : Basis). b .size) (w .2) in omega arith),
+      w .2 ∙ sym (next ∙ joined-passed (l .loop .i) (l .loop .b) (r .reduce-by .result) (w .0 .taken)),
+      none (λ u e. omega arith),
+    ))
+    (λ w. (
+      omega arith,
+      (let e = ap (λ (b : Basis). b .size) (w .2) in omega arith),
+      w .2 ∙ sym (next ∙ joined-stored (l .loop .i) (l .loop .b) (r .reduce-by .result) (w .1 .result) (one .result)
+          (w .0 .left) (w .1 .ensures) (one .ensures)),
+      none (λ u e. w .0 .left e),
+    ))
     (c .if1 .came)
 
 returns-2 : tie.Need-returns-2 Inv-loop μ-loop
@@ -151,8 +171,10 @@ returns-2 c =
     let l = c .before in
     let a = l .before .before .args in
     let ws = take (a .end) (a .words .now) in
-    let n : length ws ≡ a .end = length-take-le (a .end) (a .words .now) (c .before .before .before .pre .0) in
-    (relation-missing ws (a .f) (l .loop .i) (omega arith) (l .loop .inv .3), λ e. l .loop .inv .2 ∙ ap basisOf (take-all (l .loop .i) ws (omega arith)))
+    let n : length ws ≡ a .end = length-take-le (a .end) (a .words .now) (c .before .before .before .pre .0) in (
+      relation-missing ws (a .f) (l .loop .i) (omega arith) (l .loop .inv .3),
+      λ e. l .loop .inv .2 ∙ ap basisOf (take-all (l .loop .i) ws (omega arith)),
+    )
 
 pub eliminate-spec : {M : Type 1} → statement M
 eliminate-spec =
@@ -168,7 +190,7 @@ eliminate-spec =
     returns
     mul-b
     element-write-b
-    lowest-one-requires
+    check-word-requires
     mul-b-2
     element-write-b-2
     mul-b-3

@@ -15,12 +15,14 @@ use Rattle.span.proofs.eliminate.reduce_by.Tie as tie
 
 abbrev Inv-loop : tie.InvT-loop
 Inv-loop size vectors checks coefficients x end rest₀ taken₀ i₀ rest taken i =
-    (i ≤ end) × (_≡_ {A = Reduced} (record { rest = rest; coefficients = taken }) (reducedTo (basis size vectors checks coefficients) i x))
+    (i ≤ end) × (_≡_ {A = Reduced} (record { rest = rest; coefficients = taken })
+    (reducedTo (basis size vectors checks coefficients) i x))
 
 abbrev μ-loop : tie.MeasureT-loop
 μ-loop size vectors checks coefficients x end rest₀ taken₀ i₀ rest taken i = end - i
 
-one-more : (b : Basis) (i x rest coefficients on v q : ℕ) → _≡_ {A = Reduced} (record { rest = rest; coefficients = coefficients }) (reducedTo b i x)
+one-more : (b : Basis) (i x rest coefficients on v q : ℕ)
+    → _≡_ {A = Reduced} (record { rest = rest; coefficients = coefficients }) (reducedTo b i x)
     → on ≡ digit (commonParity 64 rest (getD (b .checks) i 0))
     → v ≡ sel (odd on) (getD (b .vectors) i 0)
     → q ≡ sel (odd on) (getD (b .coefficients) i 0)
@@ -77,9 +79,12 @@ loop-again c =
     let l = c .before .before .before .before .before .before .before in
     let a = l .before .before .args in (
       omega arith,
-      one-more (basis (a .size) (a .vectors .now) (a .checks .now) (a .coefficients .now)) (l .loop .i) (a .x) (l .loop .rest)
-          (l .loop .taken) (c .before .before .before .before .common-parity .result) (c .before .before .select .result) (c .select2 .result)
-          (l .loop .inv .1) (c .before .before .before .before .common-parity .ensures) (c .before .before .select .ensures) (c .select2 .ensures),
+      one-more (basis (a .size) (a .vectors .now) (a .checks .now) (a .coefficients .now)) (l .loop .i)
+          (a .x) (l .loop .rest)
+          (l .loop .taken) (c .before .before .before .before .common-parity .result)
+          (c .before .before .select .result) (c .select2 .result)
+          (l .loop .inv .1) (c .before .before .before .before .common-parity .ensures)
+          (c .before .before .select .ensures) (c .select2 .ensures),
     )
 
 returns : tie.Need-returns Inv-loop μ-loop
@@ -88,7 +93,8 @@ returns c =
     let l = c .before in
     let a = l .before .before .args in
     l .loop .inv .1
-    ∙ ap (λ (i : ℕ). reducedTo (basis (a .size) (a .vectors .now) (a .checks .now) (a .coefficients .now)) i (a .x)) (omega arith)
+    ∙ ap (λ (i : ℕ). reducedTo (basis (a .size) (a .vectors .now) (a .checks .now) (a .coefficients .now)) i (a .x))
+    (omega arith)
 
 pub reduce-by-spec : {M : Type 1} → statement M
 reduce-by-spec =

@@ -1,4 +1,5 @@
--- `tables::judge::clash_words`: after i turns the first i rows stand shifted from the front, and as they are from n on. Assumes nothing.
+-- `tables::judge::clash_words`: after i turns the first i rows stand shifted from the front, and as they are from n on.
+-- Assumes nothing.
 use mathlib.Core.Path.{_≡_, sym, ap, _∙_, subst}
 use mathlib.Core.Logic.{_≢_}
 use mathlib.Core.List.{List, _++_, map}
@@ -26,19 +27,23 @@ abbrev μ-loop : tie.MeasureT-loop
 μ-loop rows n span l words₀ i₀ words i = n - i
 
 -- one more row, stored twice
-filled-more : (n N l : ℕ) (rows : List ℕ) (i : ℕ) (words : List ℕ) (s r : ℕ) → i < n → n + i < length words → s ≡ shifted N l r → r ≡ getD rows i 0
+filled-more : (n N l : ℕ) (rows : List ℕ) (i : ℕ) (words : List ℕ) (s r : ℕ) → i < n → n + i < length words
+    → s ≡ shifted N l r → r ≡ getD rows i 0
     → Filled n N l rows i words → Filled n N l rows (i + 1) (set (set words i s) (n + i) r)
 filled-more n N l rows i words s r h room es er f k below = go (ℕ-discrete k i)
   where
-    go : Dec (k ≡ i) → (getD (set (set words i s) (n + i) r) k 0 ≡ shifted N l (getD rows k 0)) × (getD (set (set words i s) (n + i) r) (n + k) 0 ≡ getD rows k 0)
+    go : Dec (k ≡ i) → (getD (set (set words i s) (n + i) r) k 0 ≡ shifted N l (getD rows k 0))
+        × (getD (set (set words i s) (n + i) r) (n + k) 0 ≡ getD rows k 0)
     go (yes e) =
         let other : k ≢ n + i = omega arith in
         let same : n + k ≡ n + i = omega arith in
         let here : k < length words = omega arith in
         let there : n + i < length (set words i s) = simp length-set room in (
           getD-set-other (set words i s) (n + i) k r 0 other ∙ ap (λ (j : ℕ). getD (set words i s) j 0) e
-              ∙ getD-set-same words i s 0 (omega arith) ∙ es ∙ ap (shifted N l) (er ∙ ap (λ (j : ℕ). getD rows j 0) (sym e)),
-          ap (λ (j : ℕ). getD (set (set words i s) (n + i) r) j 0) same ∙ getD-set-same (set words i s) (n + i) r 0 there
+              ∙ getD-set-same words i s 0 (omega arith) ∙ es
+              ∙ ap (shifted N l) (er ∙ ap (λ (j : ℕ). getD rows j 0) (sym e)),
+          ap (λ (j : ℕ). getD (set (set words i s) (n + i) r) j 0) same
+              ∙ getD-set-same (set words i s) (n + i) r 0 there
               ∙ er ∙ ap (λ (j : ℕ). getD rows j 0) (sym e),
         )
     go (no e) =
@@ -56,7 +61,8 @@ halves : (n : ℕ) (ws us vs : List ℕ) → length us ≡ n → length vs ≡ n
     → ((k : ℕ) → k < n → (getD ws k 0 ≡ getD us k 0) × (getD ws (n + k) 0 ≡ getD vs k 0)) → take (n + n) ws ≡ us ++ vs
 halves n ws us vs hu hv room f =
     ext-getD 0 (take (n + n) ws) (us ++ vs) (whole ∙ sym (length-append us vs ∙ sums))
-    (λ i l. getD-take (n + n) ws i 0 (subst (λ (m : ℕ). i < m) whole l) ∙ at i (subst (λ (m : ℕ). i < m) whole l) (decLt i n))
+    (λ i l. getD-take (n + n) ws i 0 (subst (λ (m : ℕ). i < m) whole l)
+    ∙ at i (subst (λ (m : ℕ). i < m) whole l) (decLt i n))
   where
     whole : length (take (n + n) ws) ≡ n + n
     whole = length-take-le (n + n) ws room
@@ -114,8 +120,10 @@ loop-again c =
     let span : min (a .span) 64 ≡ a .span = omega arith in (
       omega arith,
       simp length-set (l .loop .inv .1),
-      filled-more (a .n) (a .span) (a .l) (codeRows (a .n) (a .rows .now)) (l .loop .i) (l .loop .words) (c .shift .result) (r .code-row .result)
-          (omega arith) (omega arith) (c .shift .ensures ∙ ap (λ (N : ℕ). shifted N (a .l) (r .code-row .result)) span) (r .code-row .ensures) (l .loop .inv .2),
+      filled-more (a .n) (a .span) (a .l) (codeRows (a .n) (a .rows .now)) (l .loop .i) (l .loop .words)
+          (c .shift .result) (r .code-row .result)
+          (omega arith) (omega arith) (c .shift .ensures ∙ ap (λ (N : ℕ). shifted N (a .l) (r .code-row .result)) span)
+          (r .code-row .ensures) (l .loop .inv .2),
     )
 
 returns : tie.Need-returns Inv-loop μ-loop
@@ -124,7 +132,8 @@ returns c =
     let a = l .before .before .args in
     let R = codeRows (a .n) (a .rows .now) in
     let size : length R ≡ a .n = code-length (a .n) (a .rows .now) (omega arith) (omega arith) in
-    halves (a .n) (l .loop .words) (map (shifted (a .span) (a .l)) R) R (length-map R (shifted (a .span) (a .l)) ∙ size) size (omega arith)
+    halves (a .n) (l .loop .words) (map (shifted (a .span) (a .l)) R) R
+    (length-map R (shifted (a .span) (a .l)) ∙ size) size (omega arith)
     (λ k h. let f = l .loop .inv .2 k (omega arith) in (f .0 ∙ sym (map-at (a .span) (a .l) R k), f .1))
 
 pub clash-words-spec : {M : Type 1} → statement M

@@ -10,10 +10,12 @@ use Rattle.tables.specs.Table.{codeRows}
 use Rattle.tables.proofs.judge.code_row.Statement.{statement}
 use Rattle.tables.proofs.judge.code_row.Tie as tie
 
-stored-row : (n : ℕ) (rows : List ℕ) (i : ℕ) → n - 1 ≤ length rows → i < n - 1 → getD rows i 0 ≡ getD (codeRows n rows) i 0
+stored-row : (n : ℕ) (rows : List ℕ) (i : ℕ) → n - 1 ≤ length rows → i < n - 1
+    → getD rows i 0 ≡ getD (codeRows n rows) i 0
 stored-row n rows i room h =
     let size = length-take-le (n - 1) rows room in
-    sym (List·getD-append (take (n - 1) rows) (1 ∷ []) 0 i (subst (λ (m : ℕ). i < m) (sym size) h) ∙ getD-take (n - 1) rows i 0 h)
+    sym (List·getD-append (take (n - 1) rows) (1 ∷ []) 0 i (subst (λ (m : ℕ). i < m) (sym size) h)
+    ∙ getD-take (n - 1) rows i 0 h)
 
 parity-row : (n : ℕ) (rows : List ℕ) → n - 1 ≤ length rows → 1 ≡ getD (codeRows n rows) (n - 1) 0
 parity-row n rows room =

@@ -22,7 +22,8 @@ abbrev μ-loop : tie.MeasureT-loop
 μ-loop rows n span l₀ l = span - l
 
 -- one shift more without a clash
-none-more : (N : ℕ) (rows : List ℕ) (l : ℕ) → ((k e0 e1 : ℕ) → k < l → Clashes N rows k e0 e1 → ⊥) → ((e0 e1 : ℕ) → Clashes N rows l e0 e1 → ⊥)
+none-more : (N : ℕ) (rows : List ℕ) (l : ℕ) → ((k e0 e1 : ℕ) → k < l → Clashes N rows k e0 e1 → ⊥)
+    → ((e0 e1 : ℕ) → Clashes N rows l e0 e1 → ⊥)
     → (k e0 e1 : ℕ) → k < l + 1 → Clashes N rows k e0 e1 → ⊥
 none-more N rows l below here k e0 e1 h clash = go (ℕ-discrete k l)
   where
@@ -56,10 +57,11 @@ mask-requires c κs = search needs
 
 returns : tie.Need-returns Inv-loop μ-loop
 returns c =
+    let here = c .before .before .before .before .before .before in
     let found = c .before .before .found in
     let r = c .before .before .before .before .least-relation in
-    let w = c .before .before .before .before .before .before .clash-words in
-    let l = c .before .before .before .before .before .before .before .before in
+    let w = here .clash-words in
+    let l = here .before .before in
     let a = l .before .before .args in
     let N = a .span in
     let n = a .n in
@@ -92,7 +94,8 @@ loop-again c =
     let a = l .before .before .args in
     let R = codeRows (a .n) (a .rows .now) in
     let size : length R ≡ a .n = code-length (a .n) (a .rows .now) (omega arith) (omega arith) in
-    let same = r .ensures ∙ clash-counted (a .span) R (l .loop .l) (a .n) (w .result) (w .ensures) size (omega arith) in (
+    let same = r .ensures
+    ∙ clash-counted (a .span) R (l .loop .l) (a .n) (w .result) (w .ensures) size (omega arith) in (
       omega arith,
       none-more (a .span) R (l .loop .l) (l .loop .inv .1)
           (clash-missing (a .span) R (l .loop .l) (sym same ∙ c .enum-told .given .1)),

@@ -33,8 +33,10 @@ power : (e : ℕ) → e < 64 → shifted 64 e 1 ≡ 2 ^ e
 power e h = shifted-inside 64 e 1 1 (lit< tt) (omega arith) ∙ one-mul (2 ^ e)
 
 -- one column more
-module _ (n j i row on word : ℕ) (from : 1 ≤ i) (to : n + i < 64) (added : on ≡ sel (odd (getD columns (i - 1) 0 / 2 ^ (j - 1))) word)
-    (place : word ≡ shifted 64 (n + i) 1) (so-far : row ≡ 2 ^ (n - j) + upper columns n j (i - 1)) (low : row < 2 ^ (n + i)) where
+module _ (n j i row on word : ℕ) (from : 1 ≤ i) (to : n + i < 64)
+    (added : on ≡ sel (odd (getD columns (i - 1) 0 / 2 ^ (j - 1))) word)
+    (place : word ≡ shifted 64 (n + i) 1) (so-far : row ≡ 2 ^ (n - j) + upper columns n j (i - 1))
+    (low : row < 2 ^ (n + i)) where
   next-row : row + on ≡ 2 ^ (n - j) + upper columns n j (i + 1 - 1)
   unfolding upper
   next-row =
@@ -43,7 +45,8 @@ module _ (n j i row on word : ℕ) (from : 1 ≤ i) (to : n + i < 64) (added : o
       let c = getD columns (i - 1) 0 in
       rw e
       (ap₂ _+_ so-far
-      (added ∙ ap₂ sel (sym (bit-odd (j - 1) c)) (place ∙ power (n + i) to ∙ ap (λ (x : ℕ). 2 ^ x) at) ∙ sel-product (bit (j - 1) c) (2 ^ (n + (i - 1) + 1)))
+      (added ∙ ap₂ sel (sym (bit-odd (j - 1) c)) (place ∙ power (n + i) to ∙ ap (λ (x : ℕ). 2 ^ x) at)
+      ∙ sel-product (bit (j - 1) c) (2 ^ (n + (i - 1) + 1)))
       ∙ add-assoc (2 ^ (n - j)) (upper columns n j (i - 1)) (digit (bit (j - 1) c) * 2 ^ (n + (i - 1) + 1)))
 
   next-low : row + on < 2 ^ (n + (i + 1))
@@ -97,7 +100,8 @@ unfolding columns
 add-row c =
     let l = c .before .before .before in
     let a = l .before .before .args in
-    let low = next-low (a .n) (a .j) (l .loop .i) (l .loop .row) (c .select .result) (c .before .shift2 .result) (l .loop .inv .0) (omega arith)
+    let low = next-low (a .n) (a .j) (l .loop .i) (l .loop .row) (c .select .result) (c .before .shift2 .result)
+    (l .loop .inv .0) (omega arith)
     (c .select .ensures) (c .before .shift2 .ensures) (l .loop .inv .2) (l .loop .inv .3)
     in
     record { fits = lt-of-lt-of-le low (pow-mono {j = 64} (omega arith)) }
@@ -116,9 +120,11 @@ loop-again c =
     let to : a .n + l .loop .i < 64 = omega arith in (
       omega arith,
       omega arith,
-      next-row (a .n) (a .j) (l .loop .i) (l .loop .row) (c .select .result) (c .before .shift2 .result) (l .loop .inv .0) to
+      next-row (a .n) (a .j) (l .loop .i) (l .loop .row) (c .select .result) (c .before .shift2 .result)
+          (l .loop .inv .0) to
           (c .select .ensures) (c .before .shift2 .ensures) (l .loop .inv .2) (l .loop .inv .3),
-      next-low (a .n) (a .j) (l .loop .i) (l .loop .row) (c .select .result) (c .before .shift2 .result) (l .loop .inv .0) to
+      next-low (a .n) (a .j) (l .loop .i) (l .loop .row) (c .select .result) (c .before .shift2 .result)
+          (l .loop .inv .0) to
           (c .select .ensures) (c .before .shift2 .ensures) (l .loop .inv .2) (l .loop .inv .3),
     )
 

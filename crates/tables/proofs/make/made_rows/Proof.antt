@@ -19,12 +19,14 @@ abbrev μ-loop : tie.MeasureT-loop
 μ-loop n rows₀ i₀ rows i = n - 1 - i
 
 -- one row more takes the place of a zero
-row-more : (n i : ℕ) → i < 15 → set (madeRows columns n i ++ replicate (15 - i) 0) i (madeRow columns n (i + 1)) ≡ madeRows columns n (i + 1) ++ replicate (15 - (i + 1)) 0
+row-more : (n i : ℕ) → i < 15 → set (madeRows columns n i ++ replicate (15 - i) 0) i (madeRow columns n (i + 1))
+    ≡ madeRows columns n (i + 1) ++ replicate (15 - (i + 1)) 0
 unfolding madeRows
 row-more n i h =
     let e : 15 - i ≡ suc (15 - (i + 1)) = omega arith in
     ap (λ (k : ℕ). set (madeRows columns n i ++ replicate k 0) i (madeRow columns n (i + 1))) e
-    ∙ set-at (madeRows columns n i) 0 (replicate (15 - (i + 1)) 0) (madeRow columns n (i + 1)) i (made-length columns n i)
+    ∙ set-at (madeRows columns n i) 0 (replicate (15 - (i + 1)) 0) (madeRow columns n (i + 1)) i
+    (made-length columns n i)
     ∙ rw (add-one i) (sym (append-snoc (madeRows columns n i) (madeRow columns n (suc i)) (replicate (15 - suc i) 0)))
 
 loop-holds : tie.Need-loop-holds Inv-loop μ-loop
@@ -58,7 +60,8 @@ loop-again c =
     let n = l .before .args .n in (
       omega arith,
       ap (λ (ws : List ℕ). set ws (l .loop .i) (c .made-row .result)) (l .loop .inv .1)
-          ∙ ap (set (madeRows columns n (l .loop .i) ++ replicate (15 - l .loop .i) 0) (l .loop .i)) (c .made-row .ensures)
+          ∙ ap (set (madeRows columns n (l .loop .i) ++ replicate (15 - l .loop .i) 0) (l .loop .i))
+          (c .made-row .ensures)
           ∙ row-more n (l .loop .i) (omega arith),
     )
 

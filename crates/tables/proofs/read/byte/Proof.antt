@@ -18,7 +18,9 @@ shared-slice-read-result : tie.Need-shared-slice-read-result
 shared-slice-read-result c = search needs
 
 cast-result : tie.Need-cast-result
-cast-result c = let a = c .before .before .args in record { fits = omega (arith, c .shared-slice-known .given (a .at + a .k)) }
+cast-result c =
+    let a = c .before .before .args in
+    record { fits = omega (arith, c .shared-slice-known .given (a .at + a .k)) }
 
 returns : tie.Need-returns
 returns c = rw getD-drop

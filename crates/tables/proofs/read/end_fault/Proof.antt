@@ -36,8 +36,10 @@ loop-again : tie.Need-loop-again Inv-loop μ-loop
 unfolding allGiven
 loop-again c =
     let l = c .before in
-    let g = l .before .before .before .args .g in
-    (omega arith, rw (add-one (l .loop .i)) (ap (λ (s : Bool). s && getD (g .given) (l .loop .i) false) (l .loop .inv .1)))
+    let g = l .before .before .before .args .g in (
+      omega arith,
+      rw (add-one (l .loop .i)) (ap (λ (s : Bool). s && getD (g .given) (l .loop .i) false) (l .loop .inv .1)),
+    )
 
 first-requires : tie.Need-first-requires Inv-loop μ-loop
 first-requires c κs = search needs

@@ -6,7 +6,8 @@ use Prim.Native.Nat.{ℕ}
 use native.Mathlib.Omega.{arith}
 use lib.ListN.{length, drop, length-drop}
 use Rattle.tables.specs.Format.{kind}
-use Rattle.tables.proofs.Format.{header, fault-header, Passed, header-passed, passed-sizes, passed-row, passed-end, end-placed}
+use Rattle.tables.proofs.Format.{header, fault-header, Passed, header-passed, passed-sizes, passed-row}
+use Rattle.tables.proofs.Format.{passed-end, end-placed}
 use Rattle.tables.proofs.read.fault.Statement.{statement}
 use Rattle.tables.proofs.read.fault.Tie as tie
 
@@ -22,13 +23,16 @@ header-fault-requires c κs = search needs
 abbrev rest : tie.After-header-fault → List ℕ
 rest z = let a = z .before .before .before .args in drop (a .at) (a .bytes .now)
 
-tested : (z : tie.After-header-fault) → z .header-fault .result ≡ header (kind (rest z)) (length (rest z)) (z .before .before .before .args .g .table .symbols)
+tested : (z : tie.After-header-fault) → z .header-fault .result
+    ≡ header (kind (rest z)) (length (rest z)) (z .before .before .before .args .g .table .symbols)
 tested z =
     let a = z .before .before .before .args in
     rw (← z .before .byte .ensures, length-drop (a .at) (a .bytes .now)) (z .header-fault .ensures)
 
 passed : (c : tie.Else1) → Passed (c .before .before .before .before .args .g) (rest (c .before))
-passed c = header-passed (c .before .before .before .before .args .g) (rest (c .before)) (sym (tested (c .before)) ∙ c .if1 .left)
+passed c =
+    header-passed (c .before .before .before .before .args .g) (rest (c .before))
+    (sym (tested (c .before)) ∙ c .if1 .left)
 
 returns : tie.Need-returns
 returns c =
@@ -63,7 +67,10 @@ returns-2 : tie.Need-returns-2
 returns-2 c =
     let z = c .before .before .before in
     let a = z .before .before .before .args in
-    rw (passed-end (a .g) (rest z) (passed (c .before .before)) (omega arith), length-drop (a .at) (a .bytes .now)) (c .end-fault .ensures)
+    rw (
+      passed-end (a .g) (rest z) (passed (c .before .before)) (omega arith),
+      length-drop (a .at) (a .bytes .now),
+    ) (c .end-fault .ensures)
 
 returns-3 : tie.Need-returns-3
 returns-3 c =

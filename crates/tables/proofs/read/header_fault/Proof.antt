@@ -37,7 +37,12 @@ returns-3 : tie.Need-returns-3
 returns-3 c =
     let z = c .before in
     let a = z .before .before .before .args in
-    rw (ne-eqb (a .left) 0 (omega arith), le-ltb 2 (a .kind) (omega arith), ← z .size .ensures, ← misplaced-as (eqb (a .kind) 1) (a .symbols))
+    rw (
+      ne-eqb (a .left) 0 (omega arith),
+      le-ltb 2 (a .kind) (omega arith),
+      ← z .size .ensures,
+      ← misplaced-as (eqb (a .kind) 1) (a .symbols),
+    )
     (c .first .ensures)
 
 pub header-fault-spec : {M : Type 1} → statement M

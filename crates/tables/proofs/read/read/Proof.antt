@@ -1,4 +1,5 @@
--- `reader::read::read`: the parse of all the bytes comes by the place and the progress that the loop has; a table is judged. Assumes nothing.
+-- `reader::read::read`: the parse of all the bytes comes by the place and the progress that the loop has; a table is
+-- judged. Assumes nothing.
 use borrow.Author.Needs.{needs}
 use mathlib.Core.Path.{_≡_, sym, ap, _∙_}
 use mathlib.Core.Bool.{false, not, _&&_}
@@ -11,14 +12,16 @@ use lib.Dec.{eqb}
 use lib.ListN.{length, drop, length-drop}
 use Rattle.tables.specs.Format.{kind, size, fault, place, after}
 use Rattle.tables.proofs.Fit.{and-left, and-right}
-use Rattle.tables.proofs.Format.{Reaches, fault-sound, sound-whole, size-some, reaches-start, reaches-refused, reaches-done, reaches-next}
+use Rattle.tables.proofs.Format.{Reaches, fault-sound, sound-whole, size-some, reaches-start, reaches-refused}
+use Rattle.tables.proofs.Format.{reaches-done, reaches-next}
 use Rattle.tables.proofs.Progress.{Good, good-begun, good-after, good-bounds}
 use Rattle.tables.proofs.Reading.{refused-read}
 use Rattle.tables.proofs.read.read.Statement.{statement}
 use Rattle.tables.proofs.read.read.Tie as tie
 
 abbrev Inv-loop : tie.InvT-loop
-Inv-loop bytes g₀ at₀ number₀ g at number = (at ≤ length bytes) × Good g × Reaches bytes at g × (number ≡ fault g (drop at bytes))
+Inv-loop bytes g₀ at₀ number₀ g at number =
+    (at ≤ length bytes) × Good g × Reaches bytes at g × (number ≡ fault g (drop at bytes))
 
 abbrev μ-loop : tie.MeasureT-loop
 μ-loop bytes g₀ at₀ number₀ g at number = length bytes - at
@@ -32,7 +35,12 @@ fault-requires c κs = rw (c .zero-table .ensures) (omega arith, omega arith, om
 loop-holds : tie.Need-loop-holds Inv-loop μ-loop
 loop-holds c =
     let z = c .before .zero-table .ensures in
-    rw z (omega arith, good-begun, reaches-start (c .before .before .before .args .bytes .now), rw z at (c .fault .ensures))
+    rw z (
+      omega arith,
+      good-begun,
+      reaches-start (c .before .before .before .args .bytes .now),
+      rw z at (c .fault .ensures),
+    )
 
 byte-requires : tie.Need-byte-requires Inv-loop μ-loop
 byte-requires c κs = search needs
@@ -48,7 +56,8 @@ module _ (c : tie.Then1 Inv-loop μ-loop) where
   sound : fault (here .loop .g) rest ≡ 0
   sound =
       sym (here .loop .inv .3)
-      ∙ eqb-true (here .loop .number) 0 (and-left (eqb (here .loop .number) 0) (not (eqb (c .before .byte .result) 0)) (c .if1 .taken))
+      ∙ eqb-true (here .loop .number) 0
+      (and-left (eqb (here .loop .number) 0) (not (eqb (c .before .byte .result) 0)) (c .if1 .taken))
 
   goes-on : kind rest ≢ 0
   goes-on e =
@@ -81,7 +90,8 @@ long c = c .size .ensures ∙ ap size (c .before .byte2 .ensures)
 good : (c : tie.After-size Inv-loop μ-loop) → Good (c .before .before .after .result)
 good c =
     let t = c .before .before .before in
-    rw (c .before .before .after .ensures) (good-after (here t .loop .g) (rest t) (here t .loop .inv .1) (fault-sound (here t .loop .g) (rest t) (sound t)) (goes-on t))
+    rw (c .before .before .after .ensures) (good-after (here t .loop .g) (rest t) (here t .loop .inv .1)
+    (fault-sound (here t .loop .g) (rest t) (sound t)) (goes-on t))
 
 add-at : tie.Need-add-at Inv-loop μ-loop
 add-at c =
@@ -113,7 +123,11 @@ loop-again c =
     let some = size-some (kind (rest t)) in (
       omega arith,
       good (c .before),
-      rw (c .before .before .before .after .ensures, n) (reaches-next (l .before .before .before .before .args .bytes .now) (l .loop .at) (l .loop .g) (l .loop .inv .2) (omega arith) (sound t) (goes-on t)),
+      rw (
+        c .before .before .before .after .ensures,
+        n,
+      ) (reaches-next (l .before .before .before .before .args .bytes .now) (l .loop .at) (l .loop .g) (l .loop .inv .2)
+          (omega arith) (sound t) (goes-on t)),
       c .fault2 .ensures,
     )
 
@@ -148,7 +162,8 @@ returns-2 c =
     let len = length-drop (l .loop .at) bytes in
     let some = size-some (kind s) in
     c .judged .ensures bytes
-    (reaches-done bytes (l .loop .at) (l .loop .g) (l .loop .inv .2) (omega arith) z (sym (k .byte .ensures) ∙ ended (l .loop .number) (k .byte .result) (e .if2 .left) (e .before .if1 .left)))
+    (reaches-done bytes (l .loop .at) (l .loop .g) (l .loop .inv .2) (omega arith) z
+    (sym (k .byte .ensures) ∙ ended (l .loop .number) (k .byte .result) (e .if2 .left) (e .before .if1 .left)))
 
 pub read-spec : {M : Type 1} → statement M
 read-spec =

@@ -3,7 +3,6 @@ use native.Mathlib.Omega.{arith}
 use borrow.Author.Needs.{needs}
 use borrow.Author.Tests.{eq-eqb, ne-eqb}
 use Rattle.tables.specs.Format.{place}
-use Rattle.tables.specs.Reading.{outcome}
 use Rattle.tables.proofs.read.refusal.Statement.{statement}
 use Rattle.tables.proofs.read.refusal.Tie as tie
 
@@ -14,11 +13,11 @@ add-place : tie.Need-add-place
 add-place c = search needs
 
 returns : tie.Need-returns
-unfolding outcome place
+unfolding place
 returns c = rw (eq-eqb (c .before .before .args .number) 9 (omega arith), c .before .zero-table .ensures)
 
 returns-2 : tie.Need-returns-2
-unfolding outcome place
+unfolding place
 returns-2 c = rw (ne-eqb (c .before .before .args .number) 9 (omega arith), c .before .zero-table .ensures)
 
 pub refusal-spec : {M : Type 1} → statement M

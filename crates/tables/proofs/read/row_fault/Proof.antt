@@ -9,18 +9,19 @@ use lib.Dec.{leb, ltb}
 use lib.ListN.{getD}
 use lib.Pow.{pow-pos}
 use Rattle.tables.specs.declared.read.Progress.{Progress}
-use Rattle.tables.specs.Format.{taken}
+use Rattle.tables.specs.Format.{unavailable}
 use Rattle.tables.proofs.Fit.{and-left, and-right}
 use Rattle.tables.proofs.read.row_fault.Statement.{statement}
 use Rattle.tables.proofs.read.row_fault.Tie as tie
 
--- a number in range is taken where it was given, and one out of range is
-marked : (g : Progress) (j : ℕ) → leb 1 j && ltb j (g .table .symbols) ≡ true → getD (g .given) (j - 1) false ≡ taken g j
-unfolding taken
+-- a number in range is unavailable where it was given, and one out of range is
+marked : (g : Progress) (j : ℕ) → leb 1 j && ltb j (g .table .symbols) ≡ true
+    → getD (g .given) (j - 1) false ≡ unavailable g j
+unfolding unavailable
 marked g j e = rw e
 
-outside : (g : Progress) (j : ℕ) → leb 1 j && ltb j (g .table .symbols) ≡ false → true ≡ taken g j
-unfolding taken
+outside : (g : Progress) (j : ℕ) → leb 1 j && ltb j (g .table .symbols) ≡ false → true ≡ unavailable g j
+unfolding unavailable
 outside g j e = rw e
 
 -- to be above the mask is to be at least the power
@@ -36,11 +37,14 @@ byte-requires c κs = search needs
 
 -- the number in range
 number : (c : tie.Then1)
-    → (1 ≤ c .before .before .byte .result) × (c .before .before .byte .result < c .before .before .before .before .args .g .table .symbols)
+    → (1 ≤ c .before .before .byte .result)
+    × (c .before .before .byte .result < c .before .before .before .before .args .g .table .symbols)
 number c =
     let j = c .before .before .byte .result in
-    let n = c .before .before .before .before .args .g .table .symbols in
-    (leb-true 1 j (and-left (leb 1 j) (ltb j n) (c .if1 .taken)), ltb-true j n (and-right (leb 1 j) (ltb j n) (c .if1 .taken)))
+    let n = c .before .before .before .before .args .g .table .symbols in (
+      leb-true 1 j (and-left (leb 1 j) (ltb j n) (c .if1 .taken)),
+      ltb-true j n (and-right (leb 1 j) (ltb j n) (c .if1 .taken)),
+    )
 
 sub-first : tie.Need-sub-first
 sub-first c = number (c .before) .0
@@ -66,7 +70,12 @@ returns c =
     let g = b .before .before .args .g in
     let some = pow-pos (g .table .span) in
     let same : 2 ^ min (g .table .span) 64 ≡ 2 ^ (g .table .span) = ap (λ (k : ℕ). 2 ^ k) (omega arith) in
-    rw (← b .byte .ensures, ← marked g (b .byte .result) (t .if1 .taken), ← w .row-word .ensures, ← above (w .row-word .result) (m .mask .result) (g .table .span) (omega arith))
+    rw (
+      ← b .byte .ensures,
+      ← marked g (b .byte .result) (t .if1 .taken),
+      ← w .row-word .ensures,
+      ← above (w .row-word .result) (m .mask .result) (g .table .span) (omega arith),
+    )
     (c .first .ensures)
 
 returns-2 : tie.Need-returns-2

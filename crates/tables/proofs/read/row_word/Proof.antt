@@ -26,7 +26,8 @@ one-more s k sum b l u e f =
     rw (count, next, f, e) (omega arith)
 
 -- the next sum fits a word
-fits : (bytes : List ℕ) → ((i : ℕ) → getD bytes i 0 < 256) → (at k sum b : ℕ) → 2 < k → k ≤ 10 → sum ≡ word (drop at bytes) k (10 - k)
+fits : (bytes : List ℕ) → ((i : ℕ) → getD bytes i 0 < 256) → (at k sum b : ℕ) → 2 < k → k ≤ 10
+    → sum ≡ word (drop at bytes) k (10 - k)
     → b ≡ getD (drop at bytes) (k - 1) 0 → sum * 256 + b < 2 ^ 64
 fits bytes small at k sum b l u e f =
     rw (one-more (drop at bytes) k sum b l u e f)
@@ -44,7 +45,8 @@ mul-word c =
     let l = c .before in
     let a = l .before .before .args in
     let s = drop (a .at) (a .bytes .now) in
-    let h = fits (a .bytes .now) (λ i. omega (arith, l .before .shared-slice-known .given i)) (a .at) (l .loop .k) (l .loop .word) (getD s (l .loop .k - 1) 0)
+    let h = fits (a .bytes .now) (λ i. omega (arith, l .before .shared-slice-known .given i)) (a .at) (l .loop .k)
+    (l .loop .word) (getD s (l .loop .k - 1) 0)
     (omega arith) (omega arith) (l .loop .inv .2) refl in
     omega arith
 
@@ -55,7 +57,8 @@ add-word : tie.Need-add-word Inv-loop μ-loop
 add-word c =
     let l = c .before .before in
     let a = l .before .before .args in
-    let h = fits (a .bytes .now) (λ i. omega (arith, l .before .shared-slice-known .given i)) (a .at) (l .loop .k) (l .loop .word) (c .byte .result)
+    let h = fits (a .bytes .now) (λ i. omega (arith, l .before .shared-slice-known .given i)) (a .at) (l .loop .k)
+    (l .loop .word) (c .byte .result)
     (omega arith) (omega arith) (l .loop .inv .2) (c .byte .ensures) in
     omega arith
 
@@ -68,7 +71,8 @@ loop-again c =
     let a = l .before .before .args in (
       omega arith,
       omega arith,
-      one-more (drop (a .at) (a .bytes .now)) (l .loop .k) (l .loop .word) (c .byte .result) (omega arith) (omega arith) (l .loop .inv .2)
+      one-more (drop (a .at) (a .bytes .now)) (l .loop .k) (l .loop .word) (c .byte .result) (omega arith) (omega arith)
+          (l .loop .inv .2)
           (c .byte .ensures),
     )
 

@@ -1,4 +1,5 @@
--- `tables::table::is_fit`: the rows are looked at once the sizes fit; after i turns the first i rows are judged. Assumes nothing.
+-- `tables::table::is_fit`: the rows are looked at once the sizes fit; after i turns the first i rows are judged.
+-- Assumes nothing.
 use mathlib.Core.Path.{_≡_, refl, sym, ap, ap₂, _∙_}
 use mathlib.Core.Bool.{Bool, true, false, _&&_, and-true, and-assoc}
 use mathlib.Core.List.{List, [], _∷_}
@@ -24,13 +25,15 @@ abbrev μ-loop : tie.MeasureT-loop
 μ-loop symbols span depth rows most end fit₀ i₀ fit i = end - i
 
 -- one row more; past the end there is none, and 0 fits
-next : (N : ℕ) (rows : List ℕ) (i : ℕ) → rowsFit N (take i rows) && ltb (getD rows i 0) (2 ^ N) ≡ rowsFit N (take (suc i) rows)
+next : (N : ℕ) (rows : List ℕ) (i : ℕ)
+    → rowsFit N (take i rows) && ltb (getD rows i 0) (2 ^ N) ≡ rowsFit N (take (suc i) rows)
 unfolding rowsFit
 next N [] zero = lt-ltb 0 (2 ^ N) (pow-pos N)
 next N [] (suc i) = lt-ltb 0 (2 ^ N) (pow-pos N)
 next N (w ∷ ws) zero = sym (and-true (ltb w (2 ^ N)))
 next N (w ∷ ws) (suc i) =
-    and-assoc (ltb w (2 ^ N)) (rowsFit N (take i ws)) (ltb (getD ws i 0) (2 ^ N)) ∙ ap (_&&_ (ltb w (2 ^ N))) (next N ws i)
+    and-assoc (ltb w (2 ^ N)) (rowsFit N (take i ws)) (ltb (getD ws i 0) (2 ^ N))
+    ∙ ap (_&&_ (ltb w (2 ^ N))) (next N ws i)
 
 -- to be at most the mask is to be below the power
 below : (w m N : ℕ) → suc m ≡ 2 ^ N → leb w m ≡ ltb w (2 ^ N)
@@ -46,7 +49,9 @@ clamped rows count = go (decLt count (length rows))
   where
     go : Dec (count < length rows) → take (min count (length rows)) rows ≡ take count rows
     go (yes h) = ap (λ (k : ℕ). take k rows) (let e : min count (length rows) ≡ count = omega arith in e)
-    go (no h) = ap (λ (k : ℕ). take k rows) (let e : min count (length rows) ≡ length rows = omega arith in e) ∙ take-all (length rows) rows (omega arith) ∙ sym (take-all count rows (omega arith))
+    go (no h) =
+        ap (λ (k : ℕ). take k rows) (let e : min count (length rows) ≡ length rows = omega arith in e)
+        ∙ take-all (length rows) rows (omega arith) ∙ sym (take-all count rows (omega arith))
 
 sizes-fit-requires : tie.Need-sizes-fit-requires Inv-loop μ-loop
 sizes-fit-requires c κs = search needs
@@ -56,9 +61,11 @@ returns : tie.Need-returns Inv-loop μ-loop
 unfolding fit
 returns c =
     let a = c .before .before .before .args in
-    ap (λ (s : Bool). s && rowsFit (a .span) (take (a .symbols - 1) (a .rows .now))) (sym (not-true _ (c .if1 .taken)) ∙ c .before .sizes-fit .ensures)
+    ap (λ (s : Bool). s && rowsFit (a .span) (take (a .symbols - 1) (a .rows .now)))
+    (sym (not-true _ (c .if1 .taken)) ∙ c .before .sizes-fit .ensures)
 
-sizes : (c : tie.Else1 Inv-loop μ-loop) → let a = c .before .before .before .args in sizesFit (a .symbols) (a .span) (a .depth) ≡ true
+sizes : (c : tie.Else1 Inv-loop μ-loop) → let a = c .before .before .before .args in
+    sizesFit (a .symbols) (a .span) (a .depth) ≡ true
 sizes c = sym (c .before .sizes-fit .ensures) ∙ not-false _ (c .if1 .left)
 
 mask-requires : tie.Need-mask-requires Inv-loop μ-loop
@@ -110,7 +117,8 @@ returns-2 c =
     let m = l .before .before in
     let a = m .before .before .before .before .args in
     let done : l .loop .i ≡ min (a .symbols - 1) (length (a .rows .now)) = omega arith in
-    l .loop .inv .1 ∙ ap (λ (i : ℕ). rowsFit (a .span) (take i (a .rows .now))) done ∙ ap (rowsFit (a .span)) (clamped (a .rows .now) (a .symbols - 1))
+    l .loop .inv .1 ∙ ap (λ (i : ℕ). rowsFit (a .span) (take i (a .rows .now))) done
+    ∙ ap (rowsFit (a .span)) (clamped (a .rows .now) (a .symbols - 1))
     ∙ ap (λ (s : Bool). s && rowsFit (a .span) (take (a .symbols - 1) (a .rows .now))) (sym (sizes (m .before)))
 
 pub is-fit-spec : {M : Type 1} → statement M

@@ -1,4 +1,4 @@
--- `decoder::decode::judge`: the four cases of a register. Assumes nothing.
+-- `decoder::decode::explain`: the four cases of a register. Assumes nothing.
 use mathlib.Core.Path.{_≡_, sym, ap, _∙_}
 use mathlib.Core.Bool.{true, false}
 use Prim.Native.Nat.{_^_, _≤_, _<_}
@@ -10,15 +10,17 @@ use Rattle.span.proofs.Word.{odd-of}
 use Rattle.tables.specs.Table.{codeRows}
 use Rattle.tables.proofs.Fit.{code-length}
 use Rattle.link.specs.Step.{found}
-use Rattle.link.proofs.Error.{zero-found, found-lt, found-some, judged-zero, judged-found, judged-doubtful, judged-held}
-use Rattle.link.proofs.decode.judge.Statement.{statement}
-use Rattle.link.proofs.decode.judge.Tie as tie
+use Rattle.link.proofs.Error.{zero-found, found-lt, found-some, verdict-zero, verdict-found, verdict-doubtful}
+use Rattle.link.proofs.Error.{verdict-held}
+use Rattle.link.proofs.decode.explain.Statement.{statement}
+use Rattle.link.proofs.decode.explain.Tie as tie
 
 returns : tie.Need-returns
 returns c =
     let a = c .before .before .args in
     let R = codeRows (a .n) (a .rows .now) in
-    judged-zero (found R (a .x)) (a .x) (ap (found R) (c .if1 .taken) ∙ zero-found R)
+    let v = verdict-zero (found R (a .x)) (a .x) (ap (found R) (c .if1 .taken) ∙ zero-found R) in
+    (v .0, (c .if1 .taken ∙ v .1 .0, v .1 .1))
 
 least-error-requires : tie.Need-least-error-requires
 least-error-requires c κs = search needs
@@ -32,16 +34,17 @@ error-fits c =
     let a = c .before .before .before .before .before .before .args in
     let R = codeRows (a .n) (a .rows .now) in
     let size : length R ≡ a .n = code-length (a .n) (a .rows .now) (omega arith) (omega arith) in
-    let l = found-lt R (a .x) (c .before .least .given .0 .0) (sym (c .before .before .before .least-error .ensures) ∙ c .before .least .given .1) in
+    let l = found-lt R (a .x) (c .before .least .given .0 .0)
+    (sym (c .before .before .before .least-error .ensures) ∙ c .before .least .given .1) in
     let h : length R ≤ 16 = omega arith in
     let m = pow-mono h in
     omega arith
 
-cast-t8 : tie.Need-cast-t8
-cast-t8 c = record { fits = error-fits c }
-
 cast-t9 : tie.Need-cast-t9
 cast-t9 c = record { fits = error-fits c }
+
+cast-t10 : tie.Need-cast-t10
+cast-t10 c = record { fits = error-fits c }
 
 returns-2 : tie.Need-returns-2
 returns-2 c =
@@ -49,7 +52,7 @@ returns-2 c =
     let R = codeRows (a .n) (a .rows .now) in
     let e = c .before .least .given .0 .0 in
     let h = sym (c .before .before .before .least-error .ensures) ∙ c .before .least .given .1 in
-    judged-found (found R (a .x)) (a .x) e h (found-some R (a .x) e h (c .before .before .before .before .if1 .left))
+    verdict-found (found R (a .x)) (a .x) e h (found-some R (a .x) e h (c .before .before .before .before .if1 .left))
 
 enum-told : tie.Need-enum-told
 enum-told c = search needs
@@ -58,25 +61,27 @@ returns-3 : tie.Need-returns-3
 returns-3 c =
     let a = c .before .before .before .before .before .before .args in
     let R = codeRows (a .n) (a .rows .now) in
-    judged-doubtful (found R (a .x)) (a .x) (sym (c .before .before .before .least-error .ensures) ∙ c .before .enum-told .given .1)
+    verdict-doubtful (found R (a .x)) (a .x)
+    (sym (c .before .before .before .least-error .ensures) ∙ c .before .enum-told .given .1)
     (odd-of true (a .x) (c .if2 .taken))
 
 returns-4 : tie.Need-returns-4
 returns-4 c =
     let a = c .before .before .before .before .before .before .args in
     let R = codeRows (a .n) (a .rows .now) in
-    judged-held (found R (a .x)) (a .x) (sym (c .before .before .before .least-error .ensures) ∙ c .before .enum-told .given .1)
+    verdict-held (found R (a .x)) (a .x)
+    (sym (c .before .before .before .least-error .ensures) ∙ c .before .enum-told .given .1)
     (odd-of false (a .x) (let z = c .if2 .left in omega arith))
 
-pub judge-spec : {M : Type 1} → statement M
-judge-spec =
+pub explain-spec : {M : Type 1} → statement M
+explain-spec =
     tie.close
     (tie.spec
     returns
     least-error-requires
     enum-known-least
-    cast-t8
     cast-t9
+    cast-t10
     returns-2
     enum-told
     returns-3

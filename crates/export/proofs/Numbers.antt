@@ -1,8 +1,8 @@
 -- What the 18 numbers hold of a table. Assumes nothing.
 use mathlib.Core.Path.{refl}
 use borrow.Author.Tests.{eq-eqb, ne-eqb}
-use Rattle.export.specs.Table.{tableOf, sizesOf, numbersOf, givenBack}
-use Rattle.export.specs.TableLaws.{TABLE-BACK, TABLE-PARTS, GIVEN-BACK}
+use Rattle.export.specs.Numbers.{tableOf, sizesOf, numbersOf, givenBack}
+use Rattle.export.specs.Numbers.{TABLE-BACK, TABLE-PARTS, GIVEN-BACK}
 
 pub table-back : TABLE-BACK
 unfolding tableOf numbersOf

@@ -1,0 +1,48 @@
+-- What the functions that C calls promise, of the table t that the 18 numbers are: the numbers of 01, in a struct, and
+-- every lent word.
+--
+--   Reads bytes r before after   `burst_read`: it answers r, and leaves `after` of the numbers lent for the table
+--   MakesTable n m before r after   `burst_make`
+--   StartsBy t words before r after   `burst_start_coder` and `burst_start_decoder`
+--   CodesBy t before info r after   `burst_code`
+--   DecodesBy t before received r after   `burst_decode`
+use mathlib.Core.Path.{_≡_}
+use mathlib.Core.List.{List, [], _∷_}
+use Prim.Native.Nat.{ℕ}
+use Rattle.tables.specs.declared.table.Table.{Table}
+use Rattle.tables.specs.declared.read.Reading.{Reading}
+use Rattle.tables.specs.Reading.{numbers, Read}
+use Rattle.tables.specs.Made.{making, madeNumbers}
+use Rattle.link.specs.Refusals.{startFault, coderFault, decoderFault, callNumbers}
+use Rattle.link.specs.Start.{startMemory}
+use Rattle.link.specs.Coder.{codedBlock, codeMemory}
+use Rattle.link.specs.Decoder.{decodeValues, decodeMemory}
+use Rattle.export.specs.declared.reading.BurstReading.{BurstReading}
+use Rattle.export.specs.declared.coded.BurstCoded.{BurstCoded}
+use Rattle.export.specs.declared.decoded.BurstDecoded.{BurstDecoded}
+use Rattle.export.specs.Numbers.{givenBack}
+use Rattle.export.specs.Answers.{numberOf, readingOf, codedOf, decodedOf}
+
+-- "Only the triple of refusal 10 is left free": there is a reading that is right of the bytes (`Read`), and these are
+-- its numbers and, if it is no refusal, its table's
+pub record Reads (bytes : List ℕ) (r : BurstReading) (before after : List ℕ) : Type 0 where
+  pub reading : Reading
+  pub right : Read bytes reading
+  pub answer : r ≡ readingOf (numbers (reading .answer))
+  pub table : after ≡ givenBack (r .refused) (reading .table) before
+
+pub record MakesTable (n m : ℕ) (before : List ℕ) (r : ℕ) (after : List ℕ) : Type 0 where
+  pub number : r ≡ numberOf (madeNumbers (making n m .answer))
+  pub table : after ≡ givenBack r (making n m .table) before
+
+pub record StartsBy (t : Table) (words : ℕ) (before : List ℕ) (r : ℕ) (after : List ℕ) : Type 0 where
+  pub number : r ≡ numberOf (callNumbers (startFault t words before) [])
+  pub memory : after ≡ startMemory t words before
+
+pub record CodesBy (t : Table) (before : List ℕ) (info : ℕ) (r : BurstCoded) (after : List ℕ) : Type 0 where
+  pub answer : r ≡ codedOf (callNumbers (coderFault t before info) (codedBlock t before info ∷ []))
+  pub memory : after ≡ codeMemory t before info
+
+pub record DecodesBy (t : Table) (before : List ℕ) (received : ℕ) (r : BurstDecoded) (after : List ℕ) : Type 0 where
+  pub answer : r ≡ decodedOf (callNumbers (decoderFault t before received) (decodeValues t before received))
+  pub memory : after ≡ decodeMemory t before received

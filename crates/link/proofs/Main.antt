@@ -1,0 +1,21 @@
+-- The door: each theorem is proved in the file that is named. Assumes nothing.
+use Rattle.link.specs.Main.{LINK}
+use Rattle.link.proofs.Calls.{refused-calls, taken-calls}
+use Rattle.link.proofs.Marks.{marks}
+use Rattle.link.proofs.Massey.{parity, syndrome-errors, deliveries, waiting}
+use Rattle.link.proofs.Recovery.{recovery}
+use Rattle.link.proofs.Clean.{clean, started-clean}
+
+pub link : LINK
+link = record {
+  refused-calls = refused-calls;
+  taken-calls = taken-calls;
+  parity = parity;
+  syndrome = syndrome-errors;
+  waiting = waiting;
+  delivery = deliveries;
+  marks = marks;
+  recovery = recovery;
+  clean = clean;
+  started-clean = started-clean;
+}

@@ -1,0 +1,27 @@
+-- The door: all that a user of coder and decoder needs to read, each theorem stated in the file that is named. What the
+-- functions promise of one call is `Starts`, `Codes` and `Decodes` (`Start`, `Coder`, `Decoder`).
+--
+--   Link, LINK   the theorems
+use Rattle.link.specs.Calls.{REFUSED-CALLS, TAKEN-CALLS}
+use Rattle.link.specs.Marks.{MARKS}
+use Rattle.link.specs.Massey.{PARITY, SYNDROME-ERRORS, DELIVERY, WAITING}
+use Rattle.link.specs.Recovery.{RECOVERY}
+use Rattle.link.specs.Clean.{CLEAN, STARTED-CLEAN}
+
+pub record Link : Type 0 where
+  -- demand 1: a refused call leaves every lent word as it was, and where no reason applies a call is not refused
+  pub refused-calls : REFUSED-CALLS
+  pub taken-calls : TAKEN-CALLS
+  -- demand 2: the parity is Massey's eq. 1, the syndrome his eq. 3; what is delivered, and what its mark tells
+  pub parity : PARITY
+  pub syndrome : SYNDROME-ERRORS
+  pub waiting : WAITING
+  pub delivery : DELIVERY
+  pub marks : MARKS
+  -- demand 3: after a fade, of any well-formed memories; and of started ones, where no guard is needed
+  pub recovery : RECOVERY
+  pub clean : CLEAN
+  pub started-clean : STARTED-CLEAN
+
+abbrev pub LINK : Type 0
+LINK = Link

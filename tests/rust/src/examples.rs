@@ -1,0 +1,197 @@
+//! Listed cases, those that are easy to get wrong: table bytes and what reading them says, and steps of the
+//! coder and the decoder with the memory after them.
+
+use crate::cases::{row_record, sizes_record};
+use crate::oracle::Table;
+use crate::{Coded, Decoded};
+
+/// "Z" is n = 2, N = 4, row 10, and m is 1 in the scope. Its images are 0, 10, 1, 11.
+pub fn z(depth: u64) -> Table {
+    Table::new(2, 4, depth, &[10])
+}
+
+// ---- Table bytes ----
+
+/// What reading says of bytes.
+#[derive(Debug)]
+pub enum Says {
+    /// The number, 1 to 9, and the place.
+    Refused(u64, u64),
+    Accepted(Table),
+    /// Refusal 10: the records are right and give this table, which the triple shows unsuitable.
+    Unsuitable(Table),
+}
+
+#[derive(Debug)]
+pub struct ReadCase {
+    pub bytes: Vec<u8>,
+    pub says: Says,
+}
+
+fn says(records: &[&[u8]], says: Says) -> ReadCase {
+    ReadCase { bytes: records.concat(), says }
+}
+
+pub fn read_cases() -> [ReadCase; 17] {
+    use Says::{Accepted, Refused, Unsuitable};
+    // of Z: its sizes, its row, and a row of any number that has a one at bit 4, too high
+    let sizes = sizes_record(2, 4, 1);
+    let row = row_record(1, 10);
+    let long = |j| row_record(j, 16);
+    [
+        // a kind that is none of the three, alone and after the sizes
+        says(&[&[3]], Refused(2, 0)),
+        says(&[&sizes, &[255]], Refused(2, 4)),
+        // a row first: cut short, and whole
+        says(&[&[2]], Refused(3, 0)),
+        says(&[&row], Refused(4, 0)),
+        // sizes again: cut short, and whole but out of range
+        says(&[&sizes, &[1, 2, 4]], Refused(3, 4)),
+        says(&[&sizes, &[1, 17, 4, 1]], Refused(4, 4)),
+        // rows: number 0, number n, a number given twice, all with a one too high; and a one too high alone
+        says(&[&sizes, &long(0)], Refused(6, 4)),
+        says(&[&sizes, &long(2)], Refused(6, 4)),
+        says(&[&sizes, &row, &long(1)], Refused(6, 14)),
+        says(&[&sizes, &long(1)], Refused(7, 4)),
+        // no row of 64 bits is too long: not 7 but 10, as row n shifted by 63 is row 1; the triple of that fits no
+        // other row
+        says(
+            &[&sizes_record(2, 64, 64), &row_record(1, 1 << 63), &[0]],
+            Unsuitable(Table::new(2, 64, 64, &[1 << 63])),
+        ),
+        // T1 without its last byte
+        says(&[&sizes, &row], Refused(1, 14)),
+        // an early end, alone and with bytes after it; bytes after the end
+        says(&[&sizes, &[0]], Refused(8, 4)),
+        says(&[&sizes, &[0, 0]], Refused(8, 4)),
+        says(&[&sizes, &row, &[0, 0]], Refused(9, 15)),
+        // bytes after the end of an unsuitable table, n = 2, N = 4, row 2
+        says(&[&sizes, &row_record(1, 2), &[0, 255]], Refused(9, 15)),
+        // rows in any order
+        says(
+            &[&sizes_record(3, 6, 1), &row_record(2, 34), &row_record(1, 56), &[0]],
+            Accepted(Table::new(3, 6, 1, &[56, 34])),
+        ),
+    ]
+}
+
+// ---- Steps ----
+
+/// The block that a step is handed, and its answer.
+#[derive(Clone, Copy, Debug)]
+pub enum Step {
+    Code(u16, Coded),
+    Decode(u16, Decoded),
+}
+
+#[derive(Debug)]
+pub struct StepCase {
+    pub table: Table,
+    pub memory: Vec<u64>,
+    pub step: Step,
+    pub after: Vec<u64>,
+}
+
+fn step(table: &Table, memory: &[u64], step: Step, after: &[u64]) -> StepCase {
+    StepCase { table: table.clone(), memory: memory.to_vec(), step, after: after.to_vec() }
+}
+
+/// A coder's step that is taken, with the coded block.
+fn codes(table: &Table, memory: &[u64], info: u16, block: u64, after: &[u64]) -> StepCase {
+    step(table, memory, Step::Code(info, Coded { refused: 0, block }), after)
+}
+
+/// A decoder's step that is taken, with the information, the number of the mark, and e.
+fn decodes(table: &Table, memory: &[u64], received: u16, values: [u64; 3], after: &[u64]) -> StepCase {
+    let [info, mark, error] = values;
+    step(table, memory, Step::Decode(received, Decoded { refused: 0, info, mark, error }), after)
+}
+
+/// A coder's step that is refused, which writes nothing.
+fn no_code(table: &Table, memory: &[u64], info: u16, refused: u64) -> StepCase {
+    step(table, memory, Step::Code(info, Coded { refused, block: 0 }), memory)
+}
+
+/// A decoder's step that is refused, which writes nothing.
+fn no_decode(table: &Table, memory: &[u64], received: u16, refused: u64) -> StepCase {
+    step(table, memory, Step::Decode(received, Decoded { refused, info: 0, mark: 0, error: 0 }), memory)
+}
+
+/// The values of a step that delivers nothing.
+const NOTHING_YET: [u64; 3] = [0; 3];
+
+/// These words, and zeros after them.
+fn with_zeros(words: &[u64], zeros: usize) -> Vec<u64> {
+    [words, &vec![0; zeros]].concat()
+}
+
+/// A stream of Z has 5 words in the decoder: pending, syndrome, 3 delayed blocks.
+pub fn step_cases() -> [StepCase; 32] {
+    let (z1, z2) = (z(1), z(2));
+    let n2_span2 = Table::new(2, 2, 1, &[2]);
+    let more_rows = Table::new(2, 4, 1, &[10, 255, 1]);
+    let n16 = Table::new(16, 2, 1, &[]);
+    let span64 = Table::new(2, 64, 1, &[]);
+    [
+        // a correction takes from the oldest block; the youngest joins as received
+        decodes(&z1, &[0, 3, 0, 2, 1, 0, 0], 3, [0, 3, 1], &[0, 3, 5, 0, 0, 0, 1]),
+        // no error found: the word is halved, not cleared
+        decodes(&z1, &[0, 3, 0, 3, 1, 0, 0], 0, [1, 4, 0], &[0, 3, 0, 1, 0, 0, 0]),
+        // before the fill is complete the register, here 10, is judged and cleared too; and a received parity
+        // does not join the pending word
+        decodes(&z1, &[0, 0, 0, 2, 0, 0, 0], 2, NOTHING_YET, &[0, 1, 0, 0, 0, 0, 0]),
+        // N = 2 has one delayed block
+        decodes(&n2_span2, &[0, 1, 0, 0, 1], 0, [1, 1, 0], &[0, 1, 0, 0, 0]),
+        decodes(&n2_span2, &[0, 0, 0, 0, 0], 1, NOTHING_YET, &[0, 1, 1, 0, 1]),
+        // equal rows 1, 1 and 1: the least e is 1; zero rows: register 0 is clean
+        decodes(&Table::new(3, 2, 1, &[1, 1]), &[0, 1, 0, 1, 3], 0, [2, 3, 1], &[0, 1, 0, 0, 0]),
+        decodes(&Table::new(3, 2, 1, &[]), &[0, 1, 0, 0, 3], 0, [3, 1, 0], &[0, 1, 0, 0, 0]),
+        // rows beyond n − 1 do not matter, not even to 12
+        decodes(&more_rows, &[0, 3, 0, 2, 1, 0, 0], 3, [0, 3, 1], &[0, 3, 5, 0, 0, 0, 1]),
+        codes(&more_rows, &[0, 1], 1, 3, &[0, 5]),
+        // two streams, one fill. A malformed word of the other stream: the step is taken and the word stays;
+        // then it is that stream's turn
+        decodes(
+            &z2,
+            &[0, 5, 0, 0, 0, 0, 0, 99, 99, 99, 99, 99],
+            0,
+            NOTHING_YET,
+            &[1, 6, 0, 0, 0, 0, 0, 99, 99, 99, 99, 99],
+        ),
+        no_decode(&z2, &[1, 6, 0, 0, 0, 0, 0, 99, 99, 99, 99, 99], 0, 14),
+        codes(&z2, &[0, 0, 99], 1, 1, &[1, 5, 99]),
+        no_code(&z2, &[1, 5, 99], 1, 14),
+        // the turn returns to 0
+        codes(&z2, &[1, 99, 0], 1, 1, &[0, 99, 5]),
+        // n = 16: no received block of 16 bits is refused for 15, and information has 15 bits
+        decodes(&n16, &[0, 0, 1, 0, 0], 65535, NOTHING_YET, &[0, 1, 0, 0, 32767]),
+        codes(&n16, &[0, 1], 32767, 65535, &[0, 0]),
+        no_code(&n16, &[0, 1], 32768, 15),
+        // N = 64: 2^63 is too large a word, 2^63 − 1 is not
+        no_decode(&span64, &with_zeros(&[0, 0, 1 << 63], 64), 0, 14),
+        no_decode(&span64, &with_zeros(&[0, 0, 0, 1 << 63], 63), 0, 14),
+        decodes(
+            &span64,
+            &with_zeros(&[0, 0, 0, (1 << 63) - 1], 63),
+            0,
+            NOTHING_YET,
+            &with_zeros(&[0, 1, 0, (1 << 62) - 1], 63),
+        ),
+        no_code(&span64, &[0, 1 << 63], 0, 14),
+        codes(&span64, &[0, (1 << 63) - 1], 0, 2, &[0, (1 << 62) - 1]),
+        // 12 before 13: the table beside a refused reading, a row with a one at bit N; both on no memory
+        no_decode(&Table::new(0, 0, 0, &[]), &[], 0, 12),
+        no_code(&Table::new(2, 4, 1, &[16]), &[], 0, 12),
+        // a table of another size: 13, before a turn that 14 would refuse
+        no_decode(&z2, &[9, 0, 0, 0, 0, 0, 0], 0, 13),
+        no_code(&z2, &[9, 0], 0, 13),
+        // 14 before 15: turn m, a fill past m × (N − 1), a delayed block of 2^(n−1)
+        no_decode(&z1, &[1, 0, 0, 0, 0, 0, 0], 4, 14),
+        no_decode(&z1, &[0, 4, 0, 0, 0, 0, 0], 4, 14),
+        no_decode(&z1, &[0, 0, 0, 0, 0, 0, 2], 4, 14),
+        no_code(&z1, &[u64::MAX, 0], 2, 14),
+        // 15: a block of 2^n, information of 2^(n−1)
+        no_decode(&z1, &[0; 7], 4, 15),
+        no_code(&z1, &[0, 0], 2, 15),
+    ]
+}
