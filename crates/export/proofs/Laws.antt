@@ -97,7 +97,7 @@ made-told n m before r after told = go (sizesFit n 2 m) refl
           left .1,
         )
     go false q =
-        let e = told .number ∙ ap numberOf (not-made n m q .0) in
+        let e = told .number ∙ ap (λ (a : MakeAnswer). numberOf (madeNumbers a)) (not-made n m q .0) in
         (e, λ z. absurd (omega arith), left .1)
 
 -- ---- starts and steps

@@ -6,18 +6,14 @@
 --   givenBack k t before   what a call leaves of the numbers lent for a table: a refusal, k not 0, leaves them as they
 --                          were
 --   TABLE-BACK     a table that is given back, handed in again, is that table
---   TABLE-PARTS    the table of the numbers is that of the sizes alone, with rows 1 to 15 in it
---   GIVEN-BACK     number 0 gives a table's numbers back; a refusal leaves what stood there
 use mathlib.Core.Path.{_≡_}
 use mathlib.Core.Bool.{cond}
-use mathlib.Core.Logic.{_≢_}
 use mathlib.Core.List.{List, _∷_}
 use Prim.Native.Nat.{ℕ}
 use lib.Dec.{eqb}
 use lib.ListN.{getD, drop, replicate}
 use Rattle.tables.specs.declared.table.Table.{Table}
 use Rattle.tables.specs.Table.{table}
-use Rattle.tables.specs.Lent.{withRows}
 
 unfoldable pub tableOf : List ℕ → Table
 tableOf ns = table (getD ns 0 0) (getD ns 1 0) (getD ns 2 0) (drop 3 ns)
@@ -34,11 +30,3 @@ givenBack k t before = cond (eqb k 0) (numbersOf t) before
 
 abbrev pub TABLE-BACK : Type 0
 TABLE-BACK = (t : Table) → tableOf (numbersOf t) ≡ t
-
-abbrev pub TABLE-PARTS : Type 0
-TABLE-PARTS = (ns : List ℕ) → withRows (sizesOf ns) (drop 3 ns) ≡ tableOf ns
-
-abbrev pub GIVEN-BACK : Type 0
-GIVEN-BACK =
-    (k : ℕ) (t : Table) (before : List ℕ)
-    → (k ≡ 0 → givenBack k t before ≡ numbersOf t) × (k ≢ 0 → givenBack k t before ≡ before)

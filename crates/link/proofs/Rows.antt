@@ -62,16 +62,16 @@ module _ (n N m : ℕ) (us ts : List ℕ) (e : take (n - 1) us ≡ take (n - 1) 
   unfolding delivery
   deliveries s b = rw (records s b)
 
-  same : (s : List ℕ) (b : ℕ)
-      → ((startAnswer (table n N m us) b s ≡ startAnswer (table n N m ts) b s)
-      × (startMemory (table n N m us) b s ≡ startMemory (table n N m ts) b s))
+  same : (words : ℕ) (s : List ℕ) (b : ℕ)
+      → ((startAnswer (table n N m us) words s ≡ startAnswer (table n N m ts) words s)
+      × (startMemory (table n N m us) words s ≡ startMemory (table n N m ts) words s))
       × ((codeAnswer (table n N m us) s b ≡ codeAnswer (table n N m ts) s b)
       × (codeMemory (table n N m us) s b ≡ codeMemory (table n N m ts) s b))
       × ((decodeAnswer (table n N m us) s b ≡ decodeAnswer (table n N m ts) s b)
       × (decodeMemory (table n N m us) s b ≡ decodeMemory (table n N m ts) s b))
   unfolding startAnswer startMemory codeAnswer codeMemory decodeAnswer decodeMemory
-  same s b = (
-    (rw (start-faults b s), rw (start-faults b s)),
+  same words s b = (
+    (rw (start-faults words s), rw (start-faults words s)),
     (rw (coder-faults s b, blocks s b), rw (coder-faults s b, coder-nexts s b)),
     (rw (decoder-faults s b, deliveries s b), rw (decoder-faults s b, decoder-nexts s b)),
   )
@@ -81,10 +81,10 @@ sizes-are : (u t : Table) → SameTable u t → table (t .symbols) (t .span) (t 
 sizes-are u t h = rw (sym (h .symbols), sym (h .span), sym (h .depth))
 
 pub unused-rows : UNUSED-ROWS
-unused-rows u t h s b =
+unused-rows u t h words s b =
     subst
-    (λ (v : Table). ((startAnswer v b s ≡ startAnswer t b s) × (startMemory v b s ≡ startMemory t b s))
+    (λ (v : Table). ((startAnswer v words s ≡ startAnswer t words s) × (startMemory v words s ≡ startMemory t words s))
     × ((codeAnswer v s b ≡ codeAnswer t s b) × (codeMemory v s b ≡ codeMemory t s b))
     × ((decodeAnswer v s b ≡ decodeAnswer t s b) × (decodeMemory v s b ≡ decodeMemory t s b)))
     (sizes-are u t h)
-    (same (t .symbols) (t .span) (t .depth) (u .rows) (t .rows) (h .rows) s b)
+    (same (t .symbols) (t .span) (t .depth) (u .rows) (t .rows) (h .rows) words s b)

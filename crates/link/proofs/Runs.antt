@@ -6,6 +6,7 @@
 --   Place, run-place         what stands at a place
 --   ran-keeps                what every call keeps, a run keeps
 --   run-append               a run over two lists
+--   refused-skipped          a run with a refused call in it
 --   sent-told, taken-told    what is kept of the calls of coder and decoder
 --   sent-place, taken-place  their places
 use mathlib.Core.Path.{_≡_, refl, sym, ap, _∙_, subst}
@@ -25,6 +26,7 @@ use Rattle.link.specs.Refusals.{coderFault, decoderFault, answered, leav
 use Rattle.link.specs.Coder.{codedBlock, coderNext, codeAnswer, codeMemory}
 use Rattle.link.specs.Decoder.{decoderNext, delivered, delivery, decodeAnswer, decodeMemory}
 use Rattle.link.specs.Runs.{Call, Sent, Taken, sentOf, takenOf, run, ran, placed, sentBy, takenBy, RUN-APPEND}
+use Rattle.link.specs.Runs.{REFUSED-SKIPPED}
 
 -- a call's fault and the memory after it where that is 0: what every call leaves
 module _ (fault : Table → List ℕ → ℕ → ℕ) (next memory : Table → List ℕ → ℕ → List ℕ)
@@ -218,6 +220,31 @@ run-append X memory kept s (c ∷ cs) cs′ =
       rest .1,
     )
 
+-- a call that is refused, anywhere in a list
+module _ (fault : Table → List ℕ → ℕ → ℕ) (next memory : Table → List ℕ → ℕ → List ℕ)
+    (is-memory : (t : Table) (s : List ℕ) (b : ℕ) → memory t s b ≡ leaves (fault t s b) (next t s b) s) {X : Type 0}
+    (kept : Table → List ℕ → ℕ → List X) (entry : Table → List ℕ → ℕ → X)
+    (told : Told fault next memory is-memory kept entry)
+    (s : List ℕ) (cs : List Call) (c : Call) (cs′ : List Call)
+    (refused : fault (c .table) (ran memory s cs) (c .block) ≢ 0) where
+  there : List ℕ
+  there = ran memory s cs
+
+  skipped : (run memory kept s (cs ++ (c ∷ cs′)) ≡ run memory kept s (cs ++ cs′))
+      × (ran memory s (cs ++ (c ∷ cs′)) ≡ ran memory s (cs ++ cs′))
+  unfolding ran there
+  skipped =
+      let with-c = run-append X memory kept s cs (c ∷ cs′) in
+      let without = run-append X memory kept s cs cs′ in (
+        with-c .0
+            ∙ ap (λ (xs : List X). run memory kept s cs ++ xs)
+            (run-refused fault next memory is-memory kept entry told there c cs′ refused)
+            ∙ sym (without .0),
+        with-c .1 ∙ ap (λ (m : List ℕ). ran memory m cs′)
+            (memory-refused fault next memory is-memory (c .table) there (c .block) refused)
+            ∙ sym (without .1),
+      )
+
 -- ---- coder and decoder
 
 pub coder-memory : (t : Table) (s : List ℕ) (b : ℕ) → codeMemory t s b ≡ leaves (coderFault t s b) (coderNext t s b) s
@@ -284,3 +311,11 @@ pub taken-place : (s : List ℕ) (ds : List Call) (p : ℕ) → p < length (take
 taken-place =
     run-place decoderFault decoderNext decodeMemory decoder-memory
     (λ t s r. takenOf t r (decodeAnswer t s r)) takenEntry taken-told
+
+pub refused-skipped : REFUSED-SKIPPED
+refused-skipped s cs c cs′ = (
+  skipped coderFault coderNext codeMemory coder-memory
+      (λ t s b. sentOf t b (codeAnswer t s b)) sentEntry sent-told s cs c cs′,
+  skipped decoderFault decoderNext decodeMemory decoder-memory
+      (λ t s r. takenOf t r (decodeAnswer t s r)) takenEntry taken-told s cs c cs′,
+)

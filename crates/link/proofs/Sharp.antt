@@ -28,7 +28,7 @@ use Rattle.link.specs.Decoder.{decoderJoining, decoderRegister, decoderF
 use Rattle.link.specs.Decoder.{delivery, decodeAnswer, decodeMemory}
 use Rattle.link.specs.Runs.{Call, Sent, Taken, run, sentBy, takenBy, noneSent, noneTaken, sentAt, takenAt}
 use Rattle.link.specs.Recovery.{Origin, Wrong, Stretch, Burst, Chosen, Within}
-use Rattle.link.specs.Computed.{Z, calls, delivers, differing, sentBlocks, takenBlocks, answersOf}
+use Rattle.link.specs.Computed.{Z, calls, delivers, differing, sentBlocks, takenBlocks}
 use Rattle.link.specs.Examples.{bytesOfZ}
 use Rattle.link.specs.Sharp.{RecoveryWith, GUARD-SHARP, GAP-SHARP, LENGTH-SHARP}
 use Rattle.link.proofs.Formed.{started-formed}
@@ -48,6 +48,9 @@ zerosSent count = sentBy (started (coderWords (Z 1))) (calls (Z 1) (replicate co
 
 abbrev received : ℕ → List ℕ → List Taken
 received pending blocks = takenBy (filled pending) (calls (Z 1) blocks)
+
+abbrev answersOf : List Taken → List DecodeAnswer
+answersOf xs = map (λ (x : Taken). x .answer) xs
 
 abbrev Shows : ℕ → List ℕ → List ℕ → List DecodeAnswer → Type 0
 Shows pending blocks wrong answers =

@@ -134,6 +134,7 @@ witness = (
     guard = right-by places 12 late;
     bursts = bursts-by places 2 6 bursts apart covered;
   },
+  computed .0 .wrong,
   computed .0 .coder-refused,
   computed .0 .decoder-refused,
 )

@@ -22,7 +22,7 @@ use Rattle.link.specs.declared.decode.DecodeAnswer.the-variants.{Deliver
 use Rattle.link.specs.Memory.{started, coderWords, turnOf, decoderWords, pendingAt, delayOf, pendingOf}
 use Rattle.link.specs.Memory.{syndromeOf, delayedOf}
 use Rattle.link.specs.Runs.{Call, Taken, sentBy, takenBy, takenAt}
-use Rattle.link.specs.Recovery.{Wrong, Bursts, Recovered, Running}
+use Rattle.link.specs.Recovery.{BurstsWithin, Recovered, Running}
 
 -- The stream that has its turn d places on is stream turn + d mod m; the coder's turn need not be the decoder's. The
 -- delayed blocks may be any, and so may the fill.
@@ -51,7 +51,7 @@ Undisturbed t decoder taken p =
 abbrev pub CLEAN : Type 0
 CLEAN =
     (t : Table) (coder decoder : List ℕ) (cs ds : List Call) → Running t coder decoder cs ds → Clean t coder decoder
-    → Bursts (Wrong (sentBy coder cs) (takenBy decoder ds)) (t .depth) (delayOf t) (length (takenBy decoder ds))
+    → BurstsWithin (t .depth) (delayOf t) (sentBy coder cs) (takenBy decoder ds)
     → (p : ℕ) → 1 ≤ p → p ≤ length (takenBy decoder ds)
     → (delayOf t < p → Recovered (sentBy coder cs) (takenBy decoder ds) (delayOf t) p)
     × (p ≤ delayOf t → Undisturbed t decoder (takenBy decoder ds) p)

@@ -6,7 +6,6 @@
 --   answersBy answer memory s cs   what every call answers, refused or not, each on the memory that the one before it
 --                                  left
 --   sentBlocks, takenBlocks     the blocks of the steps that are not refused
---   answersOf                   what they answer
 --   delivers info mark          the answer that is a delivery
 --   differing k xs ys           the places, counted from k, at which two lists of blocks differ
 use mathlib.Core.Bool.{cond}
@@ -43,9 +42,6 @@ sentBlocks xs = map (λ (x : Sent). x .block) xs
 
 abbrev pub takenBlocks : List Taken → List ℕ
 takenBlocks xs = map (λ (x : Taken). x .block) xs
-
-abbrev pub answersOf : List Taken → List DecodeAnswer
-answersOf xs = map (λ (x : Taken). x .answer) xs
 
 abbrev pub delivers : ℕ → Mark → DecodeAnswer
 delivers info mark = Delivery (record { info = info; mark = mark })

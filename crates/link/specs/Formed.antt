@@ -7,7 +7,7 @@
 --   FORMED-STEPS        no step on a well-formed memory is refused for 13 or 14
 --   STARTED-FORMED      a started memory is well-formed
 --   FORMED-KEPT         a step that is taken keeps a well-formed memory well-formed
---   FORMED-THROUGHOUT   and so does a run, whatever is handed to it and whatever is refused
+--   FORMED-THROUGHOUT   and so does a run whose taken steps use that table, whatever else is handed to it and refused
 use mathlib.Core.Path.{_≡_}
 use mathlib.Core.Bool.{Bool, true, false}
 use mathlib.Core.Logic.{_≢_, _↔_}

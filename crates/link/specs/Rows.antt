@@ -13,7 +13,7 @@ use Rattle.link.specs.Decoder.{decodeAnswer, decodeMemory}
 
 abbrev pub UNUSED-ROWS : Type 0
 UNUSED-ROWS =
-    (u t : Table) → SameTable u t → (s : List ℕ) (b : ℕ)
-    → ((startAnswer u b s ≡ startAnswer t b s) × (startMemory u b s ≡ startMemory t b s))
+    (u t : Table) → SameTable u t → (words : ℕ) (s : List ℕ) (b : ℕ)
+    → ((startAnswer u words s ≡ startAnswer t words s) × (startMemory u words s ≡ startMemory t words s))
     × ((codeAnswer u s b ≡ codeAnswer t s b) × (codeMemory u s b ≡ codeMemory t s b))
     × ((decodeAnswer u s b ≡ decodeAnswer t s b) × (decodeMemory u s b ≡ decodeMemory t s b))

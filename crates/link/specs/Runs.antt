@@ -10,10 +10,12 @@
 --   placed fault entry       something told of each step that is not refused
 --   sentAt xs p, takenAt xs p   entry p of such a list, counted from 1; past its end noneSent and noneTaken
 --   CoderTables, DecoderTables   each step that is not refused uses a table that is the same as t
+--   REFUSED-SKIPPED          a run with a refused call in it is the run without it
 --   RUN-APPEND               a run over two lists is one over the first, and then one over the second from the memory
 --                            after it
 use mathlib.Core.Path.{_≡_}
 use mathlib.Core.Bool.{cond}
+use mathlib.Core.Logic.{_≢_}
 use mathlib.Core.List.{List, [], _∷_, _++_}
 use Prim.Native.Nat.{ℕ, _-_, _≤_}
 use lib.Dec.{eqb}
@@ -24,6 +26,7 @@ use Rattle.link.specs.declared.code.CodeAnswer.{CodeAnswer}
 use Rattle.link.specs.declared.code.CodeAnswer.the-variants.{Coded, Refused as CodeRefused}
 use Rattle.link.specs.declared.decode.DecodeAnswer.{DecodeAnswer}
 use Rattle.link.specs.declared.decode.DecodeAnswer.the-variants.{Delivery, NothingYet, Refused as DecodeRefused}
+use Rattle.link.specs.Refusals.{coderFault, decoderFault}
 use Rattle.link.specs.Coder.{codeAnswer, codeMemory}
 use Rattle.link.specs.Decoder.{decodeAnswer, decodeMemory}
 
@@ -107,3 +110,13 @@ RUN-APPEND =
     (cs cs′ : List Call)
     → (run memory kept s (cs ++ cs′) ≡ run memory kept s cs ++ run memory kept (ran memory s cs) cs′)
     × (ran memory s (cs ++ cs′) ≡ ran memory (ran memory s cs) cs′)
+
+-- "It writes no lent word, so a sequence goes on as if the call had not come."
+abbrev pub REFUSED-SKIPPED : Type 0
+REFUSED-SKIPPED =
+    (s : List ℕ) (cs : List Call) (c : Call) (cs′ : List Call)
+    → (coderFault (c .table) (coderAfter s cs) (c .block) ≢ 0
+    → (sentBy s (cs ++ (c ∷ cs′)) ≡ sentBy s (cs ++ cs′)) × (coderAfter s (cs ++ (c ∷ cs′)) ≡ coderAfter s (cs ++ cs′)))
+    × (decoderFault (c .table) (decoderAfter s cs) (c .block) ≢ 0
+    → (takenBy s (cs ++ (c ∷ cs′)) ≡ takenBy s (cs ++ cs′))
+    × (decoderAfter s (cs ++ (c ∷ cs′)) ≡ decoderAfter s (cs ++ cs′)))

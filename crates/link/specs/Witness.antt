@@ -8,7 +8,7 @@
 --   shorter, longer        tables that ask for as many words, of which 14 refuses some
 --   coderMemory, decoderMemory   the memories that the run begins with
 --   coderCalls, decoderCalls     what is handed over, to steps that are refused too
---   WITNESS                every premise of recovery holds of it, and which steps are refused
+--   WITNESS                every premise of recovery holds of it, which places are wrong, and which steps are refused
 use mathlib.Core.Path.{_≡_}
 use mathlib.Core.List.{List, [], _∷_, _++_}
 use Prim.Native.Nat.{ℕ}
@@ -18,9 +18,9 @@ use Rattle.tables.specs.Table.{zeroTable}
 use Rattle.link.specs.Refusals.{coderFault, decoderFault}
 use Rattle.link.specs.Coder.{codeMemory}
 use Rattle.link.specs.Decoder.{decodeMemory}
-use Rattle.link.specs.Runs.{Call}
+use Rattle.link.specs.Runs.{Call, sentBy, takenBy}
 use Rattle.link.specs.Recovery.{Fades}
-use Rattle.link.specs.Computed.{code, Z, calls, answersBy}
+use Rattle.link.specs.Computed.{code, Z, calls, answersBy, sentBlocks, takenBlocks, differing}
 
 -- that it is made is the first of the premises
 abbrev pub made : Table
@@ -60,10 +60,13 @@ decoderCalls =
     ++ calls alike (0 ∷ 2 ∷ 1 ∷ 3 ∷ []) ++ calls zeroTable (1 ∷ [])
     ++ calls made (2 ∷ 2 ∷ 3 ∷ 3 ∷ 3 ∷ 1 ∷ 0 ∷ 2 ∷ 3 ∷ 3 ∷ 3 ∷ [])
 
--- every premise of recovery holds of it, and its refused steps are refused for 12 to 15
+-- every premise of recovery holds of it; places 13, 14, 21 and 22 are wrong; and its refused steps are refused for 12
+-- to 15
 abbrev pub WITNESS : Type 0
 WITNESS =
     Fades made coderMemory decoderMemory coderCalls decoderCalls
+    × (differing 1 (takenBlocks (takenBy decoderMemory decoderCalls)) (sentBlocks (sentBy coderMemory coderCalls))
+    ≡ 13 ∷ 14 ∷ 21 ∷ 22 ∷ [])
     × (answersBy coderFault codeMemory coderMemory coderCalls
     ≡ replicate 4 0 ++ (15 ∷ replicate 4 0) ++ (12 ∷ replicate 12 0) ++ (13 ∷ 14 ∷ replicate 10 0))
     × (answersBy decoderFault decodeMemory decoderMemory decoderCalls

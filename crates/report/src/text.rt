@@ -1,5 +1,5 @@
-// Lines, written into lent bytes from a position on. Each public function returns the position after them; where there
-// is no room for the longest line it writes nothing, and the position stays.
+// Lines, written into lent bytes from a position on. A function that the crate calls returns the position after them;
+// where there is no room for the longest line it writes nothing, and the position stays.
 use link::decode::Delivered;
 use link::decode::Mark;
 ghost use mathlib.Core.Path.{_≡_};

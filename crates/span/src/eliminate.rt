@@ -51,17 +51,17 @@ pub fn reduce_by<'a>(
 {
     let end = min(size, 32);
     let mut rest = x;
-    let mut taken: u64 = 0;
+    let mut removed: u64 = 0;
     let mut i = 0;
     while i < end {
         let on = common_parity(rest, checks[i]);
         rest ^= select(vectors[i], on);
-        taken ^= select(coefficients[i], on);
+        removed ^= select(coefficients[i], on);
         i += 1;
     }
     Reduced {
         rest,
-        coefficients: taken,
+        coefficients: removed,
     }
 }
 

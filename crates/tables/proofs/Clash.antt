@@ -36,7 +36,7 @@ alike N rows suits l e0 e1 from to h0 h1 same = go (eq-zero-or-pos e0)
     go (inr p) = absurd (suits l e0 e1 (record {
       shift-from = from;
       shift-to = to;
-      first-some = λ (z : e0 ≡ 0). omega arith;
+      first-some = λ z. omega arith;
       first-block = h0;
       second-block = h1;
       alike = same;
@@ -75,7 +75,7 @@ module _ (N : ℕ) (rows : List ℕ) (l : ℕ) where
       record {
         shift-from = from;
         shift-to = to;
-        first-some = λ (z : c / 2 ^ n ≡ 0).
+        first-some = λ z.
             let none : c / 2 ^ n * 2 ^ n ≡ 0 = ap (λ (x : ℕ). x * 2 ^ n) z ∙ zero-mul (2 ^ n) in
             let least = r .0 in
             omega arith;

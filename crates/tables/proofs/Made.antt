@@ -22,8 +22,7 @@ use Rattle.tables.specs.declared.table.Table.{Table}
 use Rattle.tables.specs.declared.make.MakeAnswer.the-variants.{Made, OutOfRange}
 use Rattle.tables.specs.declared.make.Making.{Making}
 use Rattle.tables.specs.Code.{image, shiftedImage, Suitable}
-use Rattle.tables.specs.Triangle.{FORCED, UNIQUE, another, NOT-UNIQUE, OUR-TRIANGLE, MADE, MADE-DEPTH, IS-MADE}
-use Rattle.tables.specs.Triangle.{NOT-MADE}
+use Rattle.tables.specs.Triangle.{FORCED, UNIQUE, another, NOT-UNIQUE, OUR-TRIANGLE, MADE, MADE-DEPTH}
 use Rattle.tables.specs.Table.{table, zeroTable, rowsOf, sizesFit, rowsFit, fit}
 use Rattle.tables.specs.Made.{columns, upper, madeRow, madeRows, triangleRows, Triangle, madeTable, making}
 use Rattle.tables.proofs.Fit.{and-left, and-right, Fits, sizes-of, sizes-fit-of, rows-fit-of}
@@ -315,11 +314,12 @@ made-depth n m m′ a a′ =
     made-table n m′ a′ .1
     ∙ sym (ap (λ (t : Table). table (t .symbols) (t .span) m′ (t .rows)) (made-table n m a .1))
 
-pub is-made : IS-MADE
+-- sizes in range are never refused, and others are
+pub is-made : (n m : ℕ) → sizesFit n 2 m ≡ true → making n m .answer ≡ Made
 unfolding making
 is-made n m e = rw e refl
 
-pub not-made : NOT-MADE
+pub not-made : (n m : ℕ) → sizesFit n 2 m ≡ false → (making n m .answer ≡ OutOfRange) × (making n m .table ≡ zeroTable)
 unfolding making
 not-made n m e = rw e (refl, refl)
 

@@ -1,13 +1,13 @@
 -- What the two parts of a reading, the parse and the judgement, say together. Assumes nothing.
-use mathlib.Core.Path.{_≡_, refl, sym, _∙_}
+use mathlib.Core.Path.{_≡_, refl, sym, _∙_, subst}
 use mathlib.Core.Bool.{Bool, true, false, false≢true, cond}
 use mathlib.Core.Logic.{_≢_}
 use mathlib.Core.List.{List, [], _∷_}
 use Prim.Native.Nat.{ℕ, zero, suc, _+_, _≤_, _<_}
 use native.Mathlib.Omega.{arith}
-use borrow.Author.Tests.{eqb-false}
-use lib.Dec.{eqb}
-use lib.ListN.{length, drop}
+use borrow.Author.Tests.{eqb-true, eqb-false, ltb-true}
+use lib.Dec.{ltb, eqb}
+use lib.ListN.{length, drop, length-drop}
 use Rattle.tables.specs.declared.table.Table.{Table}
 use Rattle.tables.specs.declared.judge.Judgement.{Judgement}
 use Rattle.tables.specs.declared.judge.Judgement.the-variants.{Unfit, Clash, Sound}
@@ -22,9 +22,12 @@ use Rattle.tables.specs.Format.{kind, size, ended, unknown, cut, misplac
 use Rattle.tables.specs.Format.{missing, followed, fault, place, after, begun, Parse, refused, parsed, parseFrom}
 use Rattle.tables.specs.Format.{parse}
 use Rattle.tables.specs.Reading.{numbers, reading, ReadNumbers, Read, ACCEPTED-SUITABLE, SUITABLE-ACCEPTED}
-use Rattle.tables.specs.Reading.{REFUSED-RANGE, REFUSED-NUMBERS, REFUSED-UNSUITABLE, UNSUITABLE-NUMBERS}
+use Rattle.tables.specs.Reading.{REFUSED-RANGE, REFUSED-PLACE, REFUSED-NUMBERS, REFUSED-UNSUITABLE}
+use Rattle.tables.specs.Reading.{UNSUITABLE-NUMBERS}
 use Rattle.tables.proofs.Progress.{parse-fit, never-refused}
-use Rattle.tables.proofs.Refusal.{first-range}
+use Rattle.tables.proofs.Fit.{and-right}
+use Rattle.tables.proofs.Format.{fault-sound, fault-ended, size-some, sound-whole}
+use Rattle.tables.proofs.Refusal.{first-range, first-applies}
 
 -- a parse that is no table is the reading
 pub refused-read : (bytes : List ℕ) (k p : ℕ) (r : Reading) → parse bytes ≡ refused k p
@@ -96,6 +99,84 @@ range-from (suc left) p g s i q e =
 pub refused-range : REFUSED-RANGE
 unfolding parse
 refused-range bytes k p e = range-from (length bytes) 0 begun bytes k p e
+
+-- ---- the place of a parse that is refused
+
+-- where a parse from the place p on, with the bytes s to come, is refused
+abbrev Placed : ℕ → List ℕ → ℕ → ℕ → Type 0
+Placed p s k q = (q ≤ p + length s) × (k ≡ 1 → q ≡ p + length s) × (k ≢ 1 → q < p + length s)
+
+tests : Progress → List ℕ → List Bool
+tests g s =
+    ended s ∷ unknown s ∷ cut s ∷ misplaced g s ∷ sizesOut s ∷ misnumbered g s ∷ tooLong g s ∷ missing g s
+    ∷ followed s ∷ []
+
+fault-one : (g : Progress) (s : List ℕ) → fault g s ≡ 1 → length s ≡ 0
+unfolding fault tests
+fault-one g s e = eqb-true (length s) 0 (first-applies 1 (tests g s) 0 (omega arith) e .1)
+
+-- 9 says that bytes follow
+fault-nine : (g : Progress) (s : List ℕ) → fault g s ≡ 9 → 1 < length s
+unfolding fault tests
+fault-nine g s e =
+    ltb-true 1 (length s)
+    (and-right (eqb (kind s) 0) (ltb 1 (length s)) (first-applies 1 (tests g s) 8 (omega arith) e .1))
+
+place-here : (p : ℕ) (g : Progress) (s : List ℕ) → fault g s ≢ 0 → Placed p s (fault g s) (place (fault g s) p)
+unfolding place
+place-here p g s some = go (eqb (fault g s) 9) refl
+  where
+    go : (b : Bool) → eqb (fault g s) 9 ≡ b → Placed p s (fault g s) (cond b (p + 1) p)
+    go true e =
+        let nine = eqb-true (fault g s) 9 e in
+        let long = fault-nine g s nine in
+        (omega arith, λ one. absurd (omega arith), λ other. omega arith)
+    go false e = (
+      omega arith,
+      λ one. let none = fault-one g s one in omega arith,
+      λ other. let l : length s ≢ 0 = (λ z. other (fault-ended g s z)) in omega arith,
+    )
+
+place-from : (left p : ℕ) (g : Progress) (s : List ℕ) (k q : ℕ) → length s ≤ left → parseFrom left p g s ≡ refused k q
+    → Placed p s k q
+unfolding parseFrom
+place-from zero p g s k q h e =
+    let one : 1 ≡ k = cc in
+    let here : p ≡ q = cc in
+    (omega arith, λ z. omega arith, λ other. absurd (other (sym one)))
+place-from (suc left) p g s k q h e =
+    go (eqb (fault g s) 0) refl (eqb (kind s) 0)
+    (place-from left (p + size (kind s)) (after g s) (drop (size (kind s)) s) k q) e
+  where
+    n : ℕ
+    n = size (kind s)
+
+    go : (a : Bool) → eqb (fault g s) 0 ≡ a → (b : Bool)
+        → (length (drop n s) ≤ left → parseFrom left (p + n) (after g s) (drop n s) ≡ refused k q
+        → Placed (p + n) (drop n s) k q)
+        → cond a (cond b (parsed (g .table)) (parseFrom left (p + n) (after g s) (drop n s)))
+        (refused (fault g s) (place (fault g s) p))
+        ≡ refused k q
+        → Placed p s k q
+    go true z true rest e = never-refused (sym e)
+    go true z false rest e =
+        let f = eqb-true (fault g s) 0 z in
+        let whole = sound-whole g s (fault-sound g s f) in
+        let d = length-drop n s in
+        let some = size-some (kind s) in
+        let r = rest (omega arith) e in
+        (omega (arith, r .0), λ one. omega (arith, r .1 one), λ other. omega (arith, r .2 other))
+    go false z b rest e =
+        let same : fault g s ≡ k = cc in
+        let here : place (fault g s) p ≡ q = cc in
+        subst (λ (x : ℕ). Placed p s x q) same
+        (subst (Placed p s (fault g s)) here (place-here p g s (eqb-false (fault g s) 0 z)))
+
+pub refused-place : REFUSED-PLACE
+unfolding parse
+refused-place bytes k p e =
+    let r = place-from (length bytes) 0 begun bytes k p (omega arith) e in
+    (omega (arith, r .0), λ one. omega (arith, r .1 one), λ other. omega (arith, r .2 other))
 
 read-refused : (bytes : List ℕ) (k p : ℕ) (a : ReadAnswer) (u : Table) → ReadNumbers bytes (numbers a) u
     → parse bytes ≡ refused k p

@@ -1,4 +1,4 @@
--- 01, "The code", over the list of rows 1 to n, the parity's row 1 among them, and the decoding span N.
+-- 01, "The code", over the list of rows 1 to n, the last of them the parity's, and the decoding span N.
 --
 --   Block n e                   e is the number of a block of n symbols
 --   weight j                    the weight of symbol j in a block's number

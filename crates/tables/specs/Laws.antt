@@ -1,11 +1,12 @@
 -- What the crate proves of tables and refusals.
 --
 --   IMAGE         the image of one symbol is its row, and images are linear
+--   FIRST-APPLIES the test that it has the number of applies, and none before it
 --   FIRST-NONE    no refusal is the first that applies only if none applies
 --   FIRST-RANGE   the first that applies has the number of one of the tests
 --   ZERO-UNFIT    12 applies to the zero table
 use mathlib.Core.Path.{_≡_}
-use mathlib.Core.Bool.{Bool, false}
+use mathlib.Core.Bool.{Bool, true, false}
 use mathlib.Core.Logic.{_≢_}
 use mathlib.Core.List.{List, _∷_}
 use Prim.Native.Nat.{ℕ, suc, _+_, _-_, _≤_, _<_}
@@ -23,6 +24,12 @@ abbrev pub IMAGE : Type 0
 IMAGE = (rows : List ℕ)
     → ((j : ℕ) → image rows (weight j) ≡ getD rows (j - 1) 0)
     × ((e d : ℕ) → image rows (e ⊕ d) ≡ image rows e ⊕ image rows d)
+
+-- "the first that applies"
+abbrev pub FIRST-APPLIES : Type 0
+FIRST-APPLIES =
+    (k : ℕ) (bs : List Bool) (j : ℕ) → 1 ≤ k → firstOf k bs ≡ k + j
+    → (j < length bs) × (getD bs j false ≡ true) × ((i : ℕ) → i < j → getD bs i true ≡ false)
 
 abbrev pub FIRST-NONE : Type 0
 FIRST-NONE =

@@ -53,7 +53,8 @@ Triangle cs = (i : ℕ) → i < length cs → getD cs i 0 < 2 ^ suc i
 unfoldable pub madeTable : ℕ → ℕ → Table
 madeTable n m = table n (2 * n) m (madeRows columns n (n - 1) ++ replicate (16 - n) 0)
 
--- refusal 11: "n or m is out of range." The span 2n of an n in range is in range.
+-- refusal 11: "n or m is out of range." The span 2n of an n in range is in range, so that of the sizes only n and m are
+-- tested: 2 stands for any span.
 unfoldable pub making : ℕ → ℕ → Making
 making n m =
     cond (sizesFit n 2 m) (record { answer = Made; table = madeTable n m })

@@ -7,13 +7,16 @@
 --   ACCEPTED-SUITABLE   an accepted table is the one that the bytes say, fit and suitable
 --   SUITABLE-ACCEPTED   bytes that say a suitable table are accepted
 --   REFUSED-RANGE       a parse that is refused has a number from 1 to 9
+--   REFUSED-PLACE       its place lies in the bytes, or, of 1, at their end
 --   REFUSED-NUMBERS     the number and place of a parse that is refused are those of the reading
 --   REFUSED-UNSUITABLE  a table refused for 10 is unsuitable, and the triple shows it
 --   UNSUITABLE-NUMBERS  10, with a triple that shows it, is the answer to bytes that say a table that is not suitable
 use mathlib.Core.Path.{_≡_}
 use mathlib.Core.Bool.{true}
+use mathlib.Core.Logic.{_≢_}
 use mathlib.Core.List.{List, [], _∷_}
-use Prim.Native.Nat.{ℕ, _≤_}
+use Prim.Native.Nat.{ℕ, _≤_, _<_}
+use lib.ListN.{length}
 use Rattle.tables.specs.declared.table.Table.{Table}
 use Rattle.tables.specs.declared.read.ReadAnswer.{ReadAnswer}
 use Rattle.tables.specs.declared.read.ReadAnswer.the-variants.{Accepted, Refused, Unsuitable}
@@ -61,6 +64,12 @@ SUITABLE-ACCEPTED =
 -- 0 is no refusal, so a caller who gets numbers only can tell an accepted table
 abbrev pub REFUSED-RANGE : Type 0
 REFUSED-RANGE = (bytes : List ℕ) (k p : ℕ) → parse bytes ≡ refused k p → (1 ≤ k) × (k ≤ 9)
+
+-- "place is the record's first byte", and of 1 "where a kind byte is due"
+abbrev pub REFUSED-PLACE : Type 0
+REFUSED-PLACE =
+    (bytes : List ℕ) (k p : ℕ) → parse bytes ≡ refused k p
+    → (p ≤ length bytes) × (k ≡ 1 → p ≡ length bytes) × (k ≢ 1 → p < length bytes)
 
 abbrev pub REFUSED-NUMBERS : Type 0
 REFUSED-NUMBERS =

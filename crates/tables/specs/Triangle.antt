@@ -5,8 +5,6 @@
 --                 triangle
 --   MADE-WHOLE    its other rows are 0
 --   MADE-DEPTH    making with another depth changes only the depth
---   IS-MADE       sizes in range are never refused
---   NOT-MADE      refusal 11
 --   NESTED-ROWS   each row of the larger table is twice that of the smaller one and its bit of the new column
 --   FILLING       a suitable table has exactly one column that makes the next one suitable
 --   FORCED        with our columns before it, a column makes its size suitable exactly if it is ours
@@ -24,7 +22,8 @@ use Rattle.tables.specs.Table.{table, zeroTable, rowsOf, sizesFit, fit, 
 use Rattle.tables.specs.declared.make.MakeAnswer.the-variants.{Made}
 use Rattle.tables.specs.Made.{columns, madeRow, triangleRows, Triangle, making, madeNumbers}
 
--- In both, the smaller table has n = suc (length cs) symbols, and the new column a is column n + 1.
+-- In `NESTED-ROWS` and `FILLING` the smaller table has n = suc (length cs) symbols, and the new column a is column
+-- n + 1.
 
 -- Row j, for j from 1 to n, is twice row j for n, plus its bit of column n + 1 at 2n + 1, the top bit of the larger
 -- table. Row n for n is 1.
@@ -79,11 +78,3 @@ MADE-WHOLE = (n m : ℕ) → making n m .answer ≡ Made → Whole (making n m .
 abbrev pub MADE-DEPTH : Type 0
 MADE-DEPTH = (n m m′ : ℕ) → making n m .answer ≡ Made → making n m′ .answer ≡ Made
     → making n m′ .table ≡ table (making n m .table .symbols) (making n m .table .span) m′ (making n m .table .rows)
-
-abbrev pub IS-MADE : Type 0
-IS-MADE = (n m : ℕ) → sizesFit n 2 m ≡ true → making n m .answer ≡ Made
-
--- "11. n or m is out of range."
-abbrev pub NOT-MADE : Type 0
-NOT-MADE =
-    (n m : ℕ) → sizesFit n 2 m ≡ false → (madeNumbers (making n m .answer) ≡ 11 ∷ []) × (making n m .table ≡ zeroTable)

@@ -1,4 +1,4 @@
--- `records::coded::coded`: each case has its numbers. Assumes nothing.
+-- `export::coded::coded`: each case has its numbers. Assumes nothing.
 use borrow.Author.Needs.{needs}
 use Rattle.export.proofs.coded.coded.Statement.{statement}
 use Rattle.export.proofs.coded.coded.Tie as tie

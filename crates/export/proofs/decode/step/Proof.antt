@@ -1,6 +1,9 @@
 -- `export::decode::step`: the part of the numbers that is lent is the rows. Assumes nothing.
+use mathlib.Core.Path.{subst}
 use native.Mathlib.Omega.{arith}
 use borrow.Author.Needs.{needs}
+use Rattle.tables.specs.declared.table.Table.{Table}
+use Rattle.link.specs.Decoder.{Decodes}
 use Rattle.export.proofs.Lent.{rows-lent}
 use Rattle.export.proofs.decode.step.Statement.{statement}
 use Rattle.export.proofs.decode.step.Tie as tie
@@ -24,7 +27,9 @@ returns : tie.Need-returns
 returns c =
     let here = c .before .before .before .before .before .before .before in
     let a = here .args in
-    rw (rows-lent (a .t) (a .numbers .now) (here .pre)) at (c .before .before .decode-lent .ensures)
+    let step = c .before .before .decode-lent in
+    subst (λ (u : Table). Decodes u (a .words .now) (a .received) (step .result) (step .last .1 .1 .0))
+    (rows-lent (a .t) (a .numbers .now) (here .pre)) (step .ensures)
 
 pub step-spec : {M : Type 1} → statement M
 step-spec =

@@ -1,4 +1,4 @@
--- `records::decoded::decoded`: each case has its numbers. Assumes nothing.
+-- `export::decoded::decoded`: each case has its numbers. Assumes nothing.
 use borrow.Author.Needs.{needs}
 use Rattle.export.proofs.decoded.decoded.Statement.{statement}
 use Rattle.export.proofs.decoded.decoded.Tie as tie

@@ -1,4 +1,4 @@
--- `records::decoded::delivered`: each mark has its number. Assumes nothing.
+-- `export::decoded::delivered`: each mark has its number. Assumes nothing.
 use borrow.Author.Needs.{needs}
 use Rattle.export.proofs.decoded.delivered.Statement.{statement}
 use Rattle.export.proofs.decoded.delivered.Tie as tie

@@ -1,4 +1,4 @@
--- `records::reading::reading`: each case has its numbers. Assumes nothing.
+-- `export::reading::reading`: each case has its numbers. Assumes nothing.
 use borrow.Author.Needs.{needs}
 use Rattle.export.proofs.reading.reading.Statement.{statement}
 use Rattle.export.proofs.reading.reading.Tie as tie

@@ -1,4 +1,4 @@
--- `numbers::table::give_back`: refused or not. Assumes nothing.
+-- `export::table::give_back`: refused or not. Assumes nothing.
 use mathlib.Core.Path.{sym, _∙_}
 use borrow.Author.Needs.{needs}
 use Rattle.export.proofs.Numbers.{given-back}

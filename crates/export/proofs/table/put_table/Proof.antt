@@ -1,4 +1,4 @@
--- `numbers::table::put_table`: after i turns the sizes and the first i rows stand. Assumes nothing.
+-- `export::table::put_table`: after i turns the sizes and the first i rows stand. Assumes nothing.
 use mathlib.Core.Path.{_≡_, refl, sym, _∙_}
 use Prim.Native.Nat.{ℕ, _+_, _-_, _≤_}
 use native.Mathlib.Omega.{arith}

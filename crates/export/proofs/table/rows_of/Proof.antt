@@ -1,4 +1,4 @@
--- `numbers::table::rows_of`: after i turns the first i rows stand. Assumes nothing.
+-- `export::table::rows_of`: after i turns the first i rows stand. Assumes nothing.
 use mathlib.Core.Path.{_≡_, refl, sym, ap, _∙_}
 use Prim.Native.Nat.{ℕ, _+_, _-_, _≤_}
 use native.Mathlib.Omega.{arith}

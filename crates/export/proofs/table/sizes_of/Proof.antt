@@ -1,4 +1,4 @@
--- `numbers::table::sizes_of`: three numbers. Assumes nothing.
+-- `export::table::sizes_of`: three numbers. Assumes nothing.
 use mathlib.Core.Path.{refl}
 use borrow.Author.Needs.{needs}
 use Rattle.export.specs.Numbers.{sizesOf}

@@ -1,4 +1,4 @@
--- `numbers::table::table_of`: the sizes, and the rows after them. Assumes nothing.
+-- `export::table::table_of`: the sizes, and the rows after them. Assumes nothing.
 use mathlib.Core.Path.{ap₂, _∙_}
 use mathlib.Core.List.{List}
 use Prim.Native.Nat.{ℕ}

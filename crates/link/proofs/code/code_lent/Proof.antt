@@ -1,4 +1,4 @@
--- `coder::code::code_lent`: a refusal, or a step that is taken, which has fifteen rows. Assumes nothing.
+-- `link::code::code_lent`: a refusal, or a step that is taken, which has fifteen rows. Assumes nothing.
 use mathlib.Core.Path.{_≡_, sym, ap, _∙_}
 use native.Mathlib.Omega.{arith}
 use borrow.Author.Needs.{needs}

@@ -1,4 +1,4 @@
--- `coder::code::fault`: the tests of 12 to 15 in their order. Assumes nothing.
+-- `link::code::fault`: the tests of 12 to 15 in their order. Assumes nothing.
 use mathlib.Core.Path.{_≡_, sym, ap, _∙_}
 use mathlib.Core.Bool.{true, false, Bool, cond}
 use Prim.Native.Nat.{_-_, _^_}

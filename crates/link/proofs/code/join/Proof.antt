@@ -1,4 +1,4 @@
--- `coder::code::join`: parity and half of the word that joins. Assumes nothing.
+-- `link::code::join`: parity and half of the word that joins. Assumes nothing.
 use mathlib.Core.Path.{ap, _∙_}
 use Prim.Native.Nat.{ℕ, _/_, _%_}
 use borrow.Author.Needs.{needs}

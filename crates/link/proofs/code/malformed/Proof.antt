@@ -1,4 +1,4 @@
--- `coder::code::malformed`: the turn, and then the turn's word. Assumes nothing.
+-- `link::code::malformed`: the turn, and then the turn's word. Assumes nothing.
 use mathlib.Core.Path.{sym, ap, _∙_}
 use mathlib.Core.Bool.{Bool, _||_}
 use Prim.Native.Nat.{_+_, _-_, _^_}

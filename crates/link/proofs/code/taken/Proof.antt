@@ -1,4 +1,4 @@
--- `coder::code::taken`: the turn's part is its pending word; around it nothing changes but the turn. Assumes nothing.
+-- `link::code::taken`: the turn's part is its pending word; around it nothing changes but the turn. Assumes nothing.
 use mathlib.Core.Path.{_≡_, ap, ap₂, _∙_}
 use mathlib.Core.List.{List}
 use Prim.Native.Nat.{ℕ, _+_, _-_, _*_, _/_, _%_, _^_, _≤_, _<_}

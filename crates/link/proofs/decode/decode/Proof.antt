@@ -1,4 +1,4 @@
--- `decoder::decode::decode`: the table is that with its own rows lent. Assumes nothing.
+-- `link::decode::decode`: the table is that with its own rows lent. Assumes nothing.
 use mathlib.Core.Path.{_≡_}
 use borrow.Author.Needs.{needs}
 use lib.ListN.{length}

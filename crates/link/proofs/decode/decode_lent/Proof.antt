@@ -1,4 +1,4 @@
--- `decoder::decode::decode_lent`: a refusal, or a step that is taken, which has fifteen rows. Assumes nothing.
+-- `link::decode::decode_lent`: a refusal, or a step that is taken, which has fifteen rows. Assumes nothing.
 use mathlib.Core.Path.{_≡_, sym, ap, _∙_}
 use native.Mathlib.Omega.{arith}
 use borrow.Author.Needs.{needs}

@@ -1,4 +1,4 @@
--- `decoder::decode::error_words`: after i turns the first i words are the first i rows. Assumes nothing.
+-- `link::decode::error_words`: after i turns the first i words are the first i rows. Assumes nothing.
 use mathlib.Core.Path.{_≡_, refl, sym, ap, _∙_}
 use mathlib.Core.List.{List, [], _∷_, _++_}
 use Prim.Native.Nat.{ℕ, _+_, _-_, _≤_, _<_}

@@ -1,4 +1,4 @@
--- `decoder::decode::explain`: the four cases of a register. Assumes nothing.
+-- `link::decode::explain`: the four cases of a register. Assumes nothing.
 use mathlib.Core.Path.{_≡_, sym, ap, _∙_}
 use mathlib.Core.Bool.{true, false}
 use Prim.Native.Nat.{_^_, _≤_, _<_}

@@ -1,4 +1,4 @@
--- `decoder::decode::information`: the block below its parity symbol. Assumes nothing.
+-- `link::decode::information`: the block below its parity symbol. Assumes nothing.
 use mathlib.Core.Path.{_≡_, ap, _∙_}
 use Prim.Native.Nat.{ℕ, _-_, _^_, min}
 use native.Mathlib.Omega.{arith}

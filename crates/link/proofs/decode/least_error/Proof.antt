@@ -1,4 +1,4 @@
--- `decoder::decode::least_error`: the relation has a one at n, and the error block below it. Assumes nothing.
+-- `link::decode::least_error`: the relation has a one at n, and the error block below it. Assumes nothing.
 use mathlib.Core.Path.{_≡_, sym, ap, _∙_}
 use Prim.Native.Nat.{ℕ, _-_, _*_, _%_, _^_, _<_}
 use native.Mathlib.Nat.{one-mul}

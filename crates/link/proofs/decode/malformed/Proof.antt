@@ -1,4 +1,4 @@
--- `decoder::decode::malformed`: turn, fill, and the words of the turn's stream. Assumes nothing.
+-- `link::decode::malformed`: turn, fill, and the words of the turn's stream. Assumes nothing.
 use mathlib.Core.Path.{_≡_, sym, ap, ap₂, _∙_}
 use mathlib.Core.Bool.{Bool, _||_}
 use mathlib.Core.List.{List}

@@ -1,4 +1,4 @@
--- `decoder::decode::next_fill`: by its one test. Assumes nothing.
+-- `link::decode::next_fill`: by its one test. Assumes nothing.
 use borrow.Author.Needs.{needs}
 use borrow.Author.Tests.{lt-ltb, le-ltb}
 use Rattle.link.proofs.decode.next_fill.Statement.{statement}

@@ -1,4 +1,4 @@
--- `decoder::decode::push`: after i − 2 turns the words from 2 to i − 1 are those that stood one place later. Assumes
+-- `link::decode::push`: after i − 2 turns the words from 2 to i − 1 are those that stood one place later. Assumes
 -- nothing.
 use mathlib.Core.Path.{_≡_, refl, sym, ap, _∙_}
 use mathlib.Core.List.{List, [], _∷_, _++_}

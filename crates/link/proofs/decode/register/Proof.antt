@@ -1,4 +1,4 @@
--- `decoder::decode::register`: the raw term stands above the syndrome word. Assumes nothing.
+-- `link::decode::register`: the raw term stands above the syndrome word. Assumes nothing.
 use mathlib.Core.Path.{_≡_, sym, ap, _∙_}
 use mathlib.Core.Bool.{Bool, xor}
 use Prim.Native.Nat.{ℕ, suc, _+_, _-_, _*_, _/_, _%_, _^_, _≤_, _<_}

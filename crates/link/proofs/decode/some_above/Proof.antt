@@ -1,4 +1,4 @@
--- `decoder::decode::some_above`: the ones of the first i words together are above the bound exactly if one of them is.
+-- `link::decode::some_above`: the ones of the first i words together are above the bound exactly if one of them is.
 -- Assumes nothing.
 use mathlib.Core.Path.{_≡_, sym, ap, _∙_}
 use mathlib.Core.Bool.{Bool, _||_}

@@ -1,4 +1,4 @@
--- `decoder::decode::step`: the four lines, and the part with its words and blocks. Assumes nothing.
+-- `link::decode::step`: the four lines, and the part with its words and blocks. Assumes nothing.
 use mathlib.Core.Path.{_≡_, ap, ap₂, _∙_}
 use mathlib.Core.List.{List, [], _∷_, _++_}
 use Prim.Native.Nat.{ℕ, _-_, _/_, _^_, _≤_, _<_}

@@ -1,4 +1,4 @@
--- `decoder::decode::stream_malformed`: the two words together, and then the delayed blocks. Assumes nothing.
+-- `link::decode::stream_malformed`: the two words together, and then the delayed blocks. Assumes nothing.
 use mathlib.Core.Path.{_≡_, sym, ap, _∙_}
 use mathlib.Core.Bool.{Bool, true, false, _||_}
 use Prim.Native.Nat.{_+_, _-_, _^_}

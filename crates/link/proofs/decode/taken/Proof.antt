@@ -1,4 +1,4 @@
--- `decoder::decode::taken`: the turn's part as the step leaves it; around it nothing changes but fill and turn. Assumes
+-- `link::decode::taken`: the turn's part as the step leaves it; around it nothing changes but fill and turn. Assumes
 -- nothing.
 use mathlib.Core.Path.{_≡_, ap, _∙_}
 use Prim.Native.Nat.{_+_, _-_, _≤_}

@@ -1,4 +1,4 @@
--- `memory::start::clear`: after i turns the first i words are zero, and the others as they were. Assumes nothing.
+-- `link::start::clear`: after i turns the first i words are zero, and the others as they were. Assumes nothing.
 use mathlib.Core.Path.{_≡_, refl, sym, ap, _∙_}
 use mathlib.Core.List.{List, [], _∷_, _++_, append-assoc, append-nil}
 use Prim.Native.Nat.{ℕ, suc, _+_, _-_, _≤_, _<_}

@@ -1,4 +1,4 @@
--- `memory::start::start`: 13 or nothing, of a fit table. Assumes nothing.
+-- `link::start::start`: 13 or nothing, of a fit table. Assumes nothing.
 use mathlib.Core.Path.{_≡_, ap, _∙_}
 use mathlib.Core.Bool.{true}
 use native.Mathlib.Omega.{arith}

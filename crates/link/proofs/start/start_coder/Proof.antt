@@ -1,4 +1,4 @@
--- `memory::start::start_coder`: 12, or what the length decides. Assumes nothing.
+-- `link::start::start_coder`: 12, or what the length decides. Assumes nothing.
 use mathlib.Core.Path.{sym, _∙_}
 use native.Mathlib.Omega.{arith}
 use borrow.Author.Needs.{needs}

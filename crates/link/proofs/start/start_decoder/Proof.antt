@@ -1,4 +1,4 @@
--- `memory::start::start_decoder`: 12, or what the length decides. Assumes nothing.
+-- `link::start::start_decoder`: 12, or what the length decides. Assumes nothing.
 use mathlib.Core.Path.{sym, _∙_}
 use Prim.Native.Nat.{_+_}
 use native.Mathlib.Nat.{mul-le-mul-right}

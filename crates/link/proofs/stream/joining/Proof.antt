@@ -1,4 +1,4 @@
--- `memory::stream::joining`: the exclusive or of the pending word and the combination of the rows. Assumes nothing.
+-- `link::stream::joining`: the exclusive or of the pending word and the combination of the rows. Assumes nothing.
 use mathlib.Core.Path.{ap, _∙_}
 use Prim.Native.Nat.{ℕ}
 use borrow.Author.Needs.{needs}

@@ -1,4 +1,4 @@
--- `memory::stream::next_turn`: a turn that is one is followed by the next, or by 0. Assumes nothing.
+-- `link::stream::next_turn`: a turn that is one is followed by the next, or by 0. Assumes nothing.
 use mathlib.Core.Path.{_≡_, refl, sym, ap, _∙_}
 use mathlib.Core.Bool.{Bool, cond}
 use Prim.Native.Nat.{suc}

@@ -1,4 +1,4 @@
--- `lines::text::digits`, which calls itself: the number falls. Assumes nothing.
+-- `report::text::digits`, which calls itself: the number falls. Assumes nothing.
 use native.Mathlib.Omega.{arith}
 use borrow.Author.Needs.{needs}
 use Rattle.report.specs.Text.{decimalOf}

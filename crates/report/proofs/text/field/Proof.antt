@@ -1,4 +1,4 @@
--- `lines::text::field`: the digits, then the byte. Assumes nothing.
+-- `report::text::field`: the digits, then the byte. Assumes nothing.
 use native.Mathlib.Omega.{arith}
 use Rattle.report.specs.Text.{decimalOf}
 use Rattle.report.proofs.Written.{wrote-then}

@@ -1,4 +1,4 @@
--- `lines::text::fields`: number, information, mark and e, one after the other. Assumes nothing.
+-- `report::text::fields`: number, information, mark and e, one after the other. Assumes nothing.
 use mathlib.Core.List.{[], _∷_, _++_}
 use Prim.Native.Nat.{_+_, _≤_}
 use native.Mathlib.Omega.{arith}

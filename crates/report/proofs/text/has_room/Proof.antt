@@ -1,4 +1,4 @@
--- `lines::text::has_room`: where `at` is past the end there is none. Assumes nothing.
+-- `report::text::has_room`: where `at` is past the end there is none. Assumes nothing.
 use mathlib.Core.Path.{sym, _∙_}
 use native.Mathlib.Omega.{arith}
 use Prim.Native.Nat.{_+_}

@@ -1,4 +1,4 @@
--- `lines::text::line`: with room and without. Assumes nothing.
+-- `report::text::line`: with room and without. Assumes nothing.
 use mathlib.Core.Path.{_≡_, sym, _∙_}
 use mathlib.Core.Bool.{true, false}
 use native.Mathlib.Omega.{arith}

@@ -1,4 +1,4 @@
--- `lines::text::put_byte`: a store. Assumes nothing.
+-- `report::text::put_byte`: a store. Assumes nothing.
 use native.Mathlib.Omega.{arith}
 use Rattle.report.proofs.Written.{wrote-byte}
 use borrow.Author.Needs.{needs}

@@ -1,4 +1,4 @@
--- `lines::text::put_bytes`: after i turns the first i bytes are written. Assumes nothing.
+-- `report::text::put_bytes`: after i turns the first i bytes are written. Assumes nothing.
 use mathlib.Core.Path.{_≡_, refl, _∙_}
 use Prim.Native.Nat.{_-_, _≤_}
 use native.Mathlib.Omega.{arith}

@@ -1,4 +1,4 @@
--- `lines::text::refusal`: the word, the number, the newline; with room and without. Assumes nothing.
+-- `report::text::refusal`: the word, the number, the newline; with room and without. Assumes nothing.
 use mathlib.Core.Path.{_≡_, sym, _∙_}
 use mathlib.Core.Bool.{true, false}
 use mathlib.Core.List.{[], _∷_, _++_}

@@ -1,4 +1,4 @@
--- `lines::text::word`: mark by mark. Assumes nothing.
+-- `report::text::word`: mark by mark. Assumes nothing.
 use borrow.Author.Needs.{needs}
 use Rattle.report.proofs.text.word.Statement.{statement}
 use Rattle.report.proofs.text.word.Tie as tie

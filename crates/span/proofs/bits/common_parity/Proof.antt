@@ -1,4 +1,4 @@
--- `words::bits::common_parity`: the count of common ones, taken modulo 2, is the exclusive or over the 64 places.
+-- `span::bits::common_parity`: the count of common ones, taken modulo 2, is the exclusive or over the 64 places.
 -- Assumes nothing.
 use mathlib.Core.Path.{_≡_, sym, ap, _∙_}
 use Prim.Native.Nat.{ℕ, _%_, _^_, _<_}

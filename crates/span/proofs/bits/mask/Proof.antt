@@ -1,4 +1,4 @@
--- `words::bits::mask`: 64 ones shifted down by what is missing. Assumes nothing.
+-- `span::bits::mask`: 64 ones shifted down by what is missing. Assumes nothing.
 use mathlib.Core.Path.{_≡_, ap, _∙_}
 use Prim.Native.Nat.{ℕ, _+_, _-_, _/_, _^_, min}
 use native.Mathlib.Omega.{arith}

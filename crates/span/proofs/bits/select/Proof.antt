@@ -1,4 +1,4 @@
--- `words::bits::select`: 0 less an odd bit is all ones, which mask nothing. Assumes nothing.
+-- `span::bits::select`: 0 less an odd bit is all ones, which mask nothing. Assumes nothing.
 use mathlib.Core.Path.{_≡_, sym, ap, _∙_}
 use mathlib.Core.Bool.{Bool, true, false}
 use Prim.Native.Nat.{ℕ, _+_, _-_, _%_, _^_, _<_}

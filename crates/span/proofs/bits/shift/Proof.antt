@@ -1,4 +1,4 @@
--- `words::bits::shift`: what a shift in the word keeps, the mask cuts to the bits asked for. Assumes nothing.
+-- `span::bits::shift`: what a shift in the word keeps, the mask cuts to the bits asked for. Assumes nothing.
 use mathlib.Core.Path.{_≡_, sym, ap, _∙_}
 use Prim.Native.Nat.{ℕ, _+_, _-_, _*_, _%_, _^_, _≤_, min}
 use native.Mathlib.Omega.{arith}

@@ -14,12 +14,12 @@ use Rattle.span.proofs.eliminate.reduce_by.Statement.{statement}
 use Rattle.span.proofs.eliminate.reduce_by.Tie as tie
 
 abbrev Inv-loop : tie.InvT-loop
-Inv-loop size vectors checks coefficients x end rest₀ taken₀ i₀ rest taken i =
-    (i ≤ end) × (_≡_ {A = Reduced} (record { rest = rest; coefficients = taken })
+Inv-loop size vectors checks coefficients x end rest₀ removed₀ i₀ rest removed i =
+    (i ≤ end) × (_≡_ {A = Reduced} (record { rest = rest; coefficients = removed })
     (reducedTo (basis size vectors checks coefficients) i x))
 
 abbrev μ-loop : tie.MeasureT-loop
-μ-loop size vectors checks coefficients x end rest₀ taken₀ i₀ rest taken i = end - i
+μ-loop size vectors checks coefficients x end rest₀ removed₀ i₀ rest removed i = end - i
 
 one-more : (b : Basis) (i x rest coefficients on v q : ℕ)
     → _≡_ {A = Reduced} (record { rest = rest; coefficients = coefficients }) (reducedTo b i x)
@@ -81,7 +81,7 @@ loop-again c =
       omega arith,
       one-more (basis (a .size) (a .vectors .now) (a .checks .now) (a .coefficients .now)) (l .loop .i)
           (a .x) (l .loop .rest)
-          (l .loop .taken) (c .before .before .before .before .common-parity .result)
+          (l .loop .removed) (c .before .before .before .before .common-parity .result)
           (c .before .before .select .result) (c .select2 .result)
           (l .loop .inv .1) (c .before .before .before .before .common-parity .ensures)
           (c .before .before .select .ensures) (c .select2 .ensures),

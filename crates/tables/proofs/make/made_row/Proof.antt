@@ -1,4 +1,4 @@
--- `maker::make::made_row`: before turn i the row has what the first i − 1 columns add. Assumes nothing.
+-- `tables::make::made_row`: before turn i the row has what the first i − 1 columns add. Assumes nothing.
 use mathlib.Core.Path.{_≡_, sym, ap, ap₂, _∙_}
 use mathlib.Core.Bool.{Bool, true, false}
 use Prim.Native.Nat.{ℕ, suc, _+_, _-_, _*_, _/_, _^_, _≤_, _<_}

@@ -1,4 +1,4 @@
--- `maker::make::made_rows`: after i turns the first i rows stand, and zeros after them. Assumes nothing.
+-- `tables::make::made_rows`: after i turns the first i rows stand, and zeros after them. Assumes nothing.
 use mathlib.Core.Path.{_≡_, sym, ap, _∙_}
 use mathlib.Core.List.{List, _++_}
 use Prim.Native.Nat.{ℕ, suc, _+_, _-_, _≤_, _<_}

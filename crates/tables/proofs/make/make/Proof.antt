@@ -1,4 +1,4 @@
--- `maker::make::make`: the table of the definition, or the zero table. Assumes nothing.
+-- `tables::make::make`: the table of the definition, or the zero table. Assumes nothing.
 use mathlib.Core.Path.{_≡_, sym, _∙_}
 use mathlib.Core.Bool.{true, false}
 use mathlib.Core.List.{List, _++_}

@@ -1,4 +1,4 @@
--- `reader::read::after`: a sound record that is not the end is of sizes, or of a row in range; what it says is stored.
+-- `tables::read::after`: a sound record that is not the end is of sizes, or of a row in range; what it says is stored.
 -- Assumes nothing.
 use borrow.Author.Needs.{needs}
 use mathlib.Core.Path.{_≡_, sym, _∙_}

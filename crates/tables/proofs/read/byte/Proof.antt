@@ -1,4 +1,4 @@
--- `reader::read::byte`: a byte of the list that begins at `at`. Assumes nothing.
+-- `tables::read::byte`: a byte of the list that begins at `at`. Assumes nothing.
 use mathlib.Core.Path.{sym}
 use Prim.Native.Nat.{_+_}
 use native.Mathlib.Omega.{arith}

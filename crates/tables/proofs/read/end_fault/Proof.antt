@@ -1,4 +1,4 @@
--- `reader::read::end_fault`: after i turns the first i rows are judged; then the two tests. Assumes nothing.
+-- `tables::read::end_fault`: after i turns the first i rows are judged; then the two tests. Assumes nothing.
 use borrow.Author.Needs.{needs}
 use mathlib.Core.Path.{_≡_, refl, ap, _∙_}
 use mathlib.Core.Bool.{Bool, false, _&&_}

@@ -1,4 +1,4 @@
--- `reader::read::fault`: the faults of any record, then those of its kind. Assumes nothing.
+-- `tables::read::fault`: the faults of any record, then those of its kind. Assumes nothing.
 use borrow.Author.Needs.{needs}
 use mathlib.Core.Path.{_≡_, sym, _∙_}
 use mathlib.Core.List.{List}

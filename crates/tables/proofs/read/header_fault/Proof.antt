@@ -1,4 +1,4 @@
--- `reader::read::header_fault`: the tests in their order. Assumes nothing.
+-- `tables::read::header_fault`: the tests in their order. Assumes nothing.
 use borrow.Author.Needs.{needs}
 use mathlib.Core.Path.{_≡_, refl}
 use mathlib.Core.Bool.{Bool, true, false, cond, not, Bool·beq}

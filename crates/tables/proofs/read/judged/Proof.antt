@@ -1,4 +1,4 @@
--- `reader::read::judged`: a table that was parsed is never unfit. Assumes nothing.
+-- `tables::read::judged`: a table that was parsed is never unfit. Assumes nothing.
 use borrow.Author.Needs.{needs}
 use mathlib.Core.Path.{refl}
 use mathlib.Core.Logic.{⊎-elim}

@@ -1,4 +1,4 @@
--- `reader::read::read`: the parse of all the bytes comes by the place and the progress that the loop has; a table is
+-- `tables::read::read`: the parse of all the bytes comes by the place and the progress that the loop has; a table is
 -- judged. Assumes nothing.
 use borrow.Author.Needs.{needs}
 use mathlib.Core.Path.{_≡_, sym, ap, _∙_}

@@ -1,4 +1,4 @@
--- `reader::read::refusal`: the answer beside the zero table; the place by whether the number is 9. Assumes nothing.
+-- `tables::read::refusal`: the answer beside the zero table; the place by whether the number is 9. Assumes nothing.
 use native.Mathlib.Omega.{arith}
 use borrow.Author.Needs.{needs}
 use borrow.Author.Tests.{eq-eqb, ne-eqb}

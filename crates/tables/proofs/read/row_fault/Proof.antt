@@ -1,4 +1,4 @@
--- `reader::read::row_fault`: the range, the mark, the row; the mask is the greatest row that fits. Assumes nothing.
+-- `tables::read::row_fault`: the range, the mark, the row; the mask is the greatest row that fits. Assumes nothing.
 use borrow.Author.Needs.{needs}
 use mathlib.Core.Path.{_≡_, refl, sym, ap}
 use mathlib.Core.Bool.{Bool, true, false, _&&_}

@@ -1,4 +1,4 @@
--- `reader::read::row_word`: from the last byte down, the number of the bytes from k on. Assumes nothing.
+-- `tables::read::row_word`: from the last byte down, the number of the bytes from k on. Assumes nothing.
 use borrow.Author.Needs.{needs}
 use mathlib.Core.Path.{_≡_, refl, _∙_}
 use mathlib.Core.List.{List}

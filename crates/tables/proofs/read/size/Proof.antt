@@ -1,4 +1,4 @@
--- `reader::read::size`: the cases of the definition. Assumes nothing.
+-- `tables::read::size`: the cases of the definition. Assumes nothing.
 use native.Mathlib.Omega.{arith}
 use borrow.Author.Tests.{eq-eqb, ne-eqb}
 use Rattle.tables.specs.Format.{size}
