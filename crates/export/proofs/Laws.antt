@@ -32,44 +32,35 @@ use Rattle.export.specs.declared.decoded.BurstDecoded.{BurstDecoded}
 use Rattle.export.specs.Numbers.{numbersOf, givenBack}
 use Rattle.export.proofs.Numbers.{given-back}
 use Rattle.export.specs.Answers.{numberOf, readingOf, codedOf, decodedOf}
-use Rattle.export.specs.Laws.{READ-TOLD, MADE-TOLD, START-TOLD, CODE-TOLD, DECODE-TOLD}
+use Rattle.export.specs.Laws.{ReadTold, READ-TOLD, MADE-TOLD, START-TOLD, CODE-TOLD, DECODE-TOLD}
 
-said : (bytes : List ℕ) → ((i : ℕ) → getD bytes i 0 < 256) → (a : ReadAnswer) (u : Table) (before : List ℕ)
+read-so : (bytes : List ℕ) → ((i : ℕ) → getD bytes i 0 < 256) → (a : ReadAnswer) (u : Table) (before : List ℕ)
     → ReadNumbers bytes (numbers a) u
-    → let r = readingOf (numbers a) in
-    let after = givenBack (r .refused) u before in
-    (r .refused ≡ 0
-    → (t : Table) × (parse bytes ≡ parsed t) × Suitable (t .span) (rowsOf t) × Whole t × (after ≡ numbersOf t)
-    × (r ≡ readingOf (0 ∷ [])))
-    × (r .refused ≢ 0 → after ≡ before)
-    × (r .refused ≢ 0 → r .refused ≢ 10
-    → (parse bytes ≡ refused (r .refused) (r .place)) × (r ≡ readingOf (r .refused ∷ r .place ∷ [])))
-    × (r .refused ≡ 10
-    → (t : Table) × (parse bytes ≡ parsed t) × Clashes (t .span) (rowsOf t) (r .l) (r .e0) (r .e1)
-    × (r ≡ readingOf (10 ∷ r .l ∷ r .e0 ∷ r .e1 ∷ [])))
-said bytes low Accepted u before s = (
-  λ z. (u, s .0, s .1, parses-exactly bytes u low .0 (s .0) .whole, given-back 0 u before .0 refl, refl),
-  λ n. absurd (n refl),
-  λ n. absurd (n refl),
-  λ e. absurd (omega arith),
-)
-said bytes low (Refused k p) u before s =
-    let range = refused-range bytes k p (s .0) in (
-      λ z. absurd (omega arith),
-      λ n. given-back k u before .1 n,
-      λ n o. (s .0, refl),
-      λ e. absurd (omega arith),
-    )
-said bytes low (Unsuitable l e0 e1) u before s = (
-  λ z. absurd (omega arith),
-  λ n. given-back 10 u before .1 n,
-  λ n o. absurd (o refl),
-  λ e. (s .0, s .1, s .2, refl),
-)
+    → ReadTold bytes (readingOf (numbers a)) before (givenBack (readingOf (numbers a) .refused) u before)
+read-so bytes low Accepted u before s = record {
+  accepted = λ z. (u, s .0, s .1, parses-exactly bytes u low .0 (s .0) .whole, given-back 0 u before .0 refl, refl);
+  left = λ n. absurd (n refl);
+  placed = λ n. absurd (n refl);
+  clashes = λ e. absurd (omega arith);
+}
+read-so bytes low (Refused k p) u before s =
+    let range = refused-range bytes k p (s .0) in
+    record {
+      accepted = λ z. absurd (omega arith);
+      left = λ n. given-back k u before .1 n;
+      placed = λ n o. (s .0, refl);
+      clashes = λ e. absurd (omega arith);
+    }
+read-so bytes low (Unsuitable l e0 e1) u before s = record {
+  accepted = λ z. absurd (omega arith);
+  left = λ n. given-back 10 u before .1 n;
+  placed = λ n o. absurd (o refl);
+  clashes = λ e. (s .0, s .1, s .2, refl);
+}
 
 pub read-told : READ-TOLD
 read-told bytes r before after low reads =
-    let told = said bytes low (reads .reading .answer) (reads .reading .table) before (reads .right) in
+    let told = read-so bytes low (reads .reading .answer) (reads .reading .table) before (reads .right) in
     rw (reads .table, reads .answer) told
 
 pub made-told : MADE-TOLD

@@ -2,6 +2,7 @@
 --
 --   READ-TOLD     reading: number 0 says that the bytes say a suitable table, which is given back; any other, that no
 --                 number was written, and the place, or the triple, is the refusal's
+--   ReadTold      what a reading tells
 --   MADE-TOLD     making: number 0 says that n and m are in range, and our suitable table is given back; any other is
 --                 11, and no number was written
 --   START-TOLD    a start: number 0 says that every word is 0; any other is the first of 12 and 13 that applies, and no
@@ -30,20 +31,25 @@ use Rattle.export.specs.Numbers.{numbersOf}
 use Rattle.export.specs.Answers.{readingOf, codedOf, decodedOf}
 use Rattle.export.specs.Promises.{Reads, MakesTable, StartsBy, CodesBy, DecodesBy}
 
--- of any bytes, which are numbers below 256; `Whole`: the table is fit, and its rows past n − 1 are 0
+-- what reading answers, r, and what it leaves of the numbers lent for the table; `Whole`: the table is fit, and its
+-- rows past n − 1 are 0
+pub record ReadTold (bytes : List ℕ) (r : BurstReading) (before after : List ℕ) : Type 0 where
+  pub accepted : r .refused ≡ 0
+      → (t : Table) × (parse bytes ≡ parsed t) × Suitable (t .span) (rowsOf t) × Whole t × (after ≡ numbersOf t)
+      × (r ≡ readingOf (0 ∷ []))
+  pub left : r .refused ≢ 0 → after ≡ before
+  pub placed : r .refused ≢ 0 → r .refused ≢ 10
+      → (parse bytes ≡ refused (r .refused) (r .place)) × (r ≡ readingOf (r .refused ∷ r .place ∷ []))
+  pub clashes : r .refused ≡ 10
+      → (t : Table) × (parse bytes ≡ parsed t) × Clashes (t .span) (rowsOf t) (r .l) (r .e0) (r .e1)
+      × (r ≡ readingOf (10 ∷ r .l ∷ r .e0 ∷ r .e1 ∷ []))
+
+-- of any bytes, which are numbers below 256
 abbrev pub READ-TOLD : Type 0
 READ-TOLD =
     (bytes : List ℕ) (r : BurstReading) (before after : List ℕ) → ((i : ℕ) → getD bytes i 0 < 256)
     → Reads bytes r before after
-    → (r .refused ≡ 0
-    → (t : Table) × (parse bytes ≡ parsed t) × Suitable (t .span) (rowsOf t) × Whole t × (after ≡ numbersOf t)
-    × (r ≡ readingOf (0 ∷ [])))
-    × (r .refused ≢ 0 → after ≡ before)
-    × (r .refused ≢ 0 → r .refused ≢ 10
-    → (parse bytes ≡ refused (r .refused) (r .place)) × (r ≡ readingOf (r .refused ∷ r .place ∷ [])))
-    × (r .refused ≡ 10
-    → (t : Table) × (parse bytes ≡ parsed t) × Clashes (t .span) (rowsOf t) (r .l) (r .e0) (r .e1)
-    × (r ≡ readingOf (10 ∷ r .l ∷ r .e0 ∷ r .e1 ∷ [])))
+    → ReadTold bytes r before after
 
 abbrev pub MADE-TOLD : Type 0
 MADE-TOLD =

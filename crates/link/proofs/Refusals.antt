@@ -8,6 +8,7 @@
 --   refuses, takes           answer and memory of a call that is refused, and of one that is not
 --   call-numbers, refused-numbers, taken-numbers   the numbers of both
 --   lent-taken               where no refusal applies, the lent rows are fifteen
+--   number-12 to number-15   the number that the tests come to
 use mathlib.Core.Path.{_≡_, refl, sym, ap, _∙_}
 use mathlib.Core.Bool.{Bool, true, false, cond, not, _||_}
 use mathlib.Core.List.{List, [], _∷_}
@@ -22,7 +23,7 @@ use Rattle.tables.specs.Refusal.{firstOf}
 use Rattle.tables.specs.Lent.{withRows, lent}
 use Rattle.tables.proofs.Fit.{Fits, fit-facts, zero-unfit}
 use Rattle.tables.proofs.Refusal.{first-nil, first-cons, first-none, first-range}
-use Rattle.tables.proofs.Lent.{lent-held}
+use Rattle.tables.proofs.Lent.{lent-held, fit-lent}
 use Rattle.link.specs.Refusals.{startFault, stepFault, answered, leaves, callNumbers}
 
 pub or-none : (s t : Bool) → s || t ≡ false → (s ≡ false) × (t ≡ false)
@@ -136,3 +137,35 @@ zero-refused words malformed bound s b = step-fault zeroTable words malformed bo
 pub lent-taken : (fault : Table → ℕ) → fault zeroTable ≡ 12 → (t : Table) (rows : List ℕ) → fault (lent t rows) ≡ 0
     → (lent t rows ≡ withRows t rows) × (length rows ≡ 15)
 lent-taken fault e t rows = lent-held t rows (λ (u : Table). fault u ≡ 0) (λ z. omega arith)
+
+-- the number that the tests of a step come to, with lent rows: each test once those before it are settled
+module _ (words bound : Table → ℕ) (malformed : Table → List ℕ → Bool) (t : Table) (rows s : List ℕ) (b : ℕ) where
+  abbrev whole : Table
+  whole = withRows t rows
+
+  abbrev number : Table → ℕ
+  number u = stepFault u (words u) (malformed u s) (bound u) s b
+
+  chain : (u : Table)
+      → number u
+      ≡ cond (not (fit u)) 12
+      (cond (not (eqb (length s) (words u))) 13 (cond (malformed u s) 14 (cond (leb (bound u) b) 15 0)))
+  chain u = step-fault u (words u) (malformed u s) (bound u) s b
+
+  pub number-12 : fit (lent t rows) ≡ false → 12 ≡ number (lent t rows)
+  number-12 f = sym (chain (lent t rows) ∙ simp f)
+
+  module _ (f : fit (lent t rows) ≡ true) where
+    settled : number (lent t rows)
+        ≡ cond (not (eqb (length s) (words whole))) 13 (cond (malformed whole s) 14 (cond (leb (bound whole) b) 15 0))
+    settled = let k = fit-lent t rows f in ap number (k .0) ∙ chain whole ∙ simp (k .1)
+
+    pub number-13 : (length s ≡ words whole → ⊥) → 13 ≡ number (lent t rows)
+    number-13 long = sym (settled ∙ simp (ne-eqb (length s) (words whole) long))
+
+    pub number-14 : length s ≡ words whole → malformed whole s ≡ true → 14 ≡ number (lent t rows)
+    number-14 size out = sym (settled ∙ simp (eq-eqb (length s) (words whole) size, out))
+
+    pub number-15 : length s ≡ words whole → malformed whole s ≡ false → (q : Bool) → leb (bound whole) b ≡ q
+        → cond q 15 0 ≡ number (lent t rows)
+    number-15 size fine q large = sym (settled ∙ simp (eq-eqb (length s) (words whole) size, fine, large))

@@ -19,6 +19,7 @@ use Rattle.tables.specs.Reading.{reading}
 use Rattle.link.proofs.Examples.{examples-hold}
 use Rattle.link.specs.declared.decode.DecodeAnswer.{DecodeAnswer}
 use Rattle.link.specs.declared.decode.DecodeAnswer.the-variants.{NothingYet}
+use Rattle.link.specs.declared.decode.Mark.{Mark}
 use Rattle.link.specs.declared.decode.Mark.the-variants.{Clean, Doubtful, Held}
 use Rattle.link.specs.Memory.{joining, started, coderWords, delayOf, pendingOf, syndromeOf, delayedOf}
 use Rattle.link.specs.Refusals.{stepFault, coderFault, someAbove, decoderFault, answered, leaves}
@@ -209,6 +210,10 @@ guard-sharp r =
     covered p (inl e) = (inl (omega arith, omega arith), omega arith)
     covered p (inr z) = absurd z
 
+-- 1 is delivered where 0 was sent
+never-one : (mark : Mark) → Sure (delivers 1 mark) 0 → ⊥
+never-one mark w = let z : _≡_ {A = ℕ} 1 0 = same-delivery _ _ (w .1) .0 in omega arith
+
 pub gap-sharp : GAP-SHARP
 gap-sharp r =
     let w = would-answer 0 closeBursts _ _ (sharp-runs .1) (computed .1 .1) (λ t. 2 * delayOf t) (λ t. t .depth)
@@ -225,8 +230,7 @@ gap-sharp r =
       ),
     )
     covered 10 (omega arith) (omega arith) in
-    let z : _≡_ {A = ℕ} 1 0 = same-delivery _ _ (w .1) .0 in
-    omega arith
+    never-one Held w
   where
     covered : (p : ℕ) → In p (7 ∷ 10 ∷ [])
         → Within p (record { first = 7; last = 7 } ∷ record { first = 10; last = 10 } ∷ []) × (6 < p)
@@ -245,8 +249,7 @@ length-sharp r =
       tt,
     )
     covered 10 (omega arith) (omega arith) in
-    let z : _≡_ {A = ℕ} 1 0 = same-delivery _ _ (w .1) .0 in
-    omega arith
+    never-one Held w
   where
     covered : (p : ℕ) → In p (7 ∷ 8 ∷ []) → Within p (record { first = 7; last = 8 } ∷ []) × (6 < p)
     covered p (inl e) = (inl (omega arith, omega arith), omega arith)

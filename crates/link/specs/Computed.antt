@@ -1,6 +1,6 @@
 -- Tables and runs as data, for what is computed.
 --
---   code n N m rows             the table of these sizes and rows
+--   tableWith n N m rows        the table of these sizes and rows
 --   Z m                         that of 01's examples, with m streams
 --   calls t blocks              steps that are handed the table t and these blocks
 --   answersBy answer memory s cs   what every call answers, refused or not, each on the memory that the one before it
@@ -21,12 +21,12 @@ use Rattle.link.specs.declared.decode.DecodeAnswer.the-variants.{Deliver
 use Rattle.link.specs.Runs.{Call, Sent, Taken}
 
 -- n, N, m and the rows that count
-abbrev pub code : ℕ → ℕ → ℕ → List ℕ → Table
-code n N m rows = table n N m (rows ++ replicate (15 - length rows) 0)
+abbrev pub tableWith : ℕ → ℕ → ℕ → List ℕ → Table
+tableWith n N m rows = table n N m (rows ++ replicate (15 - length rows) 0)
 
 -- ""Z" is n = 2, N = 4, row 10", and m is 1 there. Its images are 0, 10, 1, 11.
 abbrev pub Z : ℕ → Table
-Z m = code 2 4 m (10 ∷ [])
+Z m = tableWith 2 4 m (10 ∷ [])
 
 abbrev pub calls : Table → List ℕ → List Call
 calls t blocks = map (λ (b : ℕ). record { table = t; block = b }) blocks

@@ -20,21 +20,21 @@ use Rattle.link.specs.Coder.{codeMemory}
 use Rattle.link.specs.Decoder.{decodeMemory}
 use Rattle.link.specs.Runs.{Call, sentBy, takenBy}
 use Rattle.link.specs.Recovery.{Fades}
-use Rattle.link.specs.Computed.{code, Z, calls, answersBy, sentBlocks, takenBlocks, differing}
+use Rattle.link.specs.Computed.{tableWith, Z, calls, answersBy, sentBlocks, takenBlocks, differing}
 
 -- that it is made is the first of the premises
 abbrev pub made : Table
 made = Z 2
 
 abbrev pub alike : Table
-alike = code 2 4 2 (10 ∷ 7 ∷ [])
+alike = tableWith 2 4 2 (10 ∷ 7 ∷ [])
 
 -- N = 2 asks for as many coder's words, each below 2; N = 9 and m = 1 for as many decoder's words, and a turn of 0
 abbrev pub shorter : Table
-shorter = code 2 2 2 (2 ∷ [])
+shorter = tableWith 2 2 2 (2 ∷ [])
 
 abbrev pub longer : Table
-longer = code 2 9 1 (2 ∷ [])
+longer = tableWith 2 9 1 (2 ∷ [])
 
 -- turn 1, and the pending words of two streams
 abbrev pub coderMemory : List ℕ

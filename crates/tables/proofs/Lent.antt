@@ -9,8 +9,8 @@ use borrow.Author.Tests.{eq-eqb, ne-eqb, eqb-true}
 use lib.Dec.{eqb}
 use lib.ListN.{length}
 use Rattle.tables.specs.declared.table.Table.{Table}
-use Rattle.tables.specs.Table.{zeroTable, fit}
-use Rattle.tables.proofs.Fit.{zero-unfit}
+use Rattle.tables.specs.Table.{zeroTable, infoRows, fit}
+use Rattle.tables.proofs.Fit.{Fits, fit-facts, zero-unfit}
 use Rattle.tables.specs.Lent.{withRows, lent, LENT}
 
 lent-fifteen : (t : Table) (rows : List ℕ) → length rows ≡ 15 → lent t rows ≡ withRows t rows
@@ -52,3 +52,10 @@ pub fit-lent : (t : Table) (rows : List ℕ) → fit (lent t rows) ≡ true
 fit-lent t rows f =
     let k = lent-held t rows (λ (u : Table). fit u ≡ true) never-fit f in
     (k .0, sym (ap fit (k .0)) ∙ f)
+
+-- the bounds of a table with lent rows
+abbrev pub LentFits : Table → List ℕ → Type 0
+LentFits t rows = Fits (t .symbols) (t .span) (t .depth) (infoRows (withRows t rows))
+
+pub lent-facts : (t : Table) (rows : List ℕ) → fit (lent t rows) ≡ true → LentFits t rows
+lent-facts t rows f = fit-facts (withRows t rows) (fit-lent t rows f .1)

@@ -1,22 +1,19 @@
 -- `link::decode::fault`: the tests of 12 to 15 in their order. Assumes nothing.
-use mathlib.Core.Path.{_≡_, sym, ap, _∙_}
-use mathlib.Core.Bool.{true, false, Bool, cond}
+use mathlib.Core.Path.{_≡_, sym, _∙_}
+use mathlib.Core.Bool.{Bool, true, false, cond}
 use Prim.Native.Nat.{_-_, _^_}
 use native.Mathlib.Omega.{arith}
 use borrow.Author.Needs.{needs}
-use borrow.Author.Tests.{eq-eqb, ne-eqb, lt-ltb, le-ltb, not-true, not-false}
+use borrow.Author.Tests.{lt-ltb, le-ltb, not-true, not-false}
 use lib.Dec.{leb, ltb}
-use lib.ListN.{length}
-use Rattle.tables.specs.declared.table.Table.{Table}
+use Rattle.span.proofs.Masks.{above-mask}
 use Rattle.tables.specs.Table.{fit}
-use Rattle.tables.proofs.Fit.{fit-facts}
+use Rattle.tables.specs.Lent.{withRows, lent}
+use Rattle.tables.proofs.Lent.{fit-lent, LentFits, lent-facts}
 use Rattle.link.specs.Memory.{decoderWords}
 use Rattle.link.specs.Refusals.{decoderMalformed, decoderFault}
-use Rattle.span.proofs.Masks.{above-mask}
-use Rattle.link.proofs.Decoder.{decoder-fault}
+use Rattle.link.proofs.Refusals.{number-12, number-13, number-14, number-15}
 use Rattle.link.proofs.Room.{fit-room}
-use Rattle.tables.specs.Lent.{withRows, lent}
-use Rattle.tables.proofs.Lent.{fit-lent}
 use Rattle.link.proofs.decode.fault.Statement.{statement}
 use Rattle.link.proofs.decode.fault.Tie as tie
 
@@ -24,85 +21,73 @@ lent-fits-requires : tie.Need-lent-fits-requires
 lent-fits-requires c κs = search needs
 
 returns : tie.Need-returns
+unfolding decoderFault
 returns c =
     let a = c .before .before .before .before .args in
-    let f : fit (lent (a .t) (a .rows .now)) ≡ false =
-    sym (c .before .lent-fits .ensures) ∙ not-true _ (c .if1 .taken) in
-    sym (decoder-fault (lent (a .t) (a .rows .now)) (a .state .now) (a .block) ∙ simp f)
+    number-12 decoderWords (λ u. 2 ^ u .symbols) decoderMalformed (a .t) (a .rows .now) (a .state .now) (a .block)
+    (sym (c .before .lent-fits .ensures) ∙ not-true _ (c .if1 .taken))
 
-add-if2 : tie.Need-add-if2
-add-if2 c =
-    let a = c .before .before .before .before .before .args in
-    let f =
-    fit-lent (a .t) (a .rows .now) (sym (c .before .before .lent-fits .ensures) ∙ not-false _ (c .before .if1 .left)) in
-    let z = fit-facts (withRows (a .t) (a .rows .now)) (f .1) in
-    record { fits = omega arith }
+fitted : (c : tie.Else1) → let a = c .before .before .before .before .args in fit (lent (a .t) (a .rows .now)) ≡ true
+fitted c = sym (c .before .lent-fits .ensures) ∙ not-false _ (c .if1 .left)
+
+facts : (c : tie.Else1) → let a = c .before .before .before .before .args in LentFits (a .t) (a .rows .now)
+facts c = let a = c .before .before .before .before .args in lent-facts (a .t) (a .rows .now) (fitted c)
 
 mul-if2 : tie.Need-mul-if2
 mul-if2 c =
     let a = c .before .before .before .before .before .before .args in
-    let f = fit-lent (a .t) (a .rows .now)
-    (sym (c .before .before .before .lent-fits .ensures) ∙ not-false _ (c .before .before .if1 .left)) in
-    let m = fit-room (withRows (a .t) (a .rows .now)) (fit-facts (withRows (a .t) (a .rows .now)) (f .1)) in
+    let m = fit-room (withRows (a .t) (a .rows .now)) (facts (c .before .before)) in
     record { fits = omega arith }
+
+add-if2 : tie.Need-add-if2
+add-if2 c = let z = facts (c .before) in record { fits = omega arith }
 
 add-if2-2 : tie.Need-add-if2-2
 add-if2-2 c =
     let a = c .before .before .before .before .before .before .args in
-    let f = fit-lent (a .t) (a .rows .now)
-    (sym (c .before .before .before .lent-fits .ensures) ∙ not-false _ (c .before .before .if1 .left)) in
-    let m = fit-room (withRows (a .t) (a .rows .now)) (fit-facts (withRows (a .t) (a .rows .now)) (f .1)) in
+    let m = fit-room (withRows (a .t) (a .rows .now)) (facts (c .before .before)) in
     record { fits = omega arith }
 
 returns-2 : tie.Need-returns-2
+unfolding decoderFault
 returns-2 c =
-    let a = c .before .before .before .before .before .before .before .args in
-    let f = fit-lent (a .t) (a .rows .now) (sym (c .before .before .before .before .lent-fits .ensures)
-    ∙ not-false _ (c .before .before .before .if1 .left)) in
-    sym (ap (λ (u : Table). decoderFault u (a .state .now) (a .block)) (f .0)
-    ∙ decoder-fault (withRows (a .t) (a .rows .now)) (a .state .now) (a .block)
-    ∙ simp (f .1, ne-eqb (length (a .state .now)) (decoderWords (withRows (a .t) (a .rows .now))) (c .if2 .taken)))
+    let e = c .before .before .before in
+    let a = e .before .before .before .before .args in
+    number-13 decoderWords (λ u. 2 ^ u .symbols) decoderMalformed (a .t) (a .rows .now) (a .state .now) (a .block)
+    (fitted e) (c .if2 .taken)
 
 malformed-requires : tie.Need-malformed-requires
 malformed-requires c κs =
-    let a = c .before .before .before .before .before .before .before .args in
-    let f = fit-lent (a .t) (a .rows .now) (sym (c .before .before .before .before .lent-fits .ensures)
-    ∙ not-false _ (c .before .before .before .if1 .left)) in
-    ((a .rows .now, f .1), c .if2 .left)
+    let e = c .before .before .before in
+    let a = e .before .before .before .before .args in
+    ((a .rows .now, fit-lent (a .t) (a .rows .now) (fitted e) .1), c .if2 .left)
 
 returns-3 : tie.Need-returns-3
+unfolding decoderFault
 returns-3 c =
-    let here = c .before .before .before .before .before in
-    let a = here .before .before .before .before .args in
-    let f = fit-lent (a .t) (a .rows .now) (sym (here .before .lent-fits .ensures) ∙ not-false _ (here .if1 .left)) in
-    let size =
-    eq-eqb (length (a .state .now)) (decoderWords (withRows (a .t) (a .rows .now))) (c .before .before .if2 .left) in
-    let out : decoderMalformed (withRows (a .t) (a .rows .now)) (a .state .now) ≡ true =
-    sym (c .before .malformed .ensures) ∙ c .if3 .taken in
-    sym (ap (λ (u : Table). decoderFault u (a .state .now) (a .block)) (f .0)
-    ∙ decoder-fault (withRows (a .t) (a .rows .now)) (a .state .now) (a .block) ∙ simp (f .1, size, out))
+    let e = c .before .before .before .before .before in
+    let a = e .before .before .before .before .args in
+    number-14 decoderWords (λ u. 2 ^ u .symbols) decoderMalformed (a .t) (a .rows .now) (a .state .now) (a .block)
+    (fitted e) (c .before .before .if2 .left)
+    (sym (c .before .malformed .ensures) ∙ c .if3 .taken)
 
 mask-requires : tie.Need-mask-requires
 mask-requires c κs = search needs
 
 -- once 12 to 14 are settled, 15 is left
-settled : (c : tie.After-mask) (b : Bool)
+settled : (c : tie.After-mask) (q : Bool)
     → let a = c .before .before .before .before .before .before .before .before .before .before .args in
-    ltb (c .mask .result) (a .block) ≡ b
-    → cond b 15 0 ≡ decoderFault (lent (a .t) (a .rows .now)) (a .state .now) (a .block)
-settled c b out =
-    let here = c .before .before .before .before .before .before in
-    let a = here .before .before .before .before .args in
-    let f = fit-lent (a .t) (a .rows .now) (sym (here .before .lent-fits .ensures) ∙ not-false _ (here .if1 .left)) in
-    let size = eq-eqb (length (a .state .now)) (decoderWords (withRows (a .t) (a .rows .now)))
-    (c .before .before .before .if2 .left) in
-    let in14 : decoderMalformed (withRows (a .t) (a .rows .now)) (a .state .now) ≡ false =
-    sym (c .before .before .malformed .ensures) ∙ c .before .if3 .left in
-    let z = fit-facts (withRows (a .t) (a .rows .now)) (f .1) in
-    let in15 : leb (2 ^ (a .t .symbols)) (a .block) ≡ b =
-    sym (above-mask (a .t .symbols) (c .mask .result) (a .block) (omega arith) (c .mask .ensures)) ∙ out in
-    sym (ap (λ (u : Table). decoderFault u (a .state .now) (a .block)) (f .0)
-    ∙ decoder-fault (withRows (a .t) (a .rows .now)) (a .state .now) (a .block) ∙ simp (f .1, size, in14, in15))
+    ltb (c .mask .result) (a .block) ≡ q
+    → cond q 15 0 ≡ decoderFault (lent (a .t) (a .rows .now)) (a .state .now) (a .block)
+unfolding decoderFault
+settled c q out =
+    let e = c .before .before .before .before .before .before in
+    let a = e .before .before .before .before .args in
+    let z = facts e in
+    number-15 decoderWords (λ u. 2 ^ u .symbols) decoderMalformed (a .t) (a .rows .now) (a .state .now) (a .block)
+    (fitted e) (c .before .before .before .if2 .left)
+    (sym (c .before .before .malformed .ensures) ∙ c .before .if3 .left) q
+    (sym (above-mask (a .t .symbols) (c .mask .result) (a .block) (omega arith) (c .mask .ensures)) ∙ out)
 
 returns-4 : tie.Need-returns-4
 returns-4 c = settled (c .before) true (lt-ltb _ _ (c .if4 .taken))
@@ -113,15 +98,5 @@ returns-5 c = settled (c .before) false (le-ltb _ _ (c .if4 .left))
 pub fault-spec : {M : Type 1} → statement M
 fault-spec =
     tie.close
-    (tie.spec
-    lent-fits-requires
-    returns
-    add-if2
-    mul-if2
-    add-if2-2
-    returns-2
-    malformed-requires
-    returns-3
-    mask-requires
-    returns-4
-    returns-5)
+    (tie.spec lent-fits-requires returns add-if2 mul-if2 add-if2-2 returns-2 malformed-requires returns-3 mask-requires
+    returns-4 returns-5)

@@ -27,16 +27,9 @@ cast-field c = search needs
 
 field-requires-2 : tie.Need-field-requires-2
 field-requires-2 c κs =
-    let a = c .before .before .before .before .before .before .before .args in
+    let start = c .before .before .before .before .before .before .before in
     let f = c .before .before .before .before .field in
-    omega (
-      arith,
-      digits-64 (a .number) (omega arith),
-      digits-16 (a .d .info) (omega arith),
-      f .ensures .position,
-      f .kept .0,
-      field-length (a .number) space,
-    )
+    omega (arith, known start, f .ensures .position, f .kept .0, field-length (start .args .number) space)
 
 word-requires : tie.Need-word-requires
 word-requires c κs =
