@@ -90,35 +90,39 @@ join-requires c κs = search needs
 next-turn-requires : tie.Need-next-turn-requires
 next-turn-requires c κs = search needs
 
+-- the call's entry
+abbrev entry : tie.After-next-turn → tie.Start
+entry c = c .before .before .before .before .before .before .before .before .before
+
 -- the parity at its place, and the memory as the part comes back
 shifted : (c : tie.After-next-turn)
-    → let a = c .before .before .before .before .before .before .before .before .before .args in
+    → let a = entry c .args in
     c .before .before .before .join .result * 2 ^ (a .t .symbols - 1) % 2 ^ 64
     ≡ digit (odd (coderJoining (withRows (a .t) (a .rows .now)) (a .state .now) (a .info))) * 2 ^ (a .t .symbols - 1)
 shifted c =
-    let here = c .before .before .before .before .before .before .before .before .before in
+    let here = entry c in
     let a = here .args in
-    let n = tests (here) .sizes .n-to in
+    let n = tests here .sizes .n-to in
     shifted-is (withRows (a .t) (a .rows .now)) (a .state .now) (a .info) (omega arith)
     (c .before .before .before .join .result) (c .before .before .before .join .ensures .0)
 
 memory : (c : tie.After-next-turn)
-    → let a = c .before .before .before .before .before .before .before .before .before .args in
+    → let a = entry c .args in
     let at = 1 + turnOf (a .state .now) in
     putMid at (at + 1 - at) (a .state .now) (c .before .before .before .join .last .0)
     ≡ set (a .state .now) at (coderJoining (withRows (a .t) (a .rows .now)) (a .state .now) (a .info) / 2)
 memory c =
-    let here = c .before .before .before .before .before .before .before .before .before in
+    let here = entry c in
     let a = here .args in
-    let k = tests (here) in
+    let k = tests here in
     memory-is (withRows (a .t) (a .rows .now)) (a .state .now) (a .info) (omega arith)
     (c .before .before .before .join .last .0) (c .before .before .before .join .ensures .1)
 
 slice-write-state : tie.Need-slice-write-state
 slice-write-state c =
-    let here = c .before .before .before .before .before .before .before .before .before in
+    let here = entry c in
     let a = here .args in
-    let k = tests (here) in
+    let k = tests here in
     omega (
       arith,
       ap length (memory c),
@@ -128,13 +132,13 @@ slice-write-state c =
 
 shl-result : tie.Need-shl-result
 shl-result c =
-    let n = tests (c .before .before .before .before .before .before .before .before .before) .sizes .n-to in
+    let n = tests (entry c) .sizes .n-to in
     omega arith
 
 add-result : tie.Need-add-result
 unfolding codedBlock
 add-result c =
-    let here = c .before .before .before .before .before .before .before .before .before in
+    let here = entry c in
     let a = here .args in
     let l = coded-fits (withRows (a .t) (a .rows .now)) (a .state .now) (a .info) (here .pre) in
     let e = shifted c in
@@ -146,9 +150,9 @@ same-length c = search needs
 returns : tie.Need-returns
 unfolding codedBlock coderNext
 returns c =
-    let here = c .before .before .before .before .before .before .before .before .before in
+    let here = entry c in
     let a = here .args in
-    let k = tests (here) in (
+    let k = tests here in (
       ap (λ (x : ℕ). a .info + x) (shifted c),
       ap₂ (λ (x : List ℕ) (y : ℕ). set x 0 y) (memory c) (c .next-turn .ensures .0 (k .turn)),
     )

@@ -27,15 +27,19 @@ returns c =
     number-12 decoderWords (λ u. 2 ^ u .symbols) decoderMalformed (a .t) (a .rows .now) (a .state .now) (a .block)
     (sym (c .before .lent-fits .ensures) ∙ not-true _ (c .if1 .taken))
 
-fitted : (c : tie.Else1) → let a = c .before .before .before .before .args in fit (lent (a .t) (a .rows .now)) ≡ true
+-- the call's entry
+abbrev entry : tie.Else1 → tie.Start
+entry c = c .before .before .before .before
+
+fitted : (c : tie.Else1) → let a = entry c .args in fit (lent (a .t) (a .rows .now)) ≡ true
 fitted c = sym (c .before .lent-fits .ensures) ∙ not-false _ (c .if1 .left)
 
-facts : (c : tie.Else1) → let a = c .before .before .before .before .args in LentFits (a .t) (a .rows .now)
-facts c = let a = c .before .before .before .before .args in lent-facts (a .t) (a .rows .now) (fitted c)
+facts : (c : tie.Else1) → let a = entry c .args in LentFits (a .t) (a .rows .now)
+facts c = let a = entry c .args in lent-facts (a .t) (a .rows .now) (fitted c)
 
 mul-if2 : tie.Need-mul-if2
 mul-if2 c =
-    let a = c .before .before .before .before .before .before .args in
+    let a = entry (c .before .before) .args in
     let m = fit-room (withRows (a .t) (a .rows .now)) (facts (c .before .before)) in
     record { fits = omega arith }
 
@@ -44,7 +48,7 @@ add-if2 c = let z = facts (c .before) in record { fits = omega arith }
 
 add-if2-2 : tie.Need-add-if2-2
 add-if2-2 c =
-    let a = c .before .before .before .before .before .before .args in
+    let a = entry (c .before .before) .args in
     let m = fit-room (withRows (a .t) (a .rows .now)) (facts (c .before .before)) in
     record { fits = omega arith }
 
@@ -52,21 +56,21 @@ returns-2 : tie.Need-returns-2
 unfolding decoderFault
 returns-2 c =
     let e = c .before .before .before in
-    let a = e .before .before .before .before .args in
+    let a = entry e .args in
     number-13 decoderWords (λ u. 2 ^ u .symbols) decoderMalformed (a .t) (a .rows .now) (a .state .now) (a .block)
     (fitted e) (c .if2 .taken)
 
 malformed-requires : tie.Need-malformed-requires
 malformed-requires c κs =
     let e = c .before .before .before in
-    let a = e .before .before .before .before .args in
+    let a = entry e .args in
     ((a .rows .now, fit-lent (a .t) (a .rows .now) (fitted e) .1), c .if2 .left)
 
 returns-3 : tie.Need-returns-3
 unfolding decoderFault
 returns-3 c =
     let e = c .before .before .before .before .before in
-    let a = e .before .before .before .before .args in
+    let a = entry e .args in
     number-14 decoderWords (λ u. 2 ^ u .symbols) decoderMalformed (a .t) (a .rows .now) (a .state .now) (a .block)
     (fitted e) (c .before .before .if2 .left)
     (sym (c .before .malformed .ensures) ∙ c .if3 .taken)
@@ -76,13 +80,13 @@ mask-requires c κs = search needs
 
 -- once 12 to 14 are settled, 15 is left
 settled : (c : tie.After-mask) (q : Bool)
-    → let a = c .before .before .before .before .before .before .before .before .before .before .args in
+    → let a = entry (c .before .before .before .before .before .before) .args in
     ltb (c .mask .result) (a .block) ≡ q
     → cond q 15 0 ≡ decoderFault (lent (a .t) (a .rows .now)) (a .state .now) (a .block)
 unfolding decoderFault
 settled c q out =
     let e = c .before .before .before .before .before .before in
-    let a = e .before .before .before .before .args in
+    let a = entry e .args in
     let z = facts e in
     number-15 decoderWords (λ u. 2 ^ u .symbols) decoderMalformed (a .t) (a .rows .now) (a .state .now) (a .block)
     (fitted e) (c .before .before .before .if2 .left)

@@ -1,5 +1,5 @@
 -- `link::decode::step`: the four lines, and the part with its words and blocks. Assumes nothing.
-use mathlib.Core.Path.{_≡_, ap, ap₂, _∙_}
+use mathlib.Core.Path.{_≡_, sym, ap, ap₂, subst, _∙_}
 use mathlib.Core.List.{List, [], _∷_, _++_}
 use Prim.Native.Nat.{ℕ, _-_, _/_, _^_, _≤_, _<_}
 use native.Mathlib.Nat.{mod-lt}
@@ -97,51 +97,54 @@ push-requires c κs = simp length-set (omega arith)
 information-requires-2 : tie.Need-information-requires-2
 information-requires-2 c κs = search needs
 
+-- points that the proofs look back to: the call's entry from the explanation, that one from the end
+abbrev entry : tie.After-explain → tie.Start
+entry c = c .before .before .before .before .before .before .before .before
+
+abbrev explained : tie.After-information2 → tie.After-explain
+explained c = c .before .before .before .before .before .before .before
+
 cast-t23 : tie.Need-cast-t23
 cast-t23 c =
-    let here = c .before .before .before .before .before .before .before in
-    let a = here .before .before .before .before .before .before .before .before .args in
+    let here = explained c in
+    let a = entry here .args in
     let some = pow-pos (a .n - 1) in
-    let e = c .information2 .ensures in
-    let low : c .information2 .result < 2 ^ (a .n - 1) = rw e (mod-lt (here .explain .result .error) (omega arith)) in
-    let l = xor-lt (a .n - 1) (getD (a .part .now) 2 0) (c .information2 .result)
-    (here .before .before .before .before .before .before .before .before .pre .7) low in
+    let low = subst (λ (x : ℕ). x < 2 ^ (a .n - 1)) (sym (c .information2 .ensures)) (mod-lt _ (omega arith)) in
+    let l = xor-lt (a .n - 1) (getD (a .part .now) 2 0) (c .information2 .result) (entry here .pre .7) low in
     let h : a .n - 1 ≤ 16 = omega arith in
     let m = pow-mono h in
     record { fits = omega arith }
 
 -- the part as it comes back
 part-next : (c : tie.After-information2)
-    → let a = c .before .before .before .before .before .before .before .before .before .before .before .before .before
-    .before .before .args in
+    → let a = entry (explained c) .args in
     c .before .before .before .push .last .0 ≡ streamNext (a .n) (a .span) (a .rows .now) (getD (a .part .now) 0 0)
     (getD (a .part .now) 1 0) (drop 3 (a .part .now)) (a .received)
 part-next c =
-    let here = c .before .before .before .before .before .before .before in
-    let a = here .before .before .before .before .before .before .before .before .args in
+    let here = explained c in
+    let a = entry here .args in
     let i = here .before .before .before .before .before .information in
     let w = here .before .before .before .joining in
     let x = here .before .register in
     let v = here .explain in
     let p = c .before .before .before .push in
-    let size = here .before .before .before .before .before .before .before .before .pre .0 in
-    let from = here .before .before .before .before .before .before .before .before .pre .3 in
+    let size = entry here .pre .0 in
+    let from = entry here .pre .3 in
     part-is (a .n) (a .span) (a .rows .now) (a .part .now) (a .received) (i .result) (w .result) (x .result)
     (i .ensures) (w .ensures) (x .ensures) (omega arith)
     (v .result .kept) (v .ensures .1 .0) (p .last .0) (p .ensures)
 
 same-length : tie.Need-same-length
 same-length c =
-    let a = c .before .before .before .before .before .before .before .before .before .before .before .before .before
-    .before .before .args in
+    let a = entry (explained c) .args in
     let l = length-append (drop 3 (a .part .now)) (information (a .n) (a .received) ∷ []) in
     let d = length-drop 3 (a .part .now) in
     ap length (part-next c) ∙ omega arith
 
 returns : tie.Need-returns
 returns c =
-    let here = c .before .before .before .before .before .before .before in
-    let a = here .before .before .before .before .before .before .before .before .args in
+    let here = explained c in
+    let a = entry here .args in
     let i = here .before .before .before .before .before .information in
     let w = here .before .before .before .joining in
     let x = here .before .register in

@@ -108,14 +108,21 @@ step-requires c κs =
       rw (oldest-is (table b) s (b .args .received) (r .0) (r .1)) (oldest-lt (table b) s (b .args .received) k),
     )
 
+-- points that the proofs look back to: the call's entry from the stream's step, that step from the turn's
+abbrev entry : tie.After-step → tie.Start
+entry c = c .before .before .before .before .before .before .before .before
+
+abbrev stepped : tie.After-next-turn → tie.After-step
+stepped c = c .before .before .before .before .before .before
+
 sub-delay : tie.Need-sub-delay
 sub-delay c =
-    let r = room (c .before .before .before .before .before .before .before .before .before .before .before) in
+    let r = room (entry (c .before .before .before)) in
     omega arith
 
 mul-delay : tie.Need-mul-delay
 mul-delay c =
-    let r = room (c .before .before .before .before .before .before .before .before .before .before .before .before) in
+    let r = room (entry (c .before .before .before .before)) in
     record { fits = omega arith }
 
 next-fill-requires : tie.Need-next-fill-requires
@@ -123,12 +130,12 @@ next-fill-requires c κs = search needs
 
 -- the memory as the part comes back is as long as it was
 long : (c : tie.After-step)
-    → let b = c .before .before .before .before .before .before .before .before in
+    → let b = entry c in
     let s = b .args .state .now in
     let at = streamAt (table b) (turnOf s) in
     2 ≤ length (putMid at (at + (b .args .t .span + 1) - at) s (c .step .last .0))
 long c =
-    let b = c .before .before .before .before .before .before .before .before in
+    let b = entry c in
     let s = b .args .state .now in
     let r = room b in
     let m = lent-memory (table b) s (b .args .received) (r .0) (r .1) (c .step .last .0) (c .step .ensures .1 .1) in
@@ -149,17 +156,16 @@ slice-write-state-2 c =
 
 -- fill and turn advance from what they were
 next-is : (c : tie.After-next-turn)
-    → let b =
-    c .before .before .before .before .before .before .before .before .before .before .before .before .before .before in
+    → let b = entry (stepped c) in
     let s = b .args .state .now in
     let at = streamAt (table b) (turnOf s) in
     set (set (putMid at (at + (b .args .t .span + 1) - at) s
-    (c .before .before .before .before .before .before .step .last .0)) 1 (c .before .next-fill .result)) 0
+    (stepped c .step .last .0)) 1 (c .before .next-fill .result)) 0
     (c .next-turn .result)
     ≡ decoderNext (table b) s (b .args .received)
 next-is c =
-    let here = c .before .before .before .before .before .before in
-    let b = here .before .before .before .before .before .before .before .before in
+    let here = stepped c in
+    let b = entry here in
     let r = room b in
     let p = here .step in
     lent-next (table b) (b .args .state .now) (b .args .received) (r .0) (r .1) (p .last .0) (p .ensures .1 .1)
@@ -172,8 +178,7 @@ same-length c = search needs
 returns : tie.Need-returns
 unfolding delivery
 returns c =
-    let b = c .before .before .before .before .before .before .before .before .before .before .before .before .before
-    .before .before in
+    let b = entry (stepped (c .before)) in
     let s = b .args .state .now in (
       picked (ltb (fillOf s) (delayOf (table b))) NothingYet (Delivery (delivered (table b) s (b .args .received)))
           (lt-ltb (fillOf s) (delayOf (table b)) (c .if1 .taken)),
@@ -186,8 +191,8 @@ same-length-2 c = search needs
 returns-2 : tie.Need-returns-2
 unfolding delivery
 returns-2 c =
-    let here = c .before .before .before .before .before .before .before in
-    let b = here .before .before .before .before .before .before .before .before in
+    let here = stepped (c .before) in
+    let b = entry here in
     let s = b .args .state .now in
     let r = room b in
     let p = here .step in (

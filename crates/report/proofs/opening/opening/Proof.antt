@@ -28,17 +28,21 @@ returns c =
 header-requires : tie.Need-header-requires
 header-requires c κs = search needs
 
+-- the call's entry
+abbrev entry : tie.After-header → tie.Start
+entry c = c .before .before .before .before .before .before .before
+
 -- with room the header is written
 with-room : (c : tie.After-header)
-    → let a = c .before .before .before .before .before .before .before .args in
+    → let a = entry c .args in
     openingRoom (length (a .memory .now)) (length (a .out .now)) ≡ true
 with-room c = sym (c .before .before .before .has-room .ensures) ∙ not-false _ (c .before .before .if1 .left)
 
 headed : (c : tie.After-header)
-    → let a = c .before .before .before .before .before .before .before .args in
+    → let a = entry c .args in
     Wrote (a .out .now) 0 headerLine (c .header .last .0) (c .header .result)
 headed c =
-    let a = c .before .before .before .before .before .before .before .args in
+    let a = entry c .args in
     let w = c .header .ensures in
     let r = room-there (length (a .memory .now)) (length (a .out .now)) (with-room c) in
     put-wrote headerLine (omega (arith, r .1)) (w .0) (w .1)
@@ -51,9 +55,10 @@ same-length c = search needs
 
 returns-2 : tie.Need-returns-2
 returns-2 c =
-    let a = c .before .before .before .before .before .before .before .before .before .before .before .args in
-    opens-short (a .memory .now) (a .sizes .now) (c .stopped2 .result) (with-room (c .before .before .before .before))
-    (c .before .if2 .taken) (headed (c .before .before .before .before)) (c .stopped2 .ensures)
+    let h = c .before .before .before .before in
+    let a = entry h .args in
+    opens-short (a .memory .now) (a .sizes .now) (c .stopped2 .result) (with-room h) (c .before .if2 .taken) (headed h)
+    (c .stopped2 .ensures)
 
 shared-slice-read-after-header : tie.Need-shared-slice-read-after-header
 shared-slice-read-after-header c = search needs
@@ -69,9 +74,8 @@ cast-after-header-2 c = record { fits = omega (arith, c .shared-slice-known3 .gi
 
 after-header-requires : tie.Need-after-header-requires
 after-header-requires c κs =
-    let here = c .before .before .before .before .before .before .before in
-    let a = here .before .before .before .before .before .before .before .args in
-    let h = here in
+    let h = c .before .before .before .before .before .before .before in
+    let a = entry h .args in
     let r = room-there (length (a .memory .now)) (length (a .out .now)) (with-room h) in
     (r .0, omega (arith, r .1, headed h .position, h .header .kept .0))
 
@@ -84,8 +88,8 @@ same-length-3 c = search needs
 returns-3 : tie.Need-returns-3
 returns-3 c =
     let here = c .before .before .before .before .before .before .before .before .before in
-    let a = here .before .before .before .before .before .before .before .before .before .before .args in
     let h = here .before .before .before in
+    let a = entry h .args in
     let r = room-there (length (a .memory .now)) (length (a .out .now)) (with-room h) in
     opens-sizes (a .sizes .now) (with-room h) (here .if2 .left) (headed h)
     (c .before .before .before .before .after-header .ensures) (omega (arith, r .1))

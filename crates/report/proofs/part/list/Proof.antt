@@ -21,6 +21,13 @@ Inv-loop t state₀ bytes number out₀ end₀ next₀ i₀ state out end next i
 abbrev μ-loop : tie.MeasureT-loop
 μ-loop t state₀ bytes number out₀ end₀ next₀ i₀ state out end next i = length bytes / 2 - i
 
+-- points that the proofs look back to: the call's entry from a turn, the turn from its printed line
+abbrev entry : tie.At-loop Inv-loop μ-loop → tie.Start Inv-loop μ-loop
+entry c = c .before .before .before .before
+
+abbrev turn : tie.After-answer-line Inv-loop μ-loop → tie.At-loop Inv-loop μ-loop
+turn c = c .before .before .before .before .before .before .before .before
+
 -- what is known at the entry
 known : (s : tie.Start Inv-loop μ-loop)
     → (s .args .number ≤ 2 ^ 63) × (longest * (length (s .args .bytes .now) / 2 + 1) ≤ length (s .args .out .now))
@@ -43,62 +50,56 @@ answer-line-requires : tie.Need-answer-line-requires Inv-loop μ-loop
 answer-line-requires c κs =
     let here = c .before .before .before .before .before .before .before in
     let l = here .loop in
-    let k = known (here .before .before .before .before) in
-    let n : l .i < length (here .before .before .before .before .args .bytes .now) / 2 = omega arith in
+    let k = known (entry here) in
+    let n : l .i < length (entry here .args .bytes .now) / 2 = omega arith in
     (omega (arith, l .inv .short, l .inv .out-length), omega (arith, l .inv .few))
 
 same-length : tie.Need-same-length Inv-loop μ-loop
 same-length c =
-    c .before .before .before .before .before .before .before .decode .kept .1 .0 ∙ c .before .before .before .before
-    .before .before .before .before .before .before .before .loop .inv .memory-length
+    let here = c .before .before .before in
+    here .before .before .before .before .decode .kept .1 .0 ∙ turn here .loop .inv .memory-length
 
 same-length-2 : tie.Need-same-length-2 Inv-loop μ-loop
 same-length-2 c =
-    c .before .before .before .answer-line .kept .1 .1 .0
-    ∙ c .before .before .before .before .before .before .before .before .before .before .before .loop .inv .out-length
+    let here = c .before .before .before in
+    here .answer-line .kept .1 .1 .0 ∙ turn here .loop .inv .out-length
 
 -- this turn's block, its answer printed, and the memory after its step
 abbrev received : tie.After-answer-line Inv-loop μ-loop → ℕ
 received c =
-    let here = c .before .before .before .before .before .before .before .before in
-    let bytes = here .before .before .before .before .args .bytes .now in
-    let at = 2 * here .loop .i in
+    let bytes = entry (turn c) .args .bytes .now in
+    let at = 2 * turn c .loop .i in
     blockOf (getD bytes at 0) (getD bytes (at + 1) 0)
 
 printed : (c : tie.After-answer-line Inv-loop μ-loop)
-    → let l = c .before .before .before .before .before .before .before .before .loop in
+    → let l = turn c .loop in
     let p = c .answer-line in
-    Printed (l .out) (l .end) (l .next) (decodeAnswer
-    (c .before .before .before .before .before .before .before .before .before .before .before .before .args .t)
-    (l .state) (received c)) (p .last .1 .1 .0) (p .result .end) (p .result .number) (p .result .stopped)
+    Printed (l .out) (l .end) (l .next) (decodeAnswer (entry (turn c) .args .t) (l .state) (received c))
+    (p .last .1 .1 .0) (p .result .end) (p .result .number) (p .result .stopped)
 printed c =
-    let here = c .before .before .before .before .before in
-    let l = here .before .before .before .loop in
+    let l = turn c .loop in
     let p = c .answer-line in
     subst (λ (x : DecodeAnswer).
     Printed (l .out) (l .end) (l .next) x (p .last .1 .1 .0) (p .result .end) (p .result .number) (p .result .stopped))
     (c .before .before .before .before .decode .ensures .answer
-    ∙ ap (decodeAnswer (here .before .before .before .before .before .before .before .args .t) (l .state))
-    (here .block .ensures)) (p .ensures)
+    ∙ ap (decodeAnswer (entry (turn c) .args .t) (l .state))
+    (c .before .before .before .before .before .block .ensures)) (p .ensures)
 
 remembered : (c : tie.After-answer-line Inv-loop μ-loop)
-    → c .before .before .before .before .decode .last .1 .0 ≡ decodeMemory
-    (c .before .before .before .before .before .before .before .before .before .before .before .before .args .t)
-    (c .before .before .before .before .before .before .before .before .loop .state) (received c)
+    → c .before .before .before .before .decode .last .1 .0
+    ≡ decodeMemory (entry (turn c) .args .t) (turn c .loop .state) (received c)
 remembered c =
-    c .before .before .before .before .decode .ensures .memory ∙ ap (decodeMemory
-    (c .before .before .before .before .before .before .before .before .before .before .before .before .args .t)
-    (c .before .before .before .before .before .before .before .before .loop .state))
+    c .before .before .before .before .decode .ensures .memory
+    ∙ ap (decodeMemory (entry (turn c) .args .t) (turn c .loop .state))
     (c .before .before .before .before .before .block .ensures)
 
 returns : tie.Need-returns Inv-loop μ-loop
 returns c =
-    let here = c .before .before .before .before .before .before .before .before .before .before .before in
-    let a = here .before .before .before .before .args in
-    let l = here .loop in
-    rw (remembered (c .before .before .before)) (going-stops (a .t) (a .state .now)
-    (a .number) (a .bytes .now) (a .out .now) (known (here .before .before .before .before) .1) (l .inv) (omega arith)
-    (printed (c .before .before .before)) (c .if1 .taken))
+    let here = c .before .before .before in
+    let start = entry (turn here) in
+    let a = start .args in
+    rw (remembered here) (going-stops (a .t) (a .state .now) (a .number) (a .bytes .now) (a .out .now)
+    (known start .1) (turn here .loop .inv) (omega arith) (printed here) (c .if1 .taken))
 
 add-i : tie.Need-add-i Inv-loop μ-loop
 add-i c = search needs
@@ -108,14 +109,13 @@ loop-less c = omega arith
 
 loop-again : tie.Need-loop-again Inv-loop μ-loop
 loop-again c =
-    let here = c .before .before .before .before .before .before .before in
-    let a = here .before .before .before .before .before .before .before .before .args in
-    let l = here .before .before .before .before .loop in
-    let m = remembered (c .before .before .before) in
-    rw m (going-next (a .t) (a .state .now) (a .number) (a .bytes .now) (a .out .now)
-    (known (here .before .before .before .before .before .before .before .before) .1) (l .inv) (omega arith)
-    (printed (c .before .before .before)) (c .if1 .left) (c .before .before .before .answer-line .kept .1 .1 .0)
-    (sym (ap length m) ∙ here .decode .kept .1 .0))
+    let here = c .before .before .before in
+    let start = entry (turn here) in
+    let a = start .args in
+    let m = remembered here in
+    rw m (going-next (a .t) (a .state .now) (a .number) (a .bytes .now) (a .out .now) (known start .1)
+    (turn here .loop .inv) (omega arith) (printed here) (c .if1 .left) (here .answer-line .kept .1 .1 .0)
+    (sym (ap length m) ∙ here .before .before .before .before .decode .kept .1 .0))
 
 odd-byte-requires : tie.Need-odd-byte-requires Inv-loop μ-loop
 odd-byte-requires c κs = search needs
@@ -130,10 +130,10 @@ same-length-4 c =
 returns-2 : tie.Need-returns-2 Inv-loop μ-loop
 returns-2 c =
     let here = c .before .before .before .before .before .before in
-    let a = here .before .before .before .before .args in
+    let a = entry here .args in
     let l = here .loop in
     let o = c .before .before .odd-byte in
-    let k = known (here .before .before .before .before) in
+    let k = known (entry here) in
     let r : l .end + longest ≤ length (l .out) = omega (arith, l .inv .short, l .inv .out-length, l .inv .below) in
     going-odd (a .t) (a .state .now) (a .number) (a .bytes .now) (a .out .now) (k .1) (l .inv) (omega arith)
     (put-wrote oddLine r (o .ensures .0) (o .ensures .1))
@@ -146,10 +146,10 @@ same-length-6 c = c .before .before .loop .inv .out-length
 
 returns-3 : tie.Need-returns-3 Inv-loop μ-loop
 returns-3 c =
-    let here = c .before .before .before .before .before .before in
-    let a = here .args in
-    let l = c .before .before .loop in
-    going-even (a .t) (a .state .now) (a .number) (a .bytes .now) (a .out .now) (known (here) .1) (l .inv) (omega arith)
+    let here = c .before .before in
+    let a = entry here .args in
+    going-even (a .t) (a .state .now) (a .number) (a .bytes .now) (a .out .now) (known (entry here) .1)
+    (here .loop .inv) (omega arith)
 
 pub list-spec : {M : Type 1} → statement M
 list-spec =

@@ -55,10 +55,14 @@ error-of-requires c κs = search needs
 cast-field-2 : tie.Need-cast-field-2
 cast-field-2 c = search needs
 
+-- the call's entry, from the second field
+abbrev entry : tie.After-field2 → tie.Start
+entry c = c .before .before .before .before .before .before .before .before
+
 field-requires-3 : tie.Need-field-requires-3
 field-requires-3 c κs =
     let here = c .before .before .before .before .before .before .before .before in
-    let a = here .before .before .before .before .before .before .before .before .args in
+    let a = entry here .args in
     let f = here .before .before .before .before .before .field in
     let g = here .field2 in
     let w = c .before .before .before .before .word in
@@ -83,12 +87,12 @@ same-length c = search needs
 
 returns : tie.Need-returns
 returns c =
-    let here = c .before .before .before .before .before .before .before in
-    let a =
-    here .before .before .before .before .before .before .before .before .before .before .before .before .args in
-    let f = here .before .before .before .before .before .before .before .before .before .field in
-    let g = here .before .before .before .before .field2 in
-    let w = here .word in
+    let word = c .before .before .before .before .before .before .before in
+    let here = word .before .before .before .before in
+    let a = entry here .args in
+    let f = here .before .before .before .before .before .field in
+    let g = here .field2 in
+    let w = word .word in
     let z = c .before .before .field3 in
     let number = decimalOf (a .number) ++ (space ∷ []) in
     let info = decimalOf (a .d .info) ++ (space ∷ []) in
@@ -98,8 +102,7 @@ returns c =
     rw (c .before .before .before .error-of .ensures) at (z .ensures) in
     let n₁ = field-length (a .number) space in
     let n₂ = field-length (a .d .info) space in
-    let e =
-    known (here .before .before .before .before .before .before .before .before .before .before .before .before) in
+    let e = known (entry here) in
     let m₃ = word-length (a .d .mark) in
     let p₁ = f .ensures .position in
     let k₁ = f .kept .0 in
