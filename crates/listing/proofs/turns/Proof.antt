@@ -42,15 +42,5 @@ returns-2 c = search needs
 pub turns-spec : {M : Type 1} → statement M
 turns-spec =
     tie.close
-    (tie.spec
-    Inv-loop
-    μ-loop
-    loop-holds
-    turn-requires
-    same-length
-    returns
-    sub-left
-    loop-less
-    loop-again
-    same-length-2
+    (tie.spec Inv-loop μ-loop loop-holds turn-requires same-length returns sub-left loop-less loop-again same-length-2
     returns-2)

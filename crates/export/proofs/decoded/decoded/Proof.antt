@@ -27,11 +27,4 @@ returns-3 c = rw (c .before .answer2 .given .1)
 pub decoded-spec : {M : Type 1} → statement M
 decoded-spec =
     tie.close
-    (tie.spec
-    enum-known-answer
-    delivered-requires
-    enum-told
-    enum-known-answer-2
-    returns
-    returns-2
-    returns-3)
+    (tie.spec enum-known-answer delivered-requires enum-told enum-known-answer-2 returns returns-2 returns-3)

@@ -36,14 +36,4 @@ returns-4 c = rw (c .enum-told3 .given .1)
 pub delivered-spec : {M : Type 1} → statement M
 delivered-spec =
     tie.close
-    (tie.spec
-    cast-info
-    enum-told
-    enum-known-mark
-    cast-t6
-    enum-told-2
-    enum-told-3
-    returns
-    returns-2
-    returns-3
-    returns-4)
+    (tie.spec cast-info enum-told enum-known-mark cast-t6 enum-told-2 enum-told-3 returns returns-2 returns-3 returns-4)

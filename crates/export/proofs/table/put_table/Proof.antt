@@ -85,19 +85,5 @@ returns c =
 pub put-table-spec : {M : Type 1} → statement M
 put-table-spec =
     tie.close
-    (tie.spec
-    Inv-loop
-    μ-loop
-    array-write-all
-    array-write-all-2
-    array-write-all-3
-    loop-holds
-    mul-all
-    element-copy-out-all
-    add-all
-    mul-all-2
-    array-write-all-4
-    add-i
-    loop-less
-    loop-again
-    returns)
+    (tie.spec Inv-loop μ-loop array-write-all array-write-all-2 array-write-all-3 loop-holds mul-all
+    element-copy-out-all add-all mul-all-2 array-write-all-4 add-i loop-less loop-again returns)

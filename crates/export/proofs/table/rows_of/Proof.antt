@@ -63,16 +63,5 @@ returns c =
 pub rows-of-spec : {M : Type 1} → statement M
 rows-of-spec =
     tie.close
-    (tie.spec
-    Inv-loop
-    μ-loop
-    loop-holds
-    add-rows
-    mul-rows
-    shared-slice-read-rows
-    mul-rows-2
-    array-write-rows
-    add-i
-    loop-less
-    loop-again
-    returns)
+    (tie.spec Inv-loop μ-loop loop-holds add-rows mul-rows shared-slice-read-rows mul-rows-2 array-write-rows add-i
+    loop-less loop-again returns)

@@ -9,7 +9,7 @@ use lib.Dec.{leb, ltb}
 use Rattle.span.proofs.Masks.{above-mask}
 use Rattle.tables.specs.Table.{fit}
 use Rattle.tables.specs.Lent.{lent}
-use Rattle.tables.proofs.Lent.{LentFits, lent-facts}
+use Rattle.tables.proofs.Lent.{lent-facts}
 use Rattle.link.specs.Memory.{coderWords}
 use Rattle.link.specs.Refusals.{coderMalformed, coderFault}
 use Rattle.link.proofs.Refusals.{number-12, number-13, number-14, number-15}
@@ -33,11 +33,8 @@ entry c = c .before .before .before .before
 fitted : (c : tie.Else1) → let a = entry c .args in fit (lent (a .t) (a .rows .now)) ≡ true
 fitted c = sym (c .before .lent-fits .ensures) ∙ not-false _ (c .if1 .left)
 
-facts : (c : tie.Else1) → let a = entry c .args in LentFits (a .t) (a .rows .now)
-facts c = let a = entry c .args in lent-facts (a .t) (a .rows .now) (fitted c)
-
 add-if2 : tie.Need-add-if2
-add-if2 c = let z = facts (c .before) in record { fits = omega arith }
+add-if2 c = let z = lent-facts _ _ (fitted (c .before)) in record { fits = omega arith }
 
 returns-2 : tie.Need-returns-2
 unfolding coderFault
@@ -48,7 +45,9 @@ returns-2 c =
     (fitted e) (c .if2 .taken)
 
 malformed-requires : tie.Need-malformed-requires
-malformed-requires c κs = let z = facts (c .before .before) in (c .if2 .left, omega arith, omega arith, omega arith)
+malformed-requires c κs =
+    let z = lent-facts _ _ (fitted (c .before .before)) in
+    (c .if2 .left, omega arith, omega arith, omega arith)
 
 returns-3 : tie.Need-returns-3
 unfolding coderFault
@@ -60,7 +59,7 @@ returns-3 c =
     (sym (c .before .malformed .ensures) ∙ c .if3 .taken)
 
 sub-mask : tie.Need-sub-mask
-sub-mask c = let z = facts (c .before .before .before .before .before) in omega arith
+sub-mask c = let z = lent-facts _ _ (fitted (c .before .before .before .before .before)) in omega arith
 
 mask-requires : tie.Need-mask-requires
 mask-requires c κs = search needs
@@ -74,7 +73,7 @@ unfolding coderFault
 settled c q out =
     let e = c .before .before .before .before .before .before in
     let a = entry e .args in
-    let z = facts e in
+    let z = lent-facts _ _ (fitted e) in
     number-15 coderWords (λ u. 2 ^ (u .symbols - 1)) coderMalformed (a .t) (a .rows .now) (a .state .now) (a .block)
     (fitted e) (c .before .before .before .before .if2 .left)
     (sym (c .before .before .before .malformed .ensures) ∙ c .before .before .if3 .left) q

@@ -43,12 +43,5 @@ returns-2 c =
 pub malformed-spec : {M : Type 1} → statement M
 malformed-spec =
     tie.close
-    (tie.spec
-    shared-slice-read-turn
-    returns
-    sub-mask
-    mask-requires
-    add-result
-    mul-result
-    shared-slice-read-result
+    (tie.spec shared-slice-read-turn returns sub-mask mask-requires add-result mul-result shared-slice-read-result
     returns-2)

@@ -160,19 +160,5 @@ returns c =
 pub taken-spec : {M : Type 1} → statement M
 taken-spec =
     tie.close
-    (tie.spec
-    slice-read-turn
-    add-at
-    add-end
-    sub-width
-    mul-join
-    sub-join
-    part-join-start
-    part-join-end
-    join-requires
-    next-turn-requires
-    slice-write-state
-    shl-result
-    add-result
-    same-length
-    returns)
+    (tie.spec slice-read-turn add-at add-end sub-width mul-join sub-join part-join-start part-join-end join-requires
+    next-turn-requires slice-write-state shl-result add-result same-length returns)

@@ -89,21 +89,5 @@ returns c =
 pub error-words-spec : {M : Type 1} → statement M
 error-words-spec =
     tie.close
-    (tie.spec
-    Inv-loop
-    μ-loop
-    loop-holds
-    sub-loop
-    mul-words
-    shared-slice-read-words
-    mul-words-2
-    array-write-words
-    add-i
-    loop-less
-    loop-again
-    sub-words
-    mul-words-3
-    array-write-words-2
-    mul-words-4
-    array-write-words-3
-    returns)
+    (tie.spec Inv-loop μ-loop loop-holds sub-loop mul-words shared-slice-read-words mul-words-2 array-write-words add-i
+    loop-less loop-again sub-words mul-words-3 array-write-words-2 mul-words-4 array-write-words-3 returns)

@@ -76,13 +76,4 @@ returns-4 c =
 pub explain-spec : {M : Type 1} → statement M
 explain-spec =
     tie.close
-    (tie.spec
-    returns
-    least-error-requires
-    enum-known-least
-    cast-t9
-    cast-t10
-    returns-2
-    enum-told
-    returns-3
-    returns-4)
+    (tie.spec returns least-error-requires enum-known-least cast-t9 cast-t10 returns-2 enum-told returns-3 returns-4)

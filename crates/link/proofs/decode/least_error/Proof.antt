@@ -74,14 +74,5 @@ returns-2 c =
 pub least-error-spec : {M : Type 1} → statement M
 least-error-spec =
     tie.close
-    (tie.spec
-    error-words-requires
-    slice-aggregate-least-relation
-    add-least-relation
-    least-relation-requires
-    enum-known-relation
-    shl-t12
-    sub-t13
-    returns
-    enum-told
-    returns-2)
+    (tie.spec error-words-requires slice-aggregate-least-relation add-least-relation least-relation-requires
+    enum-known-relation shl-t12 sub-t13 returns enum-told returns-2)

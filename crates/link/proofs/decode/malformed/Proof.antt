@@ -98,15 +98,5 @@ returns-3 c =
 pub malformed-spec : {M : Type 1} → statement M
 malformed-spec =
     tie.close
-    (tie.spec
-    shared-slice-read-turn
-    returns
-    sub-if2
-    mul-if2
-    shared-slice-read-if2
-    returns-2
-    add-stream-malformed
-    mul-stream-malformed
-    add-stream-malformed-2
-    stream-malformed-requires
-    returns-3)
+    (tie.spec shared-slice-read-turn returns sub-if2 mul-if2 shared-slice-read-if2 returns-2 add-stream-malformed
+    mul-stream-malformed add-stream-malformed-2 stream-malformed-requires returns-3)

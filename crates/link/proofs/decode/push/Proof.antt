@@ -160,20 +160,5 @@ returns c =
 pub push-spec : {M : Type 1} → statement M
 push-spec =
     tie.close
-    (tie.spec
-    Inv-loop
-    μ-loop
-    sub-last
-    loop-holds
-    add-part
-    mul-part
-    slice-read-part
-    mul-part-2
-    slice-write-part
-    add-i
-    loop-less
-    loop-again
-    mul-part-3
-    slice-write-part-2
-    same-length
-    returns)
+    (tie.spec Inv-loop μ-loop sub-last loop-holds add-part mul-part slice-read-part mul-part-2 slice-write-part add-i
+    loop-less loop-again mul-part-3 slice-write-part-2 same-length returns)

@@ -68,15 +68,5 @@ returns c =
 pub some-above-spec : {M : Type 1} → statement M
 some-above-spec =
     tie.close
-    (tie.spec
-    Inv-loop
-    μ-loop
-    loop-holds
-    add-seen
-    mul-seen
-    shared-slice-read-seen
-    add-i
-    loop-less
-    loop-again
-    mask-requires
-    returns)
+    (tie.spec Inv-loop μ-loop loop-holds add-seen mul-seen shared-slice-read-seen add-i loop-less loop-again
+    mask-requires returns)

@@ -162,20 +162,6 @@ returns c =
 pub step-spec : {M : Type 1} → statement M
 step-spec =
     tie.close
-    (tie.spec
-    information-requires
-    sub-joining
-    slice-read-joining
-    joining-requires
-    slice-read-register
-    register-requires
-    explain-requires
-    cast-error
-    slice-read-oldest
-    slice-write-part
-    slice-write-part-2
-    push-requires
-    information-requires-2
-    cast-t23
-    same-length
-    returns)
+    (tie.spec information-requires sub-joining slice-read-joining joining-requires slice-read-register register-requires
+    explain-requires cast-error slice-read-oldest slice-write-part slice-write-part-2 push-requires
+    information-requires-2 cast-t23 same-length returns)

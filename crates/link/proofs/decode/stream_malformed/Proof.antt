@@ -73,17 +73,5 @@ returns-2 c =
 pub stream-malformed-spec : {M : Type 1} → statement M
 stream-malformed-spec =
     tie.close
-    (tie.spec
-    sub-mask
-    mask-requires
-    mul-if1
-    shared-slice-read-if1
-    add-if1
-    mul-if1-2
-    shared-slice-read-if1-2
-    returns
-    add-some-above
-    sub-some-above
-    sub-some-above-2
-    some-above-requires
-    returns-2)
+    (tie.spec sub-mask mask-requires mul-if1 shared-slice-read-if1 add-if1 mul-if1-2 shared-slice-read-if1-2 returns
+    add-some-above sub-some-above sub-some-above-2 some-above-requires returns-2)

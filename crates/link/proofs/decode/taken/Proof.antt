@@ -206,26 +206,6 @@ returns-2 c =
 pub taken-spec : {M : Type 1} → statement M
 taken-spec =
     tie.close
-    (tie.spec
-    slice-read-turn
-    slice-read-fill
-    add-at
-    mul-at
-    add-at-2
-    add-end
-    add-end-2
-    mul-step
-    sub-step
-    part-step-start
-    part-step-end
-    step-requires
-    sub-delay
-    mul-delay
-    next-fill-requires
-    slice-write-state
-    next-turn-requires
-    slice-write-state-2
-    same-length
-    returns
-    same-length-2
-    returns-2)
+    (tie.spec slice-read-turn slice-read-fill add-at mul-at add-at-2 add-end add-end-2 mul-step sub-step part-step-start
+    part-step-end step-requires sub-delay mul-delay next-fill-requires slice-write-state next-turn-requires
+    slice-write-state-2 same-length returns same-length-2 returns-2)

@@ -63,12 +63,4 @@ returns-2 c =
 pub start-decoder-spec : {M : Type 1} → statement M
 start-decoder-spec =
     tie.close
-    (tie.spec
-    fits-requires
-    add-start
-    mul-start
-    add-start-2
-    start-requires
-    same-length
-    returns
-    returns-2)
+    (tie.spec fits-requires add-start mul-start add-start-2 start-requires same-length returns returns-2)

@@ -62,14 +62,5 @@ returns-2 c =
 pub after-header-spec : {M : Type 1} → statement M
 after-header-spec =
     tie.close
-    (tie.spec
-    make-requires
-    enum-told
-    started-requires
-    enum-told-2
-    refusal-requires
-    stopped-requires
-    same-length
-    returns
-    same-length-2
-    returns-2)
+    (tie.spec make-requires enum-told started-requires enum-told-2 refusal-requires stopped-requires same-length returns
+    same-length-2 returns-2)

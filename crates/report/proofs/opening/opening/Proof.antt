@@ -97,19 +97,6 @@ returns-3 c =
 pub opening-spec : {M : Type 1} → statement M
 opening-spec =
     tie.close
-    (tie.spec
-    has-room-requires
-    stopped-requires
-    returns
-    header-requires
-    stopped-requires-2
-    same-length
-    returns-2
-    shared-slice-read-after-header
-    cast-after-header
-    shared-slice-read-after-header-2
-    cast-after-header-2
-    after-header-requires
-    same-length-2
-    same-length-3
-    returns-3)
+    (tie.spec has-room-requires stopped-requires returns header-requires stopped-requires-2 same-length returns-2
+    shared-slice-read-after-header cast-after-header shared-slice-read-after-header-2 cast-after-header-2
+    after-header-requires same-length-2 same-length-3 returns-3)

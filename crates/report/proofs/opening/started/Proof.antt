@@ -62,13 +62,5 @@ returns c =
 pub started-spec : {M : Type 1} → statement M
 started-spec =
     tie.close
-    (tie.spec
-    add-words
-    mul-words
-    add-words-2
-    sub-start-decoder
-    part-start-decoder-start
-    part-start-decoder-end
-    start-decoder-requires
-    same-length
-    returns)
+    (tie.spec add-words mul-words add-words-2 sub-start-decoder part-start-decoder-start part-start-decoder-end
+    start-decoder-requires same-length returns)

@@ -55,15 +55,5 @@ returns-3 c =
 pub answer-line-spec : {M : Type 1} → statement M
 answer-line-spec =
     tie.close
-    (tie.spec
-    enum-known-answer
-    line-requires
-    add-t11
-    enum-told
-    enum-known-answer-2
-    refusal-requires
-    same-length
-    returns
-    returns-2
-    same-length-2
-    returns-3)
+    (tie.spec enum-known-answer line-requires add-t11 enum-told enum-known-answer-2 refusal-requires same-length returns
+    returns-2 same-length-2 returns-3)

@@ -40,12 +40,5 @@ returns c = search needs
 pub block-spec : {M : Type 1} → statement M
 block-spec =
     tie.close
-    (tie.spec
-    shared-slice-read-result
-    cast-result
-    add-result
-    shared-slice-read-result-2
-    cast-result-2
-    mul-result
-    add-result-2
-    returns)
+    (tie.spec shared-slice-read-result cast-result add-result shared-slice-read-result-2 cast-result-2 mul-result
+    add-result-2 returns)

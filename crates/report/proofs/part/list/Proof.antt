@@ -154,24 +154,6 @@ returns-3 c =
 pub list-spec : {M : Type 1} → statement M
 list-spec =
     tie.close
-    (tie.spec
-    Inv-loop
-    μ-loop
-    loop-holds
-    mul-block
-    block-requires
-    decode-requires
-    answer-line-requires
-    same-length
-    same-length-2
-    returns
-    add-i
-    loop-less
-    loop-again
-    odd-byte-requires
-    same-length-3
-    same-length-4
-    returns-2
-    same-length-5
-    same-length-6
-    returns-3)
+    (tie.spec Inv-loop μ-loop loop-holds mul-block block-requires decode-requires answer-line-requires same-length
+    same-length-2 returns add-i loop-less loop-again odd-byte-requires same-length-3 same-length-4 returns-2
+    same-length-5 same-length-6 returns-3)

@@ -124,13 +124,5 @@ returns c =
 pub fields-spec : {M : Type 1} → statement M
 fields-spec =
     tie.close
-    (tie.spec
-    field-requires
-    cast-field
-    field-requires-2
-    word-requires
-    error-of-requires
-    cast-field-2
-    field-requires-3
-    same-length
-    returns)
+    (tie.spec field-requires cast-field field-requires-2 word-requires error-of-requires cast-field-2 field-requires-3
+    same-length returns)

@@ -41,10 +41,4 @@ returns-2 c =
 pub fixed-spec : {M : Type 1} → statement M
 fixed-spec =
     tie.close
-    (tie.spec
-    has-room-requires
-    put-bytes-requires
-    same-length
-    returns
-    same-length-2
-    returns-2)
+    (tie.spec has-room-requires put-bytes-requires same-length returns same-length-2 returns-2)

@@ -65,12 +65,5 @@ returns-2 c =
 pub refusal-spec : {M : Type 1} → statement M
 refusal-spec =
     tie.close
-    (tie.spec
-    has-room-requires
-    slice-aggregate-put-bytes
-    put-bytes-requires
-    field-requires
-    same-length
-    returns
-    same-length-2
-    returns-2)
+    (tie.spec has-room-requires slice-aggregate-put-bytes put-bytes-requires field-requires same-length returns
+    same-length-2 returns-2)

@@ -69,24 +69,7 @@ returns-4 c =
 pub word-spec : {M : Type 1} → statement M
 word-spec =
     tie.close
-    (tie.spec
-    enum-told
-    slice-aggregate-put-bytes
-    put-bytes-requires
-    enum-told-2
-    slice-aggregate-put-bytes-2
-    put-bytes-requires-2
-    enum-told-3
-    slice-aggregate-put-bytes-3
-    put-bytes-requires-3
-    enum-told-4
-    slice-aggregate-put-bytes-4
-    put-bytes-requires-4
-    same-length
-    returns
-    same-length-2
-    returns-2
-    same-length-3
-    returns-3
-    same-length-4
-    returns-4)
+    (tie.spec enum-told slice-aggregate-put-bytes put-bytes-requires enum-told-2 slice-aggregate-put-bytes-2
+    put-bytes-requires-2 enum-told-3 slice-aggregate-put-bytes-3 put-bytes-requires-3 enum-told-4
+    slice-aggregate-put-bytes-4 put-bytes-requires-4 same-length returns same-length-2 returns-2 same-length-3 returns-3
+    same-length-4 returns-4)

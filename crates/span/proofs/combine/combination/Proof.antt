@@ -76,15 +76,5 @@ returns c =
 pub combination-spec : {M : Type 1} → statement M
 combination-spec =
     tie.close
-    (tie.spec
-    Inv-loop
-    μ-loop
-    min-requires
-    loop-holds
-    mul-select
-    shared-slice-read-select
-    select-requires
-    add-i
-    loop-less
-    loop-again
-    returns)
+    (tie.spec Inv-loop μ-loop min-requires loop-holds mul-select shared-slice-read-select select-requires add-i
+    loop-less loop-again returns)

@@ -179,24 +179,6 @@ returns-2 c =
 pub eliminate-spec : {M : Type 1} → statement M
 eliminate-spec =
     tie.close
-    (tie.spec
-    Inv-loop
-    μ-loop
-    loop-holds
-    mul-reduce-by
-    shared-slice-read-reduce-by
-    reduce-by-requires
-    one-at-requires
-    returns
-    mul-b
-    element-write-b
-    check-word-requires
-    mul-b-2
-    element-write-b-2
-    mul-b-3
-    element-write-b-3
-    add-b
-    add-i
-    loop-less
-    loop-again
-    returns-2)
+    (tie.spec Inv-loop μ-loop loop-holds mul-reduce-by shared-slice-read-reduce-by reduce-by-requires one-at-requires
+    returns mul-b element-write-b check-word-requires mul-b-2 element-write-b-2 mul-b-3 element-write-b-3 add-b add-i
+    loop-less loop-again returns-2)

@@ -99,21 +99,6 @@ returns c =
 pub reduce-by-spec : {M : Type 1} → statement M
 reduce-by-spec =
     tie.close
-    (tie.spec
-    Inv-loop
-    μ-loop
-    min-requires
-    loop-holds
-    mul-common-parity
-    element-copy-out-common-parity
-    common-parity-requires
-    mul-select
-    element-copy-out-select
-    select-requires
-    mul-select-2
-    element-copy-out-select-2
-    select-requires-2
-    add-i
-    loop-less
-    loop-again
-    returns)
+    (tie.spec Inv-loop μ-loop min-requires loop-holds mul-common-parity element-copy-out-common-parity
+    common-parity-requires mul-select element-copy-out-select select-requires mul-select-2 element-copy-out-select-2
+    select-requires-2 add-i loop-less loop-again returns)

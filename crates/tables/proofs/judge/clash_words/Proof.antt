@@ -139,18 +139,5 @@ returns c =
 pub clash-words-spec : {M : Type 1} → statement M
 clash-words-spec =
     tie.close
-    (tie.spec
-    Inv-loop
-    μ-loop
-    loop-holds
-    code-row-requires
-    shift-requires
-    mul-words
-    array-write-words
-    add-words
-    mul-words-2
-    array-write-words-2
-    add-i
-    loop-less
-    loop-again
-    returns)
+    (tie.spec Inv-loop μ-loop loop-holds code-row-requires shift-requires mul-words array-write-words add-words
+    mul-words-2 array-write-words-2 add-i loop-less loop-again returns)

@@ -109,20 +109,6 @@ returns-2 c =
 pub search-spec : {M : Type 1} → statement M
 search-spec =
     tie.close
-    (tie.spec
-    Inv-loop
-    μ-loop
-    loop-holds
-    clash-words-requires
-    slice-aggregate-least-relation
-    add-least-relation
-    least-relation-requires
-    enum-known-found
-    shr-t15
-    mask-requires
-    returns
-    enum-told
-    add-l
-    loop-less
-    loop-again
+    (tie.spec Inv-loop μ-loop loop-holds clash-words-requires slice-aggregate-least-relation add-least-relation
+    least-relation-requires enum-known-found shr-t15 mask-requires returns enum-told add-l loop-less loop-again
     returns-2)

@@ -138,22 +138,5 @@ returns c =
 pub made-row-spec : {M : Type 1} → statement M
 made-row-spec =
     tie.close
-    (tie.spec
-    Inv-loop
-    μ-loop
-    sub-shift
-    shift-requires
-    loop-holds
-    add-shift
-    shift-requires-2
-    sub-select
-    mul-select
-    array-read-select
-    sub-select-2
-    shr-select
-    select-requires
-    add-row
-    add-i
-    loop-less
-    loop-again
-    returns)
+    (tie.spec Inv-loop μ-loop sub-shift shift-requires loop-holds add-shift shift-requires-2 sub-select mul-select
+    array-read-select sub-select-2 shr-select select-requires add-row add-i loop-less loop-again returns)

@@ -78,16 +78,5 @@ returns c =
 pub made-rows-spec : {M : Type 1} → statement M
 made-rows-spec =
     tie.close
-    (tie.spec
-    Inv-loop
-    μ-loop
-    loop-holds
-    sub-loop
-    add-made-row
-    made-row-requires
-    mul-rows
-    array-write-rows
-    add-i
-    loop-less
-    loop-again
-    returns)
+    (tie.spec Inv-loop μ-loop loop-holds sub-loop add-made-row made-row-requires mul-rows array-write-rows add-i
+    loop-less loop-again returns)

@@ -88,15 +88,5 @@ returns-2 c =
 pub after-spec : {M : Type 1} → statement M
 after-spec =
     tie.close
-    (tie.spec
-    byte-requires
-    byte-requires-2
-    byte-requires-3
-    byte-requires-4
-    sub-i
-    row-word-requires
-    mul-t
-    element-write-t
-    array-write-given
-    returns
-    returns-2)
+    (tie.spec byte-requires byte-requires-2 byte-requires-3 byte-requires-4 sub-i row-word-requires mul-t
+    element-write-t array-write-given returns returns-2)

@@ -54,14 +54,4 @@ returns c =
 pub end-fault-spec : {M : Type 1} → statement M
 end-fault-spec =
     tie.close
-    (tie.spec
-    Inv-loop
-    μ-loop
-    sub-count
-    loop-holds
-    array-read-all
-    add-i
-    loop-less
-    loop-again
-    first-requires
-    returns)
+    (tie.spec Inv-loop μ-loop sub-count loop-holds array-read-all add-i loop-less loop-again first-requires returns)

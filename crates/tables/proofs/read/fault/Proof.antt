@@ -97,18 +97,5 @@ returns-4 c =
 pub fault-spec : {M : Type 1} → statement M
 fault-spec =
     tie.close
-    (tie.spec
-    byte-requires
-    sub-left
-    header-fault-requires
-    returns
-    end-fault-requires
-    byte-requires-2
-    byte-requires-3
-    byte-requires-4
-    sizes-fit-requires
-    first-requires
-    row-fault-requires
-    returns-2
-    returns-3
-    returns-4)
+    (tie.spec byte-requires sub-left header-fault-requires returns end-fault-requires byte-requires-2 byte-requires-3
+    byte-requires-4 sizes-fit-requires first-requires row-fault-requires returns-2 returns-3 returns-4)

@@ -168,21 +168,5 @@ returns-2 c =
 pub read-spec : {M : Type 1} → statement M
 read-spec =
     tie.close
-    (tie.spec
-    Inv-loop
-    μ-loop
-    zero-table-requires
-    fault-requires
-    loop-holds
-    byte-requires
-    after-requires
-    byte-requires-2
-    size-requires
-    add-at
-    fault-requires-2
-    loop-less
-    loop-again
-    refusal-requires
-    returns
-    judged-requires
-    returns-2)
+    (tie.spec Inv-loop μ-loop zero-table-requires fault-requires loop-holds byte-requires after-requires byte-requires-2
+    size-requires add-at fault-requires-2 loop-less loop-again refusal-requires returns judged-requires returns-2)

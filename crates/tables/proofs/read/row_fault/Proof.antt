@@ -86,12 +86,4 @@ returns-2 c =
 pub row-fault-spec : {M : Type 1} → statement M
 row-fault-spec =
     tie.close
-    (tie.spec
-    byte-requires
-    sub-first
-    array-read-first
-    mask-requires
-    row-word-requires
-    first-requires
-    returns
-    returns-2)
+    (tie.spec byte-requires sub-first array-read-first mask-requires row-word-requires first-requires returns returns-2)

@@ -86,14 +86,4 @@ returns c =
 pub row-word-spec : {M : Type 1} → statement M
 row-word-spec =
     tie.close
-    (tie.spec
-    Inv-loop
-    μ-loop
-    loop-holds
-    sub-k
-    mul-word
-    byte-requires
-    add-word
-    loop-less
-    loop-again
-    returns)
+    (tie.spec Inv-loop μ-loop loop-holds sub-k mul-word byte-requires add-word loop-less loop-again returns)

@@ -124,18 +124,5 @@ returns-2 c =
 pub is-fit-spec : {M : Type 1} → statement M
 is-fit-spec =
     tie.close
-    (tie.spec
-    Inv-loop
-    μ-loop
-    sizes-fit-requires
-    returns
-    mask-requires
-    sub-min
-    min-requires
-    loop-holds
-    mul-fit
-    shared-slice-read-fit
-    add-i
-    loop-less
-    loop-again
-    returns-2)
+    (tie.spec Inv-loop μ-loop sizes-fit-requires returns mask-requires sub-min min-requires loop-holds mul-fit
+    shared-slice-read-fit add-i loop-less loop-again returns-2)
