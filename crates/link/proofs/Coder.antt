@@ -31,7 +31,7 @@ use Rattle.link.specs.Memory.{joining, nextTurn, coderWords, turnOf, pen
 use Rattle.link.specs.Refusals.{coderMalformed, coderFault}
 use Rattle.span.proofs.Masks.{topped-lt}
 use Rattle.link.proofs.Malformed.{fine-coder}
-use Rattle.link.proofs.Refusals.{step-fault, step-passed, refuses, takes, call-numbers, zero-refused, lent-taken}
+use Rattle.link.proofs.Refusals.{step-fault, step-passed, refuses, takes, call-numbers, zero-refused, LentTaken, lent-taken}
 
 -- ---- refusals
 
@@ -65,7 +65,7 @@ codes-so t s b r after p q = record {
 }
 
 pub code-lent-taken : (t : Table) (rows s : List ℕ) (b : ℕ) → coderFault (lent t rows) s b ≡ 0
-    → (lent t rows ≡ withRows t rows) × (length rows ≡ 15)
+    → LentTaken (λ u. coderFault u s b) t rows
 unfolding coderFault
 code-lent-taken t rows s b = lent-taken (λ (u : Table). coderFault u s b) (zero-refused _ _ _ s b) t rows
 

@@ -35,7 +35,7 @@ use Rattle.link.specs.Decoder.{decoderJoining, decoderRegister, decoderF
 use Rattle.link.specs.Decoder.{decoderNext, delivered, delivery}
 use Rattle.link.proofs.Malformed.{Fine, fine-decoder}
 use Rattle.link.proofs.Refusals.{picked, passed, step-fault, step-passed, refuses, takes, call-numbers}
-use Rattle.link.proofs.Refusals.{zero-refused, lent-taken}
+use Rattle.link.proofs.Refusals.{zero-refused, LentTaken, lent-taken}
 
 abbrev pub streamIn : ℕ → ℕ → ℕ
 streamIn N k = 2 + k * (N + 1)
@@ -245,7 +245,7 @@ decodes-so t s b r after p q = record {
 }
 
 pub decode-lent-taken : (t : Table) (rows s : List ℕ) (r : ℕ) → decoderFault (lent t rows) s r ≡ 0
-    → (lent t rows ≡ withRows t rows) × (length rows ≡ 15)
+    → LentTaken (λ u. decoderFault u s r) t rows
 unfolding decoderFault
 decode-lent-taken t rows s r = lent-taken (λ (u : Table). decoderFault u s r) (zero-refused _ _ _ s r) t rows
 

@@ -7,7 +7,7 @@
 --   Passed, step-passed      what no refusal says
 --   refuses, takes           answer and memory of a call that is refused, and of one that is not
 --   call-numbers, refused-numbers, taken-numbers   the numbers of both
---   lent-taken               where no refusal applies, the lent rows are fifteen
+--   LentTaken, lent-taken    where no refusal applies, the lent rows are fifteen, and the table is that of them
 --   number-12 to number-15   the number that the tests come to
 use mathlib.Core.Path.{_≡_, refl, sym, ap, _∙_}
 use mathlib.Core.Bool.{Bool, true, false, cond, not, _||_}
@@ -134,9 +134,16 @@ pub zero-refused : (words : ℕ) (malformed : Bool) (bound : ℕ) (s : List ℕ)
 zero-refused words malformed bound s b = step-fault zeroTable words malformed bound s b ∙ simp zero-unfit
 
 -- a fault that the zero table has, as it has 12: with lent rows it is 0 only if they are fifteen
+pub record LentTaken (fault : Table → ℕ) (t : Table) (rows : List ℕ) : Type 0 where
+  pub whole : lent t rows ≡ withRows t rows
+  pub fifteen : length rows ≡ 15
+  pub none : fault (withRows t rows) ≡ 0
+
 pub lent-taken : (fault : Table → ℕ) → fault zeroTable ≡ 12 → (t : Table) (rows : List ℕ) → fault (lent t rows) ≡ 0
-    → (lent t rows ≡ withRows t rows) × (length rows ≡ 15)
-lent-taken fault e t rows = lent-held t rows (λ (u : Table). fault u ≡ 0) (λ z. omega arith)
+    → LentTaken fault t rows
+lent-taken fault e t rows z =
+    let k = lent-held t rows (λ (u : Table). fault u ≡ 0) (λ z. omega arith) z in
+    record { whole = k .0; fifteen = k .1; none = ap fault (sym (k .0)) ∙ z }
 
 -- the number that the tests of a step come to, with lent rows: each test once those before it are settled
 module _ (words bound : Table → ℕ) (malformed : Table → List ℕ → Bool) (t : Table) (rows s : List ℕ) (b : ℕ) where

@@ -58,8 +58,8 @@ takenOf t r (DecodeRefused k) = []
 
 -- "Each step gets the memory as the last left it, nothing else writes it". "A refused step may stand anywhere in either
 -- list, whatever it is refused for. It has no place in the count."
-unfoldable pub run : {X : Type 0} (memory : Table → List ℕ → ℕ → List ℕ) (kept : Table → List ℕ → ℕ → List X) → List ℕ
-    → List Call → List X
+unfoldable pub run : {X : Type 0} (memory : Table → List ℕ → ℕ → List ℕ) (kept : Table → List ℕ → ℕ → List X)
+    → List ℕ → List Call → List X
 run memory kept s [] = []
 run memory kept s (c ∷ cs) = kept (c .table) s (c .block) ++ run memory kept (memory (c .table) s (c .block)) cs
 
@@ -80,7 +80,8 @@ coderAfter = ran codeMemory
 abbrev pub decoderAfter : List ℕ → List Call → List ℕ
 decoderAfter = ran decodeMemory
 
-abbrev pub placed : {X : Type 0} → (Table → List ℕ → ℕ → ℕ) → (Table → List ℕ → ℕ → X) → Table → List ℕ → ℕ → List X
+abbrev pub placed : {X : Type 0} → (Table → List ℕ → ℕ → ℕ) → (Table → List ℕ → ℕ → X)
+    → Table → List ℕ → ℕ → List X
 placed fault entry t s b = cond (eqb (fault t s b) 0) (entry t s b ∷ []) []
 
 -- past the end of a list

@@ -7,7 +7,7 @@ ghost use lib.ListN.{length, replicate};
 ghost use Rattle.tables.specs.declared.table.Table.{Table};
 ghost use Rattle.tables.specs.Table.{fit};
 ghost use Rattle.link.specs.Memory.{coderWords, decoderWords};
-ghost use Rattle.link.specs.Start.{startAnswer, startMemory, Starts};
+ghost use Rattle.link.specs.Start.{Starts};
 
 pub enum StartAnswer {
     Started,
@@ -33,9 +33,8 @@ fn fits(t: Table) -> bool
 
 // The length is looked at once the table is known to be fit, which is why the answer is that of any fit table.
 fn start(state: &mut [u64], words: usize) -> StartAnswer
-    ensures answer { λ r. ⌜ ((t : Table) → fit t ≡ true → r ≡ startAnswer t words (now (state .entry))) ⌝ }
-    ensures memory { λ r.
-        ⌜ ((t : Table) → fit t ≡ true → now (state .exit) ≡ startMemory t words (now (state .entry))) ⌝ }
+    ensures { λ r.
+        ⌜ ((t : Table) → fit t ≡ true → Starts t words (now (state .entry)) r (now (state .exit))) ⌝ }
 {
     if state.len() != words {
         return StartAnswer::Refused(13);

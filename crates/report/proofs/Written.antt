@@ -75,8 +75,8 @@ written-append out at a b h =
     ∙ append-assoc (take at out) a (b ++ drop (at + length (a ++ b)) out)
     ∙ ap (λ (l : List ℕ). take at out ++ l) (sym (append-assoc a b (drop (at + length (a ++ b)) out)))
 
-pub wrote-then : {out r₁ r₂ : List ℕ} {at e₁ e₂ : ℕ} (a b : List ℕ) → Wrote out at a r₁ e₁ → Wrote r₁ e₁ b r₂ e₂
-    → at + length a ≤ length out
+pub wrote-then : {out r₁ r₂ : List ℕ} {at e₁ e₂ : ℕ} (a b : List ℕ)
+    → Wrote out at a r₁ e₁ → Wrote r₁ e₁ b r₂ e₂ → at + length a ≤ length out
     → Wrote out at (a ++ b) r₂ e₂
 wrote-then {out} {r₁} {r₂} {at} {e₁} {e₂} a b p q h = record {
   bytes =

@@ -184,8 +184,8 @@ linear-step f g fx gx k c h top rest (yes l) =
 linear-step f g fx gx k c h top rest (no l) = rest c (omega arith)
 
 -- linear maps that agree at single ones agree
-pub linear-same : (f g : ℕ → ℕ) → Linear f → Linear g → (k : ℕ) → ((i : ℕ) → i < k → f (2 ^ i) ≡ g (2 ^ i)) → (c : ℕ)
-    → c < 2 ^ k → f c ≡ g c
+pub linear-same : (f g : ℕ → ℕ) → Linear f → Linear g → (k : ℕ) → ((i : ℕ) → i < k → f (2 ^ i) ≡ g (2 ^ i))
+    → (c : ℕ) → c < 2 ^ k → f c ≡ g c
 linear-same f g fx gx zero same c h =
     let none : c ≡ 0 = omega arith in ap f none ∙ linear-zero f fx ∙ sym (linear-zero g gx) ∙ ap g (sym none)
 linear-same f g fx gx (suc k) same c h =

@@ -1,12 +1,12 @@
 -- 01, "Table bytes" and refusals 1 to 9: what bytes say, record by record. A record is told by the list of bytes that
 -- it begins; the bytes after it are the rest of that list.
 --
---   kind s, size k        the kind of the record that begins s; the length of a record of kind k, its kind byte
---                         included
+--   kind s, size k         the kind of the record that begins s; the length of a record of kind k, its kind byte
+--                          included
 --   word s k c             the number of c bytes of s from place k on, low byte first
 --   rowWord s              the row of a row record
 --   progress, begun        the table so far and the rows given; before the first record
---   allGiven, unavailable        whether all rows were given, and whether a row number is none or was given
+--   allGiven, unavailable  whether all rows were given, and whether a row number is none or was given
 --   ended, unknown, cut, misplaced, sizesOut, misnumbered, tooLong, missing, followed   the tests of 1 to 9
 --   fault g s              the first of 1 to 9 that applies, or 0
 --   place k p              the place of refusal k at a record that begins at p

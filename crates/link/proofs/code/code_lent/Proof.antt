@@ -2,12 +2,12 @@
 use mathlib.Core.Path.{_≡_, sym, ap, _∙_}
 use native.Mathlib.Omega.{arith}
 use borrow.Author.Needs.{needs}
-use lib.ListN.{length}
 use Rattle.tables.specs.declared.table.Table.{Table}
 use Rattle.tables.specs.Lent.{withRows, lent}
 use Rattle.link.specs.Refusals.{coderFault}
 use Rattle.link.specs.Coder.{codeAnswer, codeMemory}
 use Rattle.link.specs.declared.code.CodeAnswer.the-variants.{Coded, Refused}
+use Rattle.link.proofs.Refusals.{LentTaken}
 use Rattle.link.proofs.Coder.{code-refuses, codes, codes-so, code-lent-taken}
 use Rattle.link.proofs.Coder.{coded-fits}
 use Rattle.link.proofs.code.code_lent.Statement.{statement}
@@ -16,13 +16,10 @@ use Rattle.link.proofs.code.code_lent.Tie as tie
 -- no refusal applies: the table is that of the fifteen rows
 taken-whole : (c : tie.Else1)
     → let a = c .before .before .before .before .before .args in
-    (lent (a .t) (a .rows .now) ≡ withRows (a .t) (a .rows .now)) × (length (a .rows .now) ≡ 15)
-    × (coderFault (withRows (a .t) (a .rows .now)) (a .state .now) (a .info) ≡ 0)
+    LentTaken (λ u. coderFault u (a .state .now) (a .info)) (a .t) (a .rows .now)
 taken-whole c =
     let a = c .before .before .before .before .before .args in
-    let z = sym (c .before .fault .ensures) ∙ c .if1 .left in
-    let k = code-lent-taken (a .t) (a .rows .now) (a .state .now) (a .info) z in
-    (k .0, k .1, ap (λ (u : Table). coderFault u (a .state .now) (a .info)) (sym (k .0)) ∙ z)
+    code-lent-taken (a .t) (a .rows .now) (a .state .now) (a .info) (sym (c .before .fault .ensures) ∙ c .if1 .left)
 
 fault-requires : tie.Need-fault-requires
 fault-requires c κs = search needs
@@ -39,7 +36,7 @@ returns c =
     codes-so u (a .state .now) (a .info) (Refused (c .before .fault .result)) (a .state .now) (e .0) (e .1)
 
 taken-requires : tie.Need-taken-requires
-taken-requires c κs = taken-whole (c .before) .2
+taken-requires c κs = taken-whole (c .before) .none
 
 cast-t13 : tie.Need-cast-t13
 cast-t13 c =
@@ -47,7 +44,7 @@ cast-t13 c =
     let k = taken-whole (c .before .before .before .before) in
     record {
       fits = rw (c .before .before .taken .ensures .0)
-          (coded-fits (withRows (a .t) (a .rows .now)) (a .state .now) (a .info) (k .2));
+          (coded-fits (withRows (a .t) (a .rows .now)) (a .state .now) (a .info) (k .none));
     }
 
 same-length-2 : tie.Need-same-length-2
@@ -58,11 +55,11 @@ returns-2 c =
     let a = c .before .before .before .before .before .before .before .before .before .args in
     let s = a .state .now in
     let k = taken-whole (c .before .before .before .before) in
-    let e = codes (withRows (a .t) (a .rows .now)) s (a .info) (k .2) in
+    let e = codes (withRows (a .t) (a .rows .now)) s (a .info) (k .none) in
     codes-so (lent (a .t) (a .rows .now)) s (a .info) (Coded (c .before .before .taken .result))
     (c .before .before .taken .last .1 .1 .0)
-    (ap Coded (c .before .before .taken .ensures .0) ∙ e .0 ∙ ap (λ (u : Table). codeAnswer u s (a .info)) (sym (k .0)))
-    (c .before .before .taken .ensures .1 ∙ e .1 ∙ ap (λ (u : Table). codeMemory u s (a .info)) (sym (k .0)))
+    (ap Coded (c .before .before .taken .ensures .0) ∙ e .0 ∙ ap (λ (u : Table). codeAnswer u s (a .info)) (sym (k .whole)))
+    (c .before .before .taken .ensures .1 ∙ e .1 ∙ ap (λ (u : Table). codeMemory u s (a .info)) (sym (k .whole)))
 
 pub code-lent-spec : {M : Type 1} → statement M
 code-lent-spec =

@@ -10,7 +10,7 @@ use Rattle.tables.specs.Table.{fit}
 use Rattle.link.specs.Refusals.{startFault}
 use Rattle.link.specs.Memory.{started}
 use Rattle.link.proofs.Refusals.{start-fault}
-use Rattle.link.proofs.Starting.{start-refuses, starts}
+use Rattle.link.proofs.Starting.{refused-so, started-so}
 use Rattle.link.proofs.start.start.Statement.{statement}
 use Rattle.link.proofs.start.start.Tie as tie
 
@@ -19,10 +19,8 @@ returns c =
     let a = c .before .before .args in
     let s = a .state .now in
     let e : (t : Table) → fit t ≡ true → startFault t (a .words) s ≡ 13 =
-    (λ t f. start-fault t (a .words) s ∙ simp (f, ne-eqb (length s) (a .words) (c .if1 .taken))) in (
-      λ t f. start-refuses t (a .words) s 13 (e t f) (omega arith) .0,
-      λ t f. start-refuses t (a .words) s 13 (e t f) (omega arith) .1,
-    )
+    (λ t f. start-fault t (a .words) s ∙ simp (f, ne-eqb (length s) (a .words) (c .if1 .taken))) in
+    λ t f. refused-so t (a .words) s 13 (e t f) (omega arith)
 
 clear-requires : tie.Need-clear-requires
 clear-requires c κs = search needs
@@ -36,10 +34,9 @@ returns-2 c =
     let s = a .state .now in
     let same : length s ≡ a .words = c .before .before .before .before .if1 .left in
     let e : (t : Table) → fit t ≡ true → startFault t (a .words) s ≡ 0 =
-    (λ t f. start-fault t (a .words) s ∙ simp (f, eq-eqb (length s) (a .words) same)) in (
-      λ t f. starts t (a .words) s (e t f) .0,
-      λ t f. c .before .before .clear .ensures ∙ ap started same ∙ starts t (a .words) s (e t f) .1,
-    )
+    (λ t f. start-fault t (a .words) s ∙ simp (f, eq-eqb (length s) (a .words) same)) in
+    λ t f. started-so t (a .words) s (c .before .before .clear .last .0) (e t f)
+    (c .before .before .clear .ensures ∙ ap started same)
 
 pub start-spec : {M : Type 1} → statement M
 start-spec = tie.close (tie.spec returns clear-requires same-length returns-2)
