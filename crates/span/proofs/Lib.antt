@@ -7,3 +7,4 @@ mod Elimination
 pub mod Basis
 pub mod Dimension
 pub mod Linear
+pub mod Lookups

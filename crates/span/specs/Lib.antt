@@ -5,3 +5,4 @@ pub mod Relation
 pub mod Basis
 pub mod Elimination
 pub mod Laws
+pub mod Lookup

@@ -3,3 +3,4 @@ pub mod bits;
 pub mod bound;
 pub mod combine;
 pub mod eliminate;
+pub mod lookup;
