@@ -8,3 +8,4 @@ pub mod Basis
 pub mod Dimension
 pub mod Linear
 pub mod Lookups
+pub mod Duals

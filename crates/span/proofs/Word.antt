@@ -399,6 +399,10 @@ parity-ones (suc k) a b h =
     (parity-ones k (a / 2) (b / 2) (omega arith) ∙ ap (λ (x : ℕ). odd (ones x)) (sym (and-shr a b 1)))
     ∙ sym (odd-ones (bitAnd a b))
 
+-- and is it, modulo 2
+pub ones-parity : (k a b : ℕ) → a < 2 ^ k → ones (bitAnd a b) % 2 ≡ digit (commonParity k a b)
+ones-parity k a b h = odd-mod (ones (bitAnd a b)) ∙ ap digit (sym (parity-ones k a b h))
+
 -- ---- order
 
 -- of two words that differ first, seen from above, at place p, the one without that bit is less

@@ -1,6 +1,6 @@
 -- How a basis is filled from words: the elimination. Nothing here has to be believed: what a basis of words means is
--- `REDUCES` in `Laws`, which speaks of the search in `Relation`. The file is here because the contract of `basis_of`
--- says the struct's whole value.
+-- `REDUCES` in `Laws`, which speaks of the search in `Relation`. The file is here because the contract of
+-- `dual_basis` says the struct's whole value.
 --
 --   pivot v           the place of the one of a word that is nearest an end
 --   emptyBasis        the basis of no words

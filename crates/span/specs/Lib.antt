@@ -6,3 +6,4 @@ pub mod Basis
 pub mod Elimination
 pub mod Laws
 pub mod Lookup
+pub mod Dual

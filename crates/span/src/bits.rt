@@ -4,16 +4,21 @@ ghost use mathlib.Core.Path.{_≡_};
 ghost use Prim.Native.Nat.{_-_, _^_, min};
 ghost use Rattle.span.specs.Word.{sel, digit, odd, commonParity, shifted};
 
-// 1 where the count of common ones is odd, else 0. Where there are none, as in most steps of an elimination, nothing is
-// counted.
+// 1 where the count of common ones is odd, else 0: no branch.
+pub(crate) fn parity(a: u64, b: u64) -> u64
+    ensures { λ r. ⌜ r ≡ digit (commonParity 64 a b) ⌝ }
+{
+    (u64::count_ones(a & b) % 2) as u64
+}
+
+// The same where most words have no common ones, as in the steps of an elimination: there nothing is counted.
 pub(crate) fn common_parity(a: u64, b: u64) -> u64
     ensures { λ r. ⌜ r ≡ digit (commonParity 64 a b) ⌝ }
 {
-    let common = a & b;
-    if common == 0 {
+    if a & b == 0 {
         return 0;
     }
-    (u64::count_ones(common) % 2) as u64
+    parity(a, b)
 }
 
 // The word where `on` is odd, else 0: no branch, since the bits that select are random.

@@ -39,7 +39,7 @@ struct Eliminated {
 
 // A word reduced by the triples in their order, the arrays lent: no copy of a basis is made in a loop. Any arrays and
 // any size have an answer: a size above 32 counts as 32.
-pub fn reduce_by<'a>(
+pub(crate) fn reduce_by<'a>(
     size: usize,
     vectors: &'a [u64; 32],
     checks: &'a [u64; 32],
@@ -134,7 +134,7 @@ fn eliminate(words: &[u64], end: usize, f: usize) -> Eliminated
 
 // The basis of the first `count` words. A count past the slice's end is its length, and words past the 32nd do not
 // count.
-pub fn basis_of(words: &[u64], count: usize) -> Basis
+pub(crate) fn basis_of(words: &[u64], count: usize) -> Basis
     ensures { λ r. ⌜ r ≡ basisOf (counted count (now (words .entry))) ⌝ }
 {
     let end = min(min(count, words.len()), 32);

@@ -2,5 +2,6 @@
 pub mod bits;
 pub mod bound;
 pub mod combine;
+pub mod dual;
 pub mod eliminate;
 pub mod lookup;
