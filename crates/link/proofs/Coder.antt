@@ -8,17 +8,19 @@
 --   CoderStep, coder-step     what the step does
 --   coded-below, coded-fits   a coded block is below 2^n, and has 16 bits at most
 --   coder-length              the length stays
-use mathlib.Core.Path.{_≡_, refl, ap, _∙_, subst}
-use mathlib.Core.Bool.{cond, not}
+use mathlib.Core.Path.{_≡_, refl, sym, ap, ap₂, _∙_, subst}
+use mathlib.Core.Bool.{Bool, true, false, cond, not}
 use mathlib.Core.Logic.{_≢_}
 use mathlib.Core.List.{List, [], _∷_}
 use Prim.Native.Nat.{ℕ, suc, _+_, _-_, _*_, _/_, _^_, _≤_, _<_}
+use native.Mathlib.Nat.{zero-mul, one-mul, le-refl}
 use native.Mathlib.Omega.{arith}
 use lib.Dec.{leb, eqb}
 use lib.ListN.{length, set, length-set}
 use lib.Seq.{getD-set-same, getD-set-other}
 use lib.Pow.{pow-mono}
-use Rattle.span.specs.Word.{odd, digit}
+use Rattle.span.specs.Word.{_⊕_, odd, sel, digit}
+use Rattle.span.specs.Combination.{combination}
 use Rattle.tables.specs.declared.table.Table.{Table}
 use Rattle.tables.specs.Table.{fit, infoRows}
 use Rattle.tables.specs.Lent.{withRows, lent}
@@ -85,6 +87,30 @@ coder-taken t s b e =
     let p = step-passed t (coderWords t) (coderMalformed t s) (2 ^ (t .symbols - 1)) s b e in
     let g = fine-coder t s (p .formed) in
     record { sizes = p .sizes; size = p .size; turn = g .0; pending = g .1; info = p .block }
+
+-- a step in numbers: with the information's image, and the parity's weight
+pub sel-digit : (s : Bool) (k : ℕ) → sel s k ≡ digit s * k
+sel-digit true k = sym (one-mul k)
+sel-digit false k = sym (zero-mul k)
+
+pub sel-most : (s : Bool) (k : ℕ) → sel s k ≤ k
+sel-most true k = le-refl k
+sel-most false k = omega arith
+
+module _ (t : Table) (s : List ℕ) (b image : ℕ) (e : image ≡ combination (infoRows t) b) where
+  pub block-in-numbers : (weight : ℕ) → weight ≡ 2 ^ (t .symbols - 1)
+      → b + sel (odd (pendingAt s (turnOf s) ⊕ image)) weight ≡ codedBlock t s b
+  unfolding codedBlock coderJoining joining
+  block-in-numbers weight w =
+      ap₂ (λ (i k : ℕ). b + sel (odd (pendingAt s (turnOf s) ⊕ i)) k) e w
+      ∙ ap (λ (x : ℕ). b + x) (sel-digit (odd (pendingAt s (turnOf s) ⊕ combination (infoRows t) b)) _)
+
+  pub memory-in-numbers :
+      set (set s (1 + turnOf s) ((pendingAt s (turnOf s) ⊕ image) / 2)) 0 (nextTurn (t .depth) (turnOf s))
+      ≡ coderNext t s b
+  unfolding coderNext coderJoining joining
+  memory-in-numbers =
+      ap (λ (i : ℕ). set (set s (1 + turnOf s) ((pendingAt s (turnOf s) ⊕ i) / 2)) 0 (nextTurn (t .depth) (turnOf s))) e
 
 pub record CoderStep (n N m : ℕ) (infos : List ℕ) (s : List ℕ) (b c : ℕ) (after : List ℕ) : Type 0 where
   pub fits : Fits n N m infos

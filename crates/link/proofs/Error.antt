@@ -13,7 +13,7 @@ use Prim.Native.Nat.{ℕ, _+_, _-_, _/_, _^_, _≤_, _<_, zero-le}
 use native.Mathlib.Omega.{arith}
 use borrow.Author.Tests.{ne-eqb}
 use lib.ListN.{length, take, length-append}
-use lib.Pow.{pow-pos}
+use lib.Pow.{pow-pos, pow-mono}
 use lib.Seq.{take-all}
 use Rattle.span.specs.declared.eliminate.Least.{Least}
 use Rattle.span.specs.declared.eliminate.Least.the-variants.{Found, Missing}
@@ -71,6 +71,17 @@ module _ (rows : List ℕ) (x e : ℕ) (h : leastCoefficients rows x ≡ Found e
 
   pub found-some : x ≢ 0 → e ≢ 0
   found-some some z = some (sym (is-least .2) ∙ ap (combination rows) z ∙ combination-zero rows)
+
+-- an error block has 16 bits at most
+pub error-lt : (rows : List ℕ) (x : ℕ) → length rows ≤ 16 → errorOf (leastCoefficients rows x) < 2 ^ 16
+error-lt rows x h = go (leastCoefficients rows x) refl
+  where
+    go : (f : Least) → leastCoefficients rows x ≡ f → errorOf f < 2 ^ 16
+    go (Found e) q =
+        let l = found-lt rows x e q in
+        let m = pow-mono h in
+        omega arith
+    go Missing q = omega arith
 
 -- ---- error, word that stays, and mark
 

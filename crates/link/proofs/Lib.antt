@@ -9,8 +9,10 @@ mod Error
 mod Marks
 pub mod Decoder
 mod Room
-mod LentPart
+mod StepWords
+pub mod Entry
 pub mod Calls
+pub mod Batch
 mod Suitable
 mod Origin
 mod Step
@@ -29,6 +31,7 @@ mod Massey
 mod Bursts
 mod Fade
 mod Recovery
+pub mod Batches
 mod Guard
 mod Clean
 mod Computed

@@ -7,12 +7,14 @@ pub mod Step
 pub mod Marks
 pub mod Decoder
 pub mod Calls
+pub mod Batch
 pub mod Streams
 pub mod Rows
 pub mod Runs
 pub mod Formed
 pub mod Massey
 pub mod Recovery
+pub mod Batches
 pub mod Guard
 pub mod Clean
 pub mod Computed

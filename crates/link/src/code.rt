@@ -1,18 +1,20 @@
 // The coder: one step on lent memory.
-use crate::stream::joining;
 use crate::stream::next_turn;
+use crate::stream::one_at;
 use span::bits::mask;
+use span::bits::select;
+use span::combine::combination;
 use tables::table::Table;
 use tables::table::lent_fits;
 ghost use mathlib.Core.Path.{_≡_};
 ghost use mathlib.Core.List.{_∷_};
-ghost use Prim.Native.Nat.{_+_, _/_, _≤_};
-ghost use lib.ListN.{length, getD, set, take};
-ghost use Rattle.span.specs.Word.{odd, digit};
-ghost use Rattle.tables.specs.Lent.{withRows, lent};
-ghost use Rattle.link.specs.Memory.{joining};
+ghost use Prim.Native.Nat.{_+_, _/_, _^_, _≤_, _<_};
+ghost use lib.ListN.{length, getD, set};
+ghost use Rattle.span.specs.Word.{_⊕_, odd, sel};
+ghost use Rattle.tables.specs.Lent.{lent};
+ghost use Rattle.link.specs.Memory.{turnOf, pendingAt, nextTurn};
 ghost use Rattle.link.specs.Refusals.{coderMalformed, coderFault};
-ghost use Rattle.link.specs.Coder.{codedBlock, coderNext, Codes};
+ghost use Rattle.link.specs.Coder.{Codes};
 
 pub enum CodeAnswer {
     // The coded block: information and parity.
@@ -52,34 +54,37 @@ fn fault(t: Table, rows: &[u64], state: &[u64], block: u64) -> u64
     0
 }
 
-// The turn's stream, whose part is its pending word: w halved stays there, and bit 0 of w is the parity.
-fn join(part: &mut [u64], rows: &[u64], count: usize, info: u64) -> u64
+// The turn's stream, whose part is its pending word: w is that word and the image of the information, and w halved
+// stays.
+fn join(part: &mut [u64], image: u64) -> u64
     requires { ⌜ length (now part) ≡ 1 ⌝ }
-    ensures parity { λ r.
-        ⌜ r ≡ digit (odd (joining (take count (now (rows .entry))) (getD (now (part .entry)) 0 0) info)) ⌝ }
+    ensures word { λ r. ⌜ r ≡ getD (now (part .entry)) 0 0 ⊕ image ⌝ }
     ensures part { λ r.
-        ⌜ now (part .exit) ≡ set (now (part .entry)) 0
-        (joining (take count (now (rows .entry))) (getD (now (part .entry)) 0 0) info / 2) ⌝ }
+        ⌜ now (part .exit) ≡ set (now (part .entry)) 0 ((getD (now (part .entry)) 0 0 ⊕ image) / 2) ⌝ }
 {
-    let pending = part[0];
-    let w = joining(rows, count, pending, info);
+    let w = part[0] ^ image;
     part[0] = w >> 1;
-    w % 2
+    w
 }
 
-// A step that no refusal applies to: the turn's stream is lent on, and the turn advances.
-fn taken(t: Table, rows: &[u64], state: &mut [u64], info: u64) -> u64
-    requires { ⌜ coderFault (withRows t (now rows)) (now state) info ≡ 0 ⌝ }
-    ensures block { λ r. ⌜ r ≡ codedBlock (withRows t (now (rows .entry))) (now (state .entry)) info ⌝ }
-    ensures memory { λ r. ⌜ now (state .exit) ≡ coderNext (withRows t (now (rows .entry))) (now (state .entry)) info ⌝ }
+// A step that no refusal applies to, in numbers: the image of the information, and the weight of the parity, which is
+// bit 0 of w. The turn's stream is lent on, and the turn advances.
+pub(crate) fn taken(depth: u64, weight: u64, state: &mut [u64], info: u64, image: u64) -> u64
+    requires { ⌜ (length (now state) ≡ 1 + depth) × (depth ≤ 64) × (turnOf (now state) < depth)
+        × (info < weight) × (weight ≤ 2 ^ 15) ⌝ }
+    ensures block { λ r.
+        ⌜ r ≡ info + sel (odd (pendingAt (now (state .entry)) (turnOf (now (state .entry))) ⊕ image)) weight ⌝ }
+    ensures memory { λ r.
+        ⌜ now (state .exit) ≡ set (set (now (state .entry)) (1 + turnOf (now (state .entry)))
+        ((pendingAt (now (state .entry)) (turnOf (now (state .entry))) ⊕ image) / 2)) 0
+        (nextTurn depth (turnOf (now (state .entry)))) ⌝ }
 {
     let turn = state[0];
     let at = 1 + (turn as usize);
     let end = at + 1;
-    let width = t.symbols - 1;
-    let parity = join(&mut state[at..end], rows, width, info);
-    state[0] = next_turn(t.depth as u64, turn);
-    info + (parity << (width as u64))
+    let w = join(&mut state[at..end], image);
+    state[0] = next_turn(depth, turn);
+    info + select(weight, w)
 }
 
 // A step on a table whose rows are lent beside it, so that a caller need not copy them into one. With another count
@@ -92,7 +97,9 @@ pub fn code_lent(t: Table, rows: &[u64], state: &mut [u64], info: u16) -> CodeAn
     if number != 0 {
         return CodeAnswer::Refused(number);
     }
-    CodeAnswer::Coded(taken(t, rows, state, block) as u16)
+    let width = t.symbols - 1;
+    let image = combination(rows, width, block);
+    CodeAnswer::Coded(taken(t.depth as u64, one_at(width), state, block, image) as u16)
 }
 
 pub fn code(t: Table, state: &mut [u64], info: u16) -> CodeAnswer

@@ -1,24 +1,27 @@
 // The decoder: one step on lent memory, in 01's four lines.
-use crate::stream::joining;
 use crate::stream::next_turn;
+use crate::stream::one_at;
 use span::bits::mask;
+use span::bits::select;
+use span::combine::combination;
 use span::eliminate::Least;
 use span::eliminate::least_relation;
 use tables::table::Table;
 use tables::table::lent_fits;
 ghost use mathlib.Core.Path.{_≡_};
-ghost use mathlib.Core.Bool.{true, cond, _||_};
-ghost use mathlib.Core.List.{List, [], _∷_, _++_};
-ghost use Prim.Native.Nat.{ℕ, _+_, _-_, _^_, _≤_, _<_};
+ghost use mathlib.Core.Bool.{cond, _||_};
+ghost use mathlib.Core.List.{[], _∷_, _++_};
+ghost use Prim.Native.Nat.{_+_, _-_, _/_, _^_, _≤_, _<_};
 ghost use lib.Dec.{leb, ltb};
 ghost use lib.ListN.{length, getD, take, drop};
+ghost use Rattle.span.specs.Word.{_⊕_, odd, sel};
+ghost use Rattle.span.specs.Combination.{combination};
 ghost use Rattle.tables.specs.Lent.{withRows, lent};
-ghost use Rattle.tables.specs.Table.{codeRows, fit};
-ghost use Rattle.link.specs.Step.{information, rawTerm, register, found, errorOf, keptOf, markOf, streamNext};
-ghost use Rattle.link.specs.Step.{streamInfo, streamMark};
-ghost use Rattle.link.specs.Memory.{decoderWords};
+ghost use Rattle.tables.specs.Table.{table, codeRows};
+ghost use Rattle.link.specs.Memory.{turnOf, streamAt, delayedOf, decoderWords};
+ghost use Rattle.link.specs.Step.{information, found, errorOf, keptOf, markOf};
 ghost use Rattle.link.specs.Refusals.{someAbove, decoderMalformed, decoderFault};
-ghost use Rattle.link.specs.Decoder.{decoderNext, delivery, Decodes};
+ghost use Rattle.link.specs.Decoder.{advanced, decoderNext, delivery, Decodes};
 
 pub enum Mark {
     Clean,
@@ -40,11 +43,17 @@ pub enum DecodeAnswer {
     Refused(u64),
 }
 
+// The word w of a step, and the register.
+pub(crate) struct Joined {
+    pub w: u64,
+    pub register: u64,
+}
+
 // What a register says: the error, the syndrome word that stays, and the mark.
-struct Verdict {
-    error: u16,
-    kept: u64,
-    mark: Mark,
+pub(crate) struct Verdict {
+    pub error: u16,
+    pub kept: u64,
+    pub mark: Mark,
 }
 
 // ---- refusals
@@ -77,19 +86,20 @@ fn stream_malformed(state: &[u64], at: usize, n: usize, span: usize) -> bool
     some_above(state, at + 2, span - 1, n - 1)
 }
 
-// The condition of 14: the turn is tested before it is an index.
-fn malformed(t: Table, state: &[u64]) -> bool
-    requires { ⌜ ((rows : List ℕ) × (fit (withRows t rows) ≡ true)) × (length (now state) ≡ decoderWords t) ⌝ }
-    ensures { λ r. ⌜ r ≡ decoderMalformed t (now (state .entry)) ⌝ }
+// The condition of 14, of n, N and m: the turn is tested before it is an index.
+pub(crate) fn malformed(n: usize, span: usize, depth: usize, state: &[u64]) -> bool
+    requires { ⌜ (2 ≤ n) × (n ≤ 16) × (2 ≤ span) × (span ≤ 64) × (1 ≤ depth) × (depth ≤ 64)
+        × (length (now state) ≡ decoderWords (table n span depth [])) ⌝ }
+    ensures { λ r. ⌜ r ≡ decoderMalformed (table n span depth []) (now (state .entry)) ⌝ }
 {
     let turn = state[0];
-    if t.depth as u64 <= turn {
+    if depth as u64 <= turn {
         return true;
     }
-    if ((t.depth * (t.span - 1)) as u64) < state[1] {
+    if ((depth * (span - 1)) as u64) < state[1] {
         return true;
     }
-    stream_malformed(state, 2 + (turn as usize) * (t.span + 1), t.symbols, t.span)
+    stream_malformed(state, 2 + (turn as usize) * (span + 1), n, span)
 }
 
 // The first of refusals 12 to 15 that applies, or 0.
@@ -102,7 +112,7 @@ fn fault(t: Table, rows: &[u64], state: &[u64], block: u64) -> u64
     if state.len() != 2 + t.depth * (t.span + 1) {
         return 13;
     }
-    if malformed(t, state) {
+    if malformed(t.symbols, t.span, t.depth, state) {
         return 14;
     }
     if mask(t.symbols) < block {
@@ -114,20 +124,38 @@ fn fault(t: Table, rows: &[u64], state: &[u64], block: u64) -> u64
 // ---- the four lines
 
 // The information of a received block: what is below its parity symbol.
-fn information(n: usize, block: u64) -> u64
+pub(crate) fn information(n: usize, block: u64) -> u64
     requires { ⌜ (1 ≤ n) × (n ≤ 16) ⌝ }
     ensures { λ r. ⌜ r ≡ information n block ⌝ }
 {
     block & mask(n - 1)
 }
 
-// Lines 1 and 2: the raw term, and the register with it above the syndrome word.
-fn register(n: usize, span: usize, w: u64, syndrome: u64, received: u64) -> u64
-    requires { ⌜ (1 ≤ n) × (n ≤ 16) × (1 ≤ span) × (span ≤ 64) × (syndrome < 2 ^ (span - 1)) ⌝ }
-    ensures { λ r. ⌜ r ≡ register span syndrome (rawTerm w n received) ⌝ }
+// The image of a received block: the rows of its information's ones, and the parity's, which is 1.
+fn image(rows: &[u64], n: usize, received: u64) -> u64
+    requires { ⌜ (1 ≤ n) × (n ≤ 16) × (n - 1 ≤ length (now rows)) × (received < 2 ^ n) ⌝ }
+    ensures { λ r. ⌜ r ≡ combination (codeRows n (now (rows .entry))) received ⌝ }
 {
-    let raw = (w ^ (received >> ((n - 1) as u64))) % 2;
-    syndrome + (raw << ((span - 1) as u64))
+    combination(rows, n - 1, received) ^ (received >> ((n - 1) as u64))
+}
+
+// Lines 1 and 2 on the turn's stream, of N and 2^(N−1): w is its pending word and the image of the received block, so
+// that bit 0 of w is the raw term, which stands above the syndrome word in the register.
+pub(crate) fn terms(state: &[u64], span: usize, top: u64, image: u64) -> Joined
+    requires { ⌜ (streamAt (table 0 span 0 []) (turnOf (now state)) + 1 < length (now state)) × (length (now state) ≤ 4162)
+        × (getD (now state) (streamAt (table 0 span 0 []) (turnOf (now state)) + 1) 0 < top) × (top ≤ 2 ^ 63)
+        × (span ≤ 64) ⌝ }
+    ensures w { λ r. ⌜ r .w ≡ getD (now (state .entry)) (streamAt (table 0 span 0 []) (turnOf (now (state .entry)))) 0 ⊕ image ⌝ }
+    ensures register { λ r.
+        ⌜ r .register ≡ getD (now (state .entry)) (streamAt (table 0 span 0 []) (turnOf (now (state .entry))) + 1) 0
+        + sel (odd (r .w)) top ⌝ }
+{
+    let at = 2 + (state[0] as usize) * (span + 1);
+    let w = state[at] ^ image;
+    Joined {
+        w,
+        register: state[at + 1] + select(top, w),
+    }
 }
 
 // The rows of the code, the parity's after them, and the register last.
@@ -160,22 +188,21 @@ fn least_error(rows: &[u64], n: usize, x: u64) -> Least
     Least::Missing
 }
 
-// Line 3 and the mark. A register of 0 is the image of 0: nothing is eliminated then.
-fn explain(rows: &[u64], n: usize, x: u64) -> Verdict
-    requires { ⌜ (2 ≤ n) × (n ≤ 16) × (n - 1 ≤ length (now rows)) ⌝ }
-    ensures error { λ r. ⌜ r .error ≡ errorOf (found (codeRows n (now (rows .entry))) x) ⌝ }
-    ensures kept { λ r. ⌜ r .kept ≡ keptOf (found (codeRows n (now (rows .entry))) x) x ⌝ }
-    ensures mark { λ r. ⌜ r .mark ≡ markOf (found (codeRows n (now (rows .entry))) x) x ⌝ }
+// Line 3 and the mark, once the error is found or missing.
+pub(crate) fn judged(found: Least, x: u64) -> Verdict
+    requires { ⌜ errorOf found < 2 ^ 16 ⌝ }
+    ensures error { λ r. ⌜ r .error ≡ errorOf found ⌝ }
+    ensures kept { λ r. ⌜ r .kept ≡ keptOf found x ⌝ }
+    ensures mark { λ r. ⌜ r .mark ≡ markOf found x ⌝ }
 {
-    if x == 0 {
-        return Verdict {
-            error: 0,
-            kept: x,
-            mark: Mark::Clean,
-        };
-    }
-    let least = least_error(rows, n, x);
-    if let Least::Found(e) = least {
+    if let Least::Found(e) = found {
+        if e == 0 {
+            return Verdict {
+                error: 0,
+                kept: 0,
+                mark: Mark::Clean,
+            };
+        }
         return Verdict {
             error: e as u16,
             kept: 0,
@@ -197,6 +224,17 @@ fn explain(rows: &[u64], n: usize, x: u64) -> Verdict
     }
 }
 
+// A register of 0 is the image of 0: nothing is eliminated then.
+fn explain(rows: &[u64], n: usize, x: u64) -> Least
+    requires { ⌜ (2 ≤ n) × (n ≤ 16) × (n - 1 ≤ length (now rows)) ⌝ }
+    ensures { λ r. ⌜ r ≡ found (codeRows n (now (rows .entry))) x ⌝ }
+{
+    if x == 0 {
+        return Least::Found(0);
+    }
+    least_error(rows, n, x)
+}
+
 // ---- the memory
 
 // The oldest delayed block leaves, and another joins as the youngest.
@@ -214,33 +252,18 @@ fn push(part: &mut [u64], youngest: u64)
     part[last] = youngest;
 }
 
-// One block of the turn's stream, whose part is its pending word, its syndrome word and its delayed blocks.
-fn step(part: &mut [u64], rows: &[u64], n: usize, span: usize, received: u64) -> Delivered
-    requires { ⌜ (length (now part) ≡ span + 1) × (2 ≤ n) × (n ≤ 16) × (2 ≤ span) × (span ≤ 64)
-        × (n - 1 ≤ length (now rows)) × (getD (now part) 1 0 < 2 ^ (span - 1)) × (getD (now part) 2 0 < 2 ^ (n - 1)) ⌝ }
-    ensures info { λ r.
-        ⌜ r .info ≡ streamInfo n span (now (rows .entry)) (getD (now (part .entry)) 0 0) (getD (now (part .entry)) 1 0)
-        (getD (now (part .entry)) 2 0) received ⌝ }
-    ensures mark { λ r.
-        ⌜ r .mark ≡ streamMark n span (now (rows .entry)) (getD (now (part .entry)) 0 0)
-        (getD (now (part .entry)) 1 0) received ⌝ }
-    ensures part { λ r.
-        ⌜ now (part .exit) ≡ streamNext n span (now (rows .entry)) (getD (now (part .entry)) 0 0)
-        (getD (now (part .entry)) 1 0) (drop 3 (now (part .entry))) received ⌝ }
+// The turn's stream after a step: w halved, the syndrome word that stays, and the delayed blocks, of which the oldest
+// is handed back.
+fn advance(part: &mut [u64], w: u64, kept: u64, youngest: u64) -> u64
+    requires { ⌜ 3 ≤ length (now part) ⌝ }
+    ensures oldest { λ r. ⌜ r ≡ getD (now (part .entry)) 2 0 ⌝ }
+    ensures part { λ r. ⌜ now (part .exit) ≡ w / 2 ∷ kept ∷ (drop 3 (now (part .entry)) ++ (youngest ∷ [])) ⌝ }
 {
-    let info = information(n, received);
-    let w = joining(rows, n - 1, part[0], info);
-    let v = explain(rows, n, register(n, span, w, part[1], received));
-    let error = v.error as u64;
-    let mark = v.mark;
     let oldest = part[2];
     part[0] = w >> 1;
-    part[1] = v.kept;
-    push(part, info);
-    Delivered {
-        info: (oldest ^ information(n, error)) as u16,
-        mark,
-    }
+    part[1] = kept;
+    push(part, youngest);
+    oldest
 }
 
 fn next_fill(delay: u64, fill: u64) -> u64
@@ -249,26 +272,59 @@ fn next_fill(delay: u64, fill: u64) -> u64
     if fill < delay { fill + 1 } else { fill }
 }
 
-// A step that no refusal applies to: the turn's stream is lent on, and fill and turn advance.
+// The memory after a step that no refusal applies to, of N and m: the turn's stream is lent on, and fill and turn
+// advance. The delayed block that leaves is handed back.
+pub(crate) fn keep(
+    state: &mut [u64],
+    span: usize,
+    depth: usize,
+    w: u64,
+    kept: u64,
+    youngest: u64,
+) -> u64
+    requires { ⌜ (turnOf (now state) < depth) × (depth ≤ 64) × (2 ≤ span) × (span ≤ 64)
+        × (length (now state) ≡ decoderWords (table 0 span depth [])) ⌝ }
+    ensures oldest { λ r. ⌜ r ≡ delayedOf (table 0 span depth []) (now (state .entry)) (turnOf (now (state .entry))) 0 ⌝ }
+    ensures memory { λ r. ⌜ now (state .exit) ≡ advanced span depth (now (state .entry)) (w / 2) kept youngest ⌝ }
+{
+    let turn = state[0];
+    let fill = state[1];
+    let at = 2 + (turn as usize) * (span + 1);
+    let end = at + (span + 1);
+    let oldest = advance(&mut state[at..end], w, kept, youngest);
+    state[1] = next_fill((depth * (span - 1)) as u64, fill);
+    state[0] = next_turn(depth as u64, turn);
+    oldest
+}
+
+// A step that no refusal applies to.
 fn taken(t: Table, rows: &[u64], state: &mut [u64], received: u64) -> DecodeAnswer
     requires { ⌜ (decoderFault (withRows t (now rows)) (now state) received ≡ 0) × (length (now rows) ≡ 15) ⌝ }
     ensures answer { λ r. ⌜ r ≡ delivery (withRows t (now (rows .entry))) (now (state .entry)) received ⌝ }
     ensures memory { λ r.
         ⌜ now (state .exit) ≡ decoderNext (withRows t (now (rows .entry))) (now (state .entry)) received ⌝ }
 {
-    let turn = state[0];
+    let n = t.symbols;
     let fill = state[1];
-    let at = 2 + (turn as usize) * (t.span + 1);
-    let end = at + (t.span + 1);
-    let d = step(&mut state[at..end], rows, t.symbols, t.span, received);
-    let delay = (t.depth * (t.span - 1)) as u64;
-    state[1] = next_fill(delay, fill);
-    state[0] = next_turn(t.depth as u64, turn);
-    if fill < delay {
-        DecodeAnswer::NothingYet
-    } else {
-        DecodeAnswer::Delivery(d)
+    let x = terms(state, t.span, one_at(t.span - 1), image(rows, n, received));
+    let v = judged(explain(rows, n, x.register), x.register);
+    let error = v.error as u64;
+    let mark = v.mark;
+    let oldest = keep(
+        state,
+        t.span,
+        t.depth,
+        x.w,
+        v.kept,
+        information(n, received),
+    );
+    if fill < (t.depth * (t.span - 1)) as u64 {
+        return DecodeAnswer::NothingYet;
     }
+    DecodeAnswer::Delivery(Delivered {
+        info: (oldest ^ information(n, error)) as u16,
+        mark,
+    })
 }
 
 // A step on a table whose rows are lent beside it, so that a caller need not copy them into one. With another count

@@ -1,15 +1,15 @@
-// What coder and decoder do alike in a step: the word that joins, and the turn.
-use span::combine::combination;
+// What coder and decoder do alike in a step: the weight of a bit, and the turn.
+use span::bits::shift;
 ghost use mathlib.Core.Path.{_≡_};
-ghost use Prim.Native.Nat.{_≤_, _<_};
-ghost use lib.ListN.{take};
-ghost use Rattle.link.specs.Memory.{joining, nextTurn};
+ghost use Prim.Native.Nat.{_^_, _≤_, _<_};
+ghost use Rattle.link.specs.Memory.{nextTurn};
 
-// The word w of a step: the pending word and the rows of the ones in the information, each row fetched once.
-pub(crate) fn joining(rows: &[u64], count: usize, pending: u64, info: u64) -> u64
-    ensures { λ r. ⌜ r ≡ joining (take count (now (rows .entry))) pending info ⌝ }
+// The weight of a bit.
+pub(crate) fn one_at(place: usize) -> u64
+    requires { ⌜ place < 64 ⌝ }
+    ensures { λ r. ⌜ r ≡ 2 ^ place ⌝ }
 {
-    pending ^ combination(rows, count, info)
+    shift(1, place, 64)
 }
 
 // The turn after a step. A turn that is none is followed by 0.

@@ -40,7 +40,8 @@ facts c = let a = entry c .args in lent-facts (a .t) (a .rows .now) (fitted c)
 mul-if2 : tie.Need-mul-if2
 mul-if2 c =
     let a = entry (c .before .before) .args in
-    let m = fit-room (withRows (a .t) (a .rows .now)) (facts (c .before .before)) in
+    let z = facts (c .before .before) in
+    let m = fit-room (withRows (a .t) (a .rows .now)) (z .N-to) (z .m-to) in
     record { fits = omega arith }
 
 add-if2 : tie.Need-add-if2
@@ -49,7 +50,8 @@ add-if2 c = let z = facts (c .before) in record { fits = omega arith }
 add-if2-2 : tie.Need-add-if2-2
 add-if2-2 c =
     let a = entry (c .before .before) .args in
-    let m = fit-room (withRows (a .t) (a .rows .now)) (facts (c .before .before)) in
+    let z = facts (c .before .before) in
+    let m = fit-room (withRows (a .t) (a .rows .now)) (z .N-to) (z .m-to) in
     record { fits = omega arith }
 
 returns-2 : tie.Need-returns-2
@@ -62,9 +64,8 @@ returns-2 c =
 
 malformed-requires : tie.Need-malformed-requires
 malformed-requires c κs =
-    let e = c .before .before .before in
-    let a = entry e .args in
-    ((a .rows .now, fit-lent (a .t) (a .rows .now) (fitted e) .1), c .if2 .left)
+    let z = facts (c .before .before .before) in
+    (z .n-from, z .n-to, z .N-from, z .N-to, z .m-from, z .m-to, c .if2 .left)
 
 returns-3 : tie.Need-returns-3
 unfolding decoderFault

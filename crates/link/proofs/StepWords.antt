@@ -1,0 +1,64 @@
+-- A decoding step in the words that the functions compute: w with the parity's row in the image, the register with its
+-- top bit, and the memory of both. Assumes nothing.
+--
+--   register-is   the register
+--   found-is      what is found there
+--   memory-is     the memory after the step
+--   info-is, mark-is   information and mark of the record
+use mathlib.Core.Path.{_≡_, sym, ap, ap₂, _∙_}
+use mathlib.Core.Bool.{Bool}
+use mathlib.Core.List.{List, [], _∷_, _++_}
+use Prim.Native.Nat.{ℕ, _+_, _-_, _*_, _/_, _^_, _≤_}
+use lib.ListN.{length, set, take, drop}
+use lib.Seq.{length-take-le}
+use Rattle.span.specs.declared.eliminate.Least.{Least}
+use Rattle.span.specs.Word.{_⊕_, odd, sel, digit}
+use Rattle.span.specs.Combination.{combination}
+use Rattle.tables.specs.declared.table.Table.{Table}
+use Rattle.tables.specs.Table.{rowsOf, infoRows}
+use Rattle.link.specs.declared.decode.Mark.{Mark}
+use Rattle.link.specs.Memory.{turnOf, pendingOf, syndromeOf, delayedOf, fillNext, fillOf, nextTurn, streamAt}
+use Rattle.link.specs.Step.{information, rawTerm, found, errorOf, keptOf, markOf}
+use Rattle.link.specs.Decoder.{decoderJoining, decoderRegister, decoderFound, partNext, decoderNext, delivered}
+use Rattle.link.specs.Decoder.{advanced}
+use Rattle.link.proofs.Coder.{sel-digit}
+use Rattle.link.proofs.Step.{joined-half, joined-odd}
+
+module _ (t : Table) (s : List ℕ) (r w : ℕ) (room : t .symbols - 1 ≤ length (t .rows))
+    (e : w ≡ pendingOf t s (turnOf s) ⊕ combination (rowsOf t) r) where
+  width : length (infoRows t) ≡ t .symbols - 1
+  width = length-take-le (t .symbols - 1) (t .rows) room
+
+  pending-is : w / 2 ≡ decoderJoining t s r / 2
+  unfolding decoderJoining
+  pending-is =
+      ap (λ (x : ℕ). x / 2) e ∙ joined-half (infoRows t) (t .symbols - 1) width (pendingOf t s (turnOf s)) r
+
+  pub register-is : (x top : ℕ) → x ≡ syndromeOf t s (turnOf s) + sel (odd w) top → top ≡ 2 ^ (t .span - 1)
+      → x ≡ decoderRegister t s r
+  unfolding decoderRegister decoderJoining
+  register-is x top h g =
+      h
+      ∙ ap₂ (λ (b : Bool) (k : ℕ). syndromeOf t s (turnOf s) + sel b k)
+      (ap odd e ∙ joined-odd (infoRows t) (t .symbols - 1) width (pendingOf t s (turnOf s)) r) g
+      ∙ ap (λ (y : ℕ). syndromeOf t s (turnOf s) + y) (sel-digit (rawTerm (decoderJoining t s r) (t .symbols) r) (2 ^ (t .span - 1)))
+
+  module _ (x : ℕ) (is : x ≡ decoderRegister t s r) (f : Least) (g : f ≡ found (rowsOf t) x) where
+    pub found-is : f ≡ decoderFound t s r
+    unfolding decoderFound decoderRegister
+    found-is = g ∙ ap (found (rowsOf t)) is
+
+    pub memory-is : advanced (t .span) (t .depth) s (w / 2) (keptOf f x) (information (t .symbols) r) ≡ decoderNext t s r
+    unfolding decoderNext partNext decoderFound decoderRegister decoderJoining
+    memory-is =
+        ap₂ (λ (p k : ℕ). advanced (t .span) (t .depth) s p k (information (t .symbols) r)) pending-is
+        (ap₂ keptOf found-is is)
+
+    pub info-is : delayedOf t s (turnOf s) 0 ⊕ information (t .symbols) (errorOf f) ≡ delivered t s r .info
+    unfolding delivered decoderFound
+    info-is =
+        ap (λ (l : Least). delayedOf t s (turnOf s) 0 ⊕ information (t .symbols) (errorOf l)) found-is
+
+    pub mark-is : markOf f x ≡ delivered t s r .mark
+    unfolding delivered decoderFound decoderRegister
+    mark-is = ap₂ markOf found-is is

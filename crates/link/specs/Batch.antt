@@ -1,0 +1,82 @@
+-- 02, CR 1, blocks by the batch: "one call that takes a lent list of blocks, for coder and for decoder".
+--
+--   Batch                 what a batch comes to: the entries filled, and the memory after it
+--   ended s, entered es s rest   a batch that takes no block; one whose first call has the entries es: with none it ends
+--   batch entries memory room s bs   the single calls of the blocks bs, one after another, while there is room
+--   codeEntries a, decodeEntry m i, decodeEntries a   the entry of a single call's answer; none of a refusal
+--   codeBatch, decodeBatch   the batches of coder and of decoder
+--   Fills                 what `fill_coded` and `fill_decoded` promise
+--   FillsPart             what `code_batch` and `decode_batch` promise
+--   ENTRY                 an entry of the decoder has the information in its low 16 bits, and above them the mark
+use mathlib.Core.Path.{_≡_}
+use mathlib.Core.List.{List, [], _∷_, _++_}
+use Prim.Native.Nat.{ℕ, zero, suc, _+_, _*_, _/_, _%_, _^_}
+use lib.ListN.{length, getD, drop}
+use Rattle.tables.specs.declared.table.Table.{Table}
+use Rattle.link.specs.declared.code.CodeAnswer.{CodeAnswer}
+use Rattle.link.specs.declared.code.CodeAnswer.the-variants.{Coded, Refused as CodeRefused}
+use Rattle.link.specs.declared.decode.Mark.{Mark}
+use Rattle.link.specs.declared.decode.DecodeAnswer.{DecodeAnswer}
+use Rattle.link.specs.declared.decode.DecodeAnswer.the-variants.{Delivery, NothingYet, Refused as DecodeRefused}
+use Rattle.link.specs.Refusals.{decoderFault}
+use Rattle.link.specs.Coder.{codeAnswer, codeMemory}
+use Rattle.link.specs.Decoder.{decodeAnswer, decodeMemory, markNumber, decodeValues}
+
+-- "The answer is the filled part of the lent output, one entry a block taken."
+pub record Batch : Type 0 where
+  pub entries : List ℕ
+  pub memory : List ℕ
+
+abbrev pub ended : List ℕ → Batch
+ended s = record { entries = []; memory = s }
+
+abbrev pub entered : List ℕ → List ℕ → Batch → Batch
+entered [] s rest = ended s
+entered (e ∷ es) s rest = record { entries = e ∷ rest .entries; memory = rest .memory }
+
+-- "Memory and entries equal those of single calls": each gets the memory as the last left it. A batch ends where no
+-- block is left, where the output is full, and before a call that would be refused.
+unfoldable pub batch : (entries memory : List ℕ → ℕ → List ℕ) → ℕ → List ℕ → List ℕ → Batch
+batch entries memory room s [] = ended s
+batch entries memory zero s (b ∷ bs) = ended s
+batch entries memory (suc room) s (b ∷ bs) = entered (entries s b) s (batch entries memory room (memory s b) bs)
+
+-- "The coder's entry is the coded block."
+abbrev pub codeEntries : CodeAnswer → List ℕ
+codeEntries (Coded c) = c ∷ []
+codeEntries (CodeRefused k) = []
+
+-- "Entries are 32-bit numbers. .. The decoder's entry has the information in its low 16 bits (0 for nothing yet) and
+-- above them the mark: 0 nothing yet, 1 clean, 2 held, 3 corrected, 4 doubtful."
+abbrev pub decodeEntry : ℕ → ℕ → ℕ
+decodeEntry mark info = mark * 2 ^ 16 + info
+
+abbrev pub decodeEntries : DecodeAnswer → List ℕ
+decodeEntries (Delivery d) = decodeEntry (markNumber (d .mark)) (d .info) ∷ []
+decodeEntries NothingYet = decodeEntry 0 0 ∷ []
+decodeEntries (DecodeRefused k) = []
+
+unfoldable pub codeBatch : Table → ℕ → List ℕ → List ℕ → Batch
+codeBatch t room s infos = batch (λ s b. codeEntries (codeAnswer t s b)) (codeMemory t) room s infos
+
+unfoldable pub decodeBatch : Table → ℕ → List ℕ → List ℕ → Batch
+decodeBatch t room s blocks = batch (λ s r. decodeEntries (decodeAnswer t s r)) (decodeMemory t) room s blocks
+
+-- The count of blocks taken, every word of the memory, and every entry of the output: "output past the filled part
+-- keeps what it held".
+pub record Fills (b : Batch) (out : List ℕ) (taken : ℕ) (after out' : List ℕ) : Type 0 where
+  pub count : taken ≡ length (b .entries)
+  pub memory : after ≡ b .memory
+  pub output : out' ≡ b .entries ++ drop (length (b .entries)) out
+
+-- of a call that returns the filled part itself
+pub record FillsPart (b : Batch) (part after : List ℕ) : Type 0 where
+  pub entries : part ≡ b .entries
+  pub memory : after ≡ b .memory
+
+-- `decodeValues` are information, mark and error of a step that is taken
+abbrev pub ENTRY : Type 0
+ENTRY =
+    (t : Table) (s : List ℕ) (r : ℕ) → decoderFault t s r ≡ 0 →
+    let e = getD (decodeEntries (decodeAnswer t s r)) 0 0 in
+    (e % 2 ^ 16 ≡ getD (decodeValues t s r) 0 0) × (e / 2 ^ 16 ≡ getD (decodeValues t s r) 1 0)
