@@ -13,6 +13,8 @@ mod StepWords
 pub mod Entry
 pub mod Calls
 pub mod Batch
+mod Reached
+mod Entries
 mod Suitable
 mod Origin
 mod Step

@@ -4,6 +4,7 @@
 --   or-none, none-or         a test of two parts that does not apply
 --   picked, passed           a pick by a test that is decided
 --   start-fault, step-fault  the chains of a start and of a step
+--   step-settled             the same once 12 and 13 are settled
 --   Passed, step-passed      what no refusal says
 --   refuses, takes           answer and memory of a call that is refused, and of one that is not
 --   call-numbers, refused-numbers, taken-numbers   the numbers of both
@@ -66,6 +67,11 @@ module _ (t : Table) (words : ℕ) (malformed : Bool) (bound : ℕ) (s : List �
       ∙ ap (cond (not (fit t)) 12) (first-cons 13 long (malformed ∷ large ∷ [])
       ∙ ap (cond long 13) (first-cons 14 malformed (large ∷ [])
       ∙ ap (cond malformed 14) (first-cons 15 large [] ∙ ap (cond large 15) (first-nil 16))))
+
+  -- once 12 and 13 are settled
+  pub step-settled : fit t ≡ true → length s ≡ words → (p q : Bool) → malformed ≡ p → large ≡ q
+      → stepFault t words malformed bound s b ≡ cond p 14 (cond q 15 0)
+  step-settled f size p q e g = step-fault ∙ simp (f, eq-eqb (length s) words size, e, g)
 
   -- what the tests of a step that is taken say
   pub record Passed : Type 0 where

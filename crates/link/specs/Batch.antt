@@ -1,17 +1,19 @@
 -- 02, CR 1, blocks by the batch: "one call that takes a lent list of blocks, for coder and for decoder".
 --
 --   Batch                 what a batch comes to: the entries filled, and the memory after it
---   ended s, entered es s rest   a batch that takes no block; one whose first call has the entries es: with none it ends
+--   ended s, entered es s rest   a batch that takes no block; one whose first call has the entries es: with none it
+--                         ends
 --   batch entries memory room s bs   the single calls of the blocks bs, one after another, while there is room
 --   codeEntries a, decodeEntry m i, decodeEntries a   the entry of a single call's answer; none of a refusal
 --   codeBatch, decodeBatch   the batches of coder and of decoder
 --   Fills                 what `fill_coded` and `fill_decoded` promise
 --   FillsPart             what `code_batch` and `decode_batch` promise
+--   followed, Reached     entries and then those of another batch; where a batch has come to after some of its blocks
 --   ENTRY                 an entry of the decoder has the information in its low 16 bits, and above them the mark
 use mathlib.Core.Path.{_≡_}
 use mathlib.Core.List.{List, [], _∷_, _++_}
-use Prim.Native.Nat.{ℕ, zero, suc, _+_, _*_, _/_, _%_, _^_}
-use lib.ListN.{length, getD, drop}
+use Prim.Native.Nat.{ℕ, zero, suc, _+_, _-_, _*_, _/_, _%_, _^_, _≤_}
+use lib.ListN.{length, getD, take, drop}
 use Rattle.tables.specs.declared.table.Table.{Table}
 use Rattle.link.specs.declared.code.CodeAnswer.{CodeAnswer}
 use Rattle.link.specs.declared.code.CodeAnswer.the-variants.{Coded, Refused as CodeRefused}
@@ -73,6 +75,18 @@ pub record Fills (b : Batch) (out : List ℕ) (taken : ℕ) (after out' : List �
 pub record FillsPart (b : Batch) (part after : List ℕ) : Type 0 where
   pub entries : part ≡ b .entries
   pub memory : after ≡ b .memory
+
+-- What a batch comes to is the entries of the output up to block i, and then what a batch of the blocks that are left
+-- comes to; the output past them is as it was. No promise of a public function is made of it.
+abbrev pub followed : List ℕ → Batch → Batch
+followed es b = record { entries = es ++ b .entries; memory = b .memory }
+
+pub record Reached (rest : ℕ → List ℕ → List ℕ → Batch) (before bs out : List ℕ) (i : ℕ) (s out' : List ℕ) : Type 0 where
+  pub left : i ≤ length bs
+  pub room : i ≤ length out
+  pub size : length out' ≡ length out
+  pub comes : rest (length out) before bs ≡ followed (take i out') (rest (length out - i) s (drop i bs))
+  pub past : drop i out' ≡ drop i out
 
 -- `decodeValues` are information, mark and error of a step that is taken
 abbrev pub ENTRY : Type 0

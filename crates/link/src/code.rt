@@ -7,11 +7,12 @@ use span::combine::combination;
 use tables::table::Table;
 use tables::table::lent_fits;
 ghost use mathlib.Core.Path.{_≡_};
-ghost use mathlib.Core.List.{_∷_};
+ghost use mathlib.Core.List.{[]};
 ghost use Prim.Native.Nat.{_+_, _/_, _^_, _≤_, _<_};
 ghost use lib.ListN.{length, getD, set};
 ghost use Rattle.span.specs.Word.{_⊕_, odd, sel};
 ghost use Rattle.tables.specs.Lent.{lent};
+ghost use Rattle.tables.specs.Table.{table};
 ghost use Rattle.link.specs.Memory.{turnOf, pendingAt, nextTurn};
 ghost use Rattle.link.specs.Refusals.{coderMalformed, coderFault};
 ghost use Rattle.link.specs.Coder.{Codes};
@@ -23,16 +24,16 @@ pub enum CodeAnswer {
     Refused(u64),
 }
 
-// The condition of 14: the turn is tested before it is an index.
-fn malformed(t: Table, state: &[u64]) -> bool
-    requires { ⌜ (length (now state) ≡ 1 + t .depth) × (t .span ≤ 64) × (1 ≤ t .span) × (t .depth ≤ 64) ⌝ }
-    ensures { λ r. ⌜ r ≡ coderMalformed t (now (state .entry)) ⌝ }
+// The condition of 14, of N and m: the turn is tested before it is an index.
+pub(crate) fn malformed(span: usize, depth: usize, state: &[u64]) -> bool
+    requires { ⌜ (length (now state) ≡ 1 + depth) × (span ≤ 64) × (1 ≤ span) × (depth ≤ 64) ⌝ }
+    ensures { λ r. ⌜ r ≡ coderMalformed (table 0 span depth []) (now (state .entry)) ⌝ }
 {
     let turn = state[0];
-    if t.depth as u64 <= turn {
+    if depth as u64 <= turn {
         return true;
     }
-    mask(t.span - 1) < state[1 + (turn as usize)]
+    mask(span - 1) < state[1 + (turn as usize)]
 }
 
 // The first of refusals 12 to 15 that applies, or 0.
@@ -45,7 +46,7 @@ fn fault(t: Table, rows: &[u64], state: &[u64], block: u64) -> u64
     if state.len() != 1 + t.depth {
         return 13;
     }
-    if malformed(t, state) {
+    if malformed(t.span, t.depth, state) {
         return 14;
     }
     if mask(t.symbols - 1) < block {

@@ -1,5 +1,6 @@
 // The coder and the decoder on lent memory.
 pub mod code;
+pub mod code_batch;
 pub mod decode;
 pub mod start;
 mod stream;

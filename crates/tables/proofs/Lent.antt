@@ -53,6 +53,9 @@ fit-lent t rows f =
     let k = lent-held t rows (λ (u : Table). fit u ≡ true) never-fit f in
     (k .0, sym (ap fit (k .0)) ∙ f)
 
+pub fit-fifteen : (t : Table) (rows : List ℕ) → fit (lent t rows) ≡ true → length rows ≡ 15
+fit-fifteen t rows f = lent-held t rows (λ (u : Table). fit u ≡ true) never-fit f .1
+
 -- the bounds of a table with lent rows
 abbrev pub LentFits : Table → List ℕ → Type 0
 LentFits t rows = Fits (t .symbols) (t .span) (t .depth) (infoRows (withRows t rows))

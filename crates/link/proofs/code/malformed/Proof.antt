@@ -34,11 +34,11 @@ shared-slice-read-result c = search needs
 
 returns-2 : tie.Need-returns-2
 returns-2 c =
-    let a = c .before .before .before .before .before .before .args in
+    let a = c .before .before .before .before .before .args in
     let s = a .state .now in
     let w = getD s (1 + getD s 0 0) 0 in
-    above-mask (a .t .span - 1) (c .before .mask .result) w (omega arith) (c .before .mask .ensures)
-    ∙ ap (λ (b : Bool). b || leb (2 ^ (a .t .span - 1)) w) (sym (lt-leb (a .t .depth) (getD s 0 0) (omega arith)))
+    above-mask (a .span - 1) (c .before .mask .result) w (omega arith) (c .before .mask .ensures)
+    ∙ ap (λ (b : Bool). b || leb (2 ^ (a .span - 1)) w) (sym (lt-leb (a .depth) (getD s 0 0) (omega arith)))
 
 pub malformed-spec : {M : Type 1} → statement M
 malformed-spec =
