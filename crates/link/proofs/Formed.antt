@@ -183,7 +183,7 @@ started-formed t fits =
 
 -- ---- a step
 
-turn-lt : (m x : ℕ) → x < m → nextTurn m x < m
+pub turn-lt : (m x : ℕ) → x < m → nextTurn m x < m
 turn-lt m x h = go (turn-next m x)
   where
     go : ((suc x ≡ m) × (nextTurn m x ≡ 0)) ⊎ ((suc x ≢ m) × (nextTurn m x ≡ suc x)) → nextTurn m x < m
@@ -231,9 +231,10 @@ register-lt : (n N : ℕ) (infos s : List ℕ) (r : ℕ) → syndromeIn N s < 2 
 register-lt n N infos s r =
     topped-lt (N - 1) (syndromeIn N s) (xor (odd (joining infos (pendingIn N s) (r % 2 ^ (n - 1)))) (bit (n - 1) r))
 
+-- 14 would not refuse a stream after the step, if it would not before: the turn's own, and any other
 module _ (t : Table) (s : List ℕ) (r : ℕ) (answer : DecodeAnswer) (after : List ℕ)
     (step : DecoderStep (t .symbols) (t .span) (t .depth) (infoRows t) s r answer after)
-    (long : length after ≡ length s) (f : DecoderFormed t s) where
+    (own : Fine t s (turnOf s)) (k : ℕ) (f : Fine t s k) where
   abbrev n : ℕ
   n = t .symbols
 
@@ -243,49 +244,72 @@ module _ (t : Table) (s : List ℕ) (r : ℕ) (answer : DecodeAnswer) (after : L
   abbrev reg : ℕ
   reg = registerIn n N (infoRows t) s r
 
-  pending-kept : (k : ℕ) → k < t .depth → (q : Bool) → eqb k (turnOf s) ≡ q → getD after (streamIn N k) 0 < 2 ^ (N - 1)
-  pending-kept k h true q =
+  pending-kept : (q : Bool) → eqb k (turnOf s) ≡ q → getD after (streamIn N k) 0 < 2 ^ (N - 1)
+  pending-kept true q =
       rw (eqb-true k (turnOf s) q) (rw (step .pending-on)
       (joining-half n N (t .depth) (infoRows t) (pendingIn N s) (r % 2 ^ (n - 1)) (step .fits) (step .pending-lt)))
-  pending-kept k h false q =
+  pending-kept false q =
       let same : getD after (streamIn N k) 0 ≡ getD s (streamIn N k) 0 =
       ap (λ (i : ℕ). getD after i 0) (sym (add-zero (streamIn N k)))
-      ∙ step .others k 0 h (omega arith) (eqb-false k (turnOf s) q)
+      ∙ step .others k 0 (f .turn) (omega arith) (eqb-false k (turnOf s) q)
       ∙ ap (λ (i : ℕ). getD s i 0) (add-zero (streamIn N k)) in
-      rw same (f .pending k h)
+      rw same (f .pending)
 
-  syndrome-kept : (k : ℕ) → k < t .depth → (q : Bool) → eqb k (turnOf s) ≡ q
-      → getD after (streamIn N k + 1) 0 < 2 ^ (N - 1)
-  syndrome-kept k h true q =
+  syndrome-kept : (q : Bool) → eqb k (turnOf s) ≡ q → getD after (streamIn N k + 1) 0 < 2 ^ (N - 1)
+  syndrome-kept true q =
       rw (eqb-true k (turnOf s) q) (rw (step .syndrome-on)
       (kept-lt (found (infoRows t ++ (1 ∷ [])) reg) reg (N - 1) (register-lt n N (infoRows t) s r (step .syndrome-lt))))
-  syndrome-kept k h false q =
-      rw (step .others k 1 h (let z = step .fits .N-from in omega arith) (eqb-false k (turnOf s) q)) (f .syndrome k h)
+  syndrome-kept false q =
+      rw (step .others k 1 (f .turn) (let z = step .fits .N-from in omega arith) (eqb-false k (turnOf s) q)) (f .syndrome)
 
   -- a block that stays has its bound from the place it had before, and the youngest has no parity
   moved-kept : (i : ℕ) → i < N - 1 → Dec (suc i < N - 1) → getD after (streamIn N (turnOf s) + 2 + i) 0 < 2 ^ (n - 1)
-  moved-kept i l (yes b) = rw (step .delayed-on i b) (f .delayed (turnOf s) (suc i) (step .turn-lt) b)
+  moved-kept i l (yes b) = rw (step .delayed-on i b) (own .delayed (suc i) b)
   moved-kept i l (no b) = rw (step .youngest i (omega arith)) (mod-lt r (pow-pos (n - 1)))
 
-  delayed-kept : (k i : ℕ) → k < t .depth → i < N - 1 → (q : Bool) → eqb k (turnOf s) ≡ q
+  delayed-kept : (i : ℕ) → i < N - 1 → (q : Bool) → eqb k (turnOf s) ≡ q
       → getD after (streamIn N k + 2 + i) 0 < 2 ^ (n - 1)
-  delayed-kept k i h l true q = rw (eqb-true k (turnOf s) q) (moved-kept i l (decLt (suc i) (N - 1)))
-  delayed-kept k i h l false q =
+  delayed-kept i l true q = rw (eqb-true k (turnOf s) q) (moved-kept i l (decLt (suc i) (N - 1)))
+  delayed-kept i l false q =
       let same : getD after (streamIn N k + 2 + i) 0 ≡ getD s (streamIn N k + 2 + i) 0 =
       ap (λ (j : ℕ). getD after j 0) (add-assoc (streamIn N k) 2 i)
-      ∙ step .others k (2 + i) h (omega arith) (eqb-false k (turnOf s) q)
+      ∙ step .others k (2 + i) (f .turn) (omega arith) (eqb-false k (turnOf s) q)
       ∙ ap (λ (j : ℕ). getD s j 0) (sym (add-assoc (streamIn N k) 2 i)) in
-      rw same (f .delayed k i h l)
+      rw same (f .delayed i l)
 
-  decoder-kept : DecoderFormed t after
-  decoder-kept = record {
-    size = long ∙ f .size;
-    turn = rw (step .turn-on) (turn-lt (t .depth) (turnOf s) (step .turn-lt));
+  pub fine-kept : Fine t after k
+  fine-kept = record {
+    turn = f .turn;
     fill = rw (step .fill-on) (fill-le (fillOf s) (delayOf t) (f .fill));
-    pending = λ k h. pending-kept k h (eqb k (turnOf s)) refl;
-    syndrome = λ k h. syndrome-kept k h (eqb k (turnOf s)) refl;
-    delayed = λ k i h l. delayed-kept k i h l (eqb k (turnOf s)) refl;
+    pending = pending-kept (eqb k (turnOf s)) refl;
+    syndrome = syndrome-kept (eqb k (turnOf s)) refl;
+    delayed = λ i l. delayed-kept i l (eqb k (turnOf s)) refl;
   }
+
+fine-of : (t : Table) (s : List ℕ) → DecoderFormed t s → (k : ℕ) → k < t .depth → Fine t s k
+fine-of t s f k h = record {
+  turn = h;
+  fill = f .fill;
+  pending = f .pending k h;
+  syndrome = f .syndrome k h;
+  delayed = λ i l. f .delayed k i h l;
+}
+
+decoder-kept : (t : Table) (s : List ℕ) (r : ℕ) (answer : DecodeAnswer) (after : List ℕ)
+    → DecoderStep (t .symbols) (t .span) (t .depth) (infoRows t) s r answer after → length after ≡ length s
+    → DecoderFormed t s → DecoderFormed t after
+decoder-kept t s r answer after step long f = record {
+  size = long ∙ f .size;
+  turn = rw (step .turn-on) (turn-lt (t .depth) (turnOf s) (step .turn-lt));
+  fill = kept (turnOf s) (step .turn-lt) .fill;
+  pending = λ k h. kept k h .pending;
+  syndrome = λ k h. kept k h .syndrome;
+  delayed = λ k i h l. kept k h .delayed i l;
+}
+  where
+    kept : (k : ℕ) → k < t .depth → Fine t after k
+    kept k h =
+        fine-kept t s r answer after step (fine-of t s f (turnOf s) (step .turn-lt)) k (fine-of t s f k h)
 
 pub formed-kept : FORMED-KEPT
 formed-kept t u same s b = (

@@ -29,6 +29,9 @@ mod Rows
 mod Runs
 mod OneTable
 mod Formed
+mod Seen
+mod Going
+mod CodeWords
 mod Massey
 mod Bursts
 mod Fade

@@ -159,7 +159,7 @@ pub(crate) fn terms(state: &[u64], span: usize, top: u64, image: u64) -> Joined
 }
 
 // The rows of the code, the parity's after them, and the register last.
-fn error_words(rows: &[u64], n: usize, x: u64) -> [u64; 32]
+pub(crate) fn error_words(rows: &[u64], n: usize, x: u64) -> [u64; 32]
     requires { ⌜ (2 ≤ n) × (n ≤ 16) × (n - 1 ≤ length (now rows)) ⌝ }
     ensures { λ r. ⌜ take (n + 1) r ≡ codeRows n (now (rows .entry)) ++ (x ∷ []) ⌝ }
 {

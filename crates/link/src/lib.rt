@@ -2,5 +2,6 @@
 pub mod code;
 pub mod code_batch;
 pub mod decode;
+pub mod decode_batch;
 pub mod start;
 mod stream;

@@ -1,0 +1,35 @@
+-- The rows of the code as a batch has them: the first n of an array of words. Assumes nothing.
+--
+--   first-words     the array's first n words are the rows
+--   counted-words, sixteen-words   also as a basis and as the tables of a lookup count them
+--   code-below      a fit table's rows have 64 bits at most
+use mathlib.Core.Path.{_≡_, sym, ap, subst, _∙_}
+use mathlib.Core.List.{List, [], _∷_, _++_}
+use Prim.Native.Nat.{ℕ, suc, _+_, _-_, _≤_, _<_}
+use native.Mathlib.Omega.{arith}
+use lib.ListN.{length, getD, take}
+use lib.Pow.{pow-mono}
+use lib.Seq.{take-take, take-at, take-all}
+use Rattle.span.specs.Combination.{Below, counted}
+use Rattle.tables.specs.declared.table.Table.{Table}
+use Rattle.tables.specs.Table.{rowsOf, infoRows}
+use Rattle.tables.proofs.Fit.{Fits}
+use Rattle.link.proofs.Origin.{below-snoc}
+
+module _ (R words : List ℕ) (n x : ℕ) (size : length R ≡ n) (e : take (n + 1) words ≡ R ++ (x ∷ [])) where
+  pub first-words : take n words ≡ R
+  first-words =
+      sym (take-take n (n + 1) words (omega arith)) ∙ ap (take n) e ∙ take-at R (x ∷ []) n size
+
+  pub counted-words : n ≤ 32 → counted n words ≡ R
+  counted-words h = ap (take 32) first-words ∙ take-all 32 R (omega arith)
+
+  pub sixteen-words : n ≤ 16 → take 16 (take n words) ≡ R
+  sixteen-words h = ap (take 16) first-words ∙ take-all 16 R (omega arith)
+
+pub code-below : (t : Table) → Fits (t .symbols) (t .span) (t .depth) (infoRows t) → Below 64 (rowsOf t)
+code-below t z i h =
+    let from = z .N-from in
+    let l = below-snoc (t .span) (infoRows t) (omega arith) (z .below) i h in
+    let m = pow-mono (z .N-to) in
+    omega arith

@@ -1,0 +1,338 @@
+-- `link::decode_batch::fill_judged`: block by block (`Going`), in the words of a step (`StepWords`). Assumes nothing.
+use mathlib.Core.Path.{_≡_, refl, sym, ap, ap₂, subst, _∙_}
+use mathlib.Core.Bool.{Bool, true, false, cond}
+use mathlib.Core.List.{List, [], _∷_}
+use Prim.Native.Nat.{ℕ, _+_, _-_, _*_, _/_, _^_, _≤_, _<_}
+use native.Mathlib.Omega.{arith}
+use borrow.Author.Needs.{needs, scaled-fits}
+use borrow.Author.Tests.{lt-ltb, le-ltb}
+use lib.Dec.{leb, ltb}
+use lib.ListN.{length, getD, set, take}
+use Rattle.tables.specs.declared.table.Table.{Table}
+use Rattle.tables.specs.Lent.{withRows}
+use Rattle.link.proofs.Going.{Going, going-start, going-all, turn-malformed, turn-large, turn-passed, turn-next}
+use Rattle.link.proofs.Going.{entry-is}
+use lib.Pow.{pow-mono}
+use Rattle.span.specs.declared.eliminate.Least.{Least}
+use Rattle.span.specs.Word.{_⊕_}
+use Rattle.span.specs.Combination.{combination}
+use Rattle.span.specs.Elimination.{basisOf}
+use Rattle.span.specs.Dual.{dual}
+use Rattle.span.proofs.Lookups.{looked-up}
+use Rattle.span.proofs.Masks.{above-mask}
+use Rattle.tables.specs.Table.{infoRows, rowsOf}
+use Rattle.tables.proofs.Fit.{Fits, fit-facts, code-length}
+use Rattle.link.specs.Memory.{turnOf, pendingOf, syndromeOf, delayedOf}
+use Rattle.link.specs.Batch.{decodeEntries}
+use Rattle.link.specs.Refusals.{decoderFault}
+use Rattle.link.specs.Step.{information, found, errorOf}
+use Rattle.link.specs.Decoder.{decoderRegister, decoderNext, delivery, advanced}
+use Rattle.link.proofs.Decoder.{DecoderTaken, decoder-taken}
+use Rattle.link.proofs.Error.{error-lt}
+use Rattle.link.proofs.CodeWords.{counted-words, code-below}
+use Rattle.link.proofs.Room.{terms-room, keep-room, oldest-lt}
+use Rattle.link.proofs.StepWords.{register-is, memory-is, info-is, mark-is}
+use Rattle.link.proofs.decode_batch.fill_judged.Statement.{statement}
+use Rattle.link.proofs.decode_batch.fill_judged.Tie as tie
+
+abbrev Inv-loop : tie.InvT-loop
+Inv-loop t rows tables state₀ blocks out₀ b most top end i₀ state out i =
+    Going (withRows t rows) state₀ blocks out₀ i state out
+
+abbrev μ-loop : tie.MeasureT-loop
+μ-loop t rows tables state₀ blocks out₀ b most top end i₀ state out i = end - i
+
+-- points that the proofs look back to: the call's entry from a turn, and what is known there
+abbrev entry : tie.At-loop Inv-loop μ-loop → tie.Start Inv-loop μ-loop
+entry c = c .before .before .before .before .before .before .before .before .before .before .before .before
+
+abbrev whole : tie.Start Inv-loop μ-loop → Table
+whole c = withRows (c .args .t) (c .args .rows .now)
+
+facts : (c : tie.Start Inv-loop μ-loop)
+    → Fits (c .args .t .symbols) (c .args .t .span) (c .args .t .depth) (infoRows (whole c))
+facts c = fit-facts (whole c) (c .pre .0)
+
+width : (c : tie.Start Inv-loop μ-loop) → c .args .t .symbols - 1 ≤ length (c .args .rows .now)
+width c = let n = facts c .n-to in let l = c .pre .1 in omega arith
+
+size : (c : tie.Start Inv-loop μ-loop) → length (rowsOf (whole c)) ≡ c .args .t .symbols
+size c =
+    code-length (c .args .t .symbols) (c .args .rows .now) (let n = facts c .n-from in omega arith) (width c)
+
+-- what owning a slice tells: it has fewer than 2^63 bytes
+taken-bytes : (c : tie.Start Inv-loop μ-loop) → length (c .args .out .now) * 4 < 2 ^ 63
+taken-bytes c = omega arith
+
+error-words-requires : tie.Need-error-words-requires Inv-loop μ-loop
+error-words-requires c κs =
+    let here = c .before .before .before .before in
+    let z = facts here in
+    (z .n-from, z .n-to, width here)
+
+slice-aggregate-dual-basis : tie.Need-slice-aggregate-dual-basis Inv-loop μ-loop
+slice-aggregate-dual-basis c = search needs
+
+dual-basis-requires : tie.Need-dual-basis-requires Inv-loop μ-loop
+dual-basis-requires c κs = search needs
+
+mask-requires : tie.Need-mask-requires Inv-loop μ-loop
+mask-requires c κs = search needs
+
+sub-one-at : tie.Need-sub-one-at Inv-loop μ-loop
+sub-one-at c = let z = facts (c .before .before .before .before .before .before .before .before .before) .N-from in omega arith
+
+one-at-requires : tie.Need-one-at-requires Inv-loop μ-loop
+one-at-requires c κs = let z = facts (c .before .before .before .before .before .before .before .before .before) .N-to in omega arith
+
+min-requires : tie.Need-min-requires Inv-loop μ-loop
+min-requires c κs = search needs
+
+loop-holds : tie.Need-loop-holds Inv-loop μ-loop
+loop-holds c =
+    let here = c .before .before .before .before .before .before .before .before .before .before .before in
+    going-start (whole here) (here .args .state .now) (here .args .blocks .now) (here .args .out .now)
+
+mul-received : tie.Need-mul-received Inv-loop μ-loop
+mul-received c = search needs
+
+shared-slice-read-received : tie.Need-shared-slice-read-received Inv-loop μ-loop
+shared-slice-read-received c = search needs
+
+cast-received : tie.Need-cast-received Inv-loop μ-loop
+cast-received c =
+    record { fits = omega (arith, c .shared-slice-known3 .given (c .before .before .loop .i)) }
+
+first-malformed-requires : tie.Need-first-malformed-requires Inv-loop μ-loop
+first-malformed-requires c κs =
+    let l = c .before .before .before in
+    let z = facts (entry l) in
+    (z .n-from, z .n-to, z .N-from, z .N-to, z .m-from, z .m-to, l .loop .inv .size ∙ entry l .pre .2)
+
+abbrev block : tie.At-loop Inv-loop μ-loop → ℕ
+block c = getD (entry c .args .blocks .now) (c .loop .i) 0
+
+-- the turn's block is there, and so is its room
+inside : (c : tie.In-loop Inv-loop μ-loop)
+    → let l = c .before in
+    (l .loop .i < length (entry l .args .blocks .now)) × (l .loop .i < length (entry l .args .out .now))
+inside c = let e = c .before .before .min .ensures in (omega arith, omega arith)
+
+tested : (c : tie.At-loop Inv-loop μ-loop) → ltb (c .before .before .before .before .mask .result) (block c) ≡ leb (2 ^ entry c .args .t .symbols) (block c)
+tested c =
+    let n = facts (entry c) .n-to in
+    above-mask (entry c .args .t .symbols) (c .before .before .before .before .mask .result) (block c) (omega arith) (c .before .before .before .before .mask .ensures)
+
+same-length : tie.Need-same-length Inv-loop μ-loop
+same-length c = search needs
+
+same-length-2 : tie.Need-same-length-2 Inv-loop μ-loop
+same-length-2 c = search needs
+
+returns : tie.Need-returns Inv-loop μ-loop
+returns c =
+    let l = c .before .before .before .before .before in
+    let start = entry l in
+    let a = start .args in
+    turn-malformed (whole start) (a .state .now) (a .blocks .now) (a .out .now) (l .loop .i) (l .loop .state)
+    (l .loop .out) (l .loop .inv) (start .pre .0) (start .pre .2) (inside (c .before .before .before .before) .0)
+    (sym (c .before .first-malformed .ensures) ∙ c .if1 .taken)
+
+same-length-3 : tie.Need-same-length-3 Inv-loop μ-loop
+same-length-3 c = search needs
+
+same-length-4 : tie.Need-same-length-4 Inv-loop μ-loop
+same-length-4 c = search needs
+
+returns-2 : tie.Need-returns-2 Inv-loop μ-loop
+returns-2 c =
+    let l = c .before .before .before .before .before .before in
+    let start = entry l in
+    let a = start .args in
+    turn-large (whole start) (a .state .now) (a .blocks .now) (a .out .now) (l .loop .i) (l .loop .state)
+    (l .loop .out) (l .loop .inv) (start .pre .0) (start .pre .2) (inside (c .before .before .before .before .before) .0)
+    (sym (c .before .before .first-malformed .ensures) ∙ c .before .if1 .left)
+    (sym (tested l) ∙ lt-ltb _ _ (c .if2 .taken))
+
+-- no refusal applies
+none : (c : tie.Else2 Inv-loop μ-loop)
+    → let l = c .before .before .before .before .before .before in
+    decoderFault (whole (entry l)) (l .loop .state) (block l) ≡ 0
+none c =
+    let l = c .before .before .before .before .before .before in
+    let start = entry l in
+    let a = start .args in
+    turn-passed (whole start) (a .state .now) (a .blocks .now) (a .out .now) (l .loop .i) (l .loop .state)
+    (l .loop .out) (l .loop .inv) (start .pre .0) (start .pre .2) (inside (c .before .before .before .before .before) .0)
+    (sym (c .before .before .first-malformed .ensures) ∙ c .before .if1 .left)
+    (sym (tested l) ∙ le-ltb _ _ (c .if2 .left))
+
+tests : (c : tie.Else2 Inv-loop μ-loop)
+    → let l = c .before .before .before .before .before .before in
+    DecoderTaken (whole (entry l)) (l .loop .state) (block l)
+tests c =
+    let l = c .before .before .before .before .before .before in
+    decoder-taken (whole (entry l)) (l .loop .state) (block l) (none c)
+
+look-up-requires : tie.Need-look-up-requires Inv-loop μ-loop
+look-up-requires c κs = search needs
+
+terms-requires : tie.Need-terms-requires Inv-loop μ-loop
+terms-requires c κs =
+    let l = c .before .before .before .before .before .before .before .before in
+    let s = l .loop .state in
+    let u = whole (entry l) in
+    let r = terms-room u s (block l) (tests (c .before .before)) in
+    let e = sym (l .before .before .one-at .ensures) in
+    (r .0, r .1, subst (λ (x : ℕ). syndromeOf u s (turnOf s) < x) e (r .2), subst (λ (x : ℕ). x ≤ 2 ^ 63) e (r .3), r .4)
+
+-- the turn from its words, and the words
+abbrev turn : tie.After-terms Inv-loop μ-loop → tie.At-loop Inv-loop μ-loop
+turn c = c .before .before .before .before .before .before .before .before .before
+
+joined : (c : tie.After-terms Inv-loop μ-loop)
+    → let l = turn c in
+    let s = l .loop .state in
+    c .terms .result .w ≡ pendingOf (whole (entry l)) s (turnOf s) ⊕ combination (rowsOf (whole (entry l))) (block l)
+joined c =
+    let l = turn c in
+    let start = entry l in
+    let s = l .loop .state in
+    c .terms .ensures .0
+    ∙ ap (λ (x : ℕ). pendingOf (whole start) s (turnOf s) ⊕ x)
+    (c .before .look-up .ensures
+    ∙ looked-up (rowsOf (whole start)) (start .args .tables .now) (block l)
+    (let z = size start in let n = facts start .n-to in omega arith) (start .pre .3))
+
+registered : (c : tie.After-terms Inv-loop μ-loop)
+    → let l = turn c in
+    c .terms .result .register ≡ decoderRegister (whole (entry l)) (l .loop .state) (block l)
+registered c =
+    let l = turn c in
+    let start = entry l in
+    register-is (whole start) (l .loop .state) (block l) (c .terms .result .w) (width start) (joined c)
+    (c .terms .result .register) (l .before .before .one-at .result) (c .terms .ensures .1)
+    (l .before .before .one-at .ensures)
+
+found-by-requires : tie.Need-found-by-requires Inv-loop μ-loop
+found-by-requires c κs = search needs
+
+-- the least error, by the dual basis
+explained : (c : tie.After-found-by Inv-loop μ-loop)
+    → c .found-by .result ≡ found (rowsOf (whole (entry (turn (c .before .before .before .before .before))))) (c .before .before .before .before .before .terms .result .register)
+explained c =
+    let l = turn (c .before .before .before .before .before) in
+    let start = entry l in
+    let n = facts start .n-to in
+    let b = l .before .before .before .before .before .dual-basis in
+    let w = l .before .before .before .before .before .before .before .error-words in
+    let z = size start in
+    c .found-by .ensures (rowsOf (whole start)) (omega arith) (code-below (whole start) (facts start))
+    (b .ensures ∙ ap (λ (ws : List ℕ). dual (basisOf ws))
+    (counted-words (rowsOf (whole start)) (w .result) (start .args .t .symbols) 0 z (w .ensures) (omega arith)))
+
+judged-requires : tie.Need-judged-requires Inv-loop μ-loop
+judged-requires c κs =
+    let l = turn (c .before .before .before .before .before .before) in
+    let start = entry l in
+    subst (λ (f : Least). errorOf f < 2 ^ 16) (sym (explained (c .before)))
+    (error-lt (rowsOf (whole start)) (c .before .before .before .before .before .before .terms .result .register)
+    (let z = size start in let n = facts start .n-to in omega arith))
+
+take-block-requires : tie.Need-take-block-requires Inv-loop μ-loop
+take-block-requires c κs =
+    let l = turn (c .before .before .before .before .before .before .before) in
+    let s = l .loop .state in
+    let k = tests (c .before .before .before .before .before .before .before .before .before .before) in
+    let r = keep-room (whole (entry l)) s (block l) k in
+    let n = k .sizes .n-from in
+    (r .0, r .1, r .2, r .3, omega arith, k .sizes .n-to, r .4, oldest-lt (whole (entry l)) s (block l) k)
+
+-- the entry's place
+written : (c : tie.After-slice-known3 Inv-loop μ-loop) → let l = c .before .before .before .before .before .before .before .before .before .before .before .before .before .before .before .before .before .before .before in l .loop .i < length (l .loop .out)
+written c =
+    let r = inside (c .before .before .before .before .before .before .before .before .before .before .before .before .before .before .before .before .before .before) in
+    let z = c .before .before .before .before .before .before .before .before .before .before .before .before .before .before .before .before .before .before .before .loop .inv .reached .size in
+    omega arith
+
+mul-out : tie.Need-mul-out Inv-loop μ-loop
+mul-out c =
+    let l = c .before .before .before .before .before .before .before .before .before .before .before .before .before .before .before .before .before .before .before in
+    scaled-fits (l .loop .i) (length (entry l .args .out .now)) 4 (inside (c .before .before .before .before .before .before .before .before .before .before .before .before .before .before .before .before .before .before) .1) (taken-bytes (entry l))
+
+slice-write-out : tie.Need-slice-write-out Inv-loop μ-loop
+slice-write-out c = written c
+
+add-i : tie.Need-add-i Inv-loop μ-loop
+add-i c = search needs
+
+loop-less : tie.Need-loop-less Inv-loop μ-loop
+loop-less c = search needs
+
+-- points that the end of a turn looks back to
+abbrev words : tie.After-slice-known3 Inv-loop μ-loop → tie.After-terms Inv-loop μ-loop
+words c = c .before .before .before .before .before .before .before .before .before .before
+
+memory-next : (c : tie.After-slice-known3 Inv-loop μ-loop)
+    → let l = turn (words c) in
+    c .before .before .take-block .last .0 ≡ decoderNext (whole (entry l)) (l .loop .state) (block l)
+memory-next c =
+    let x = words c in
+    let l = turn x in
+    let start = entry l in
+    let f = c .before .before .before .before .before .found-by in
+    let j = c .before .before .before .judged in
+    c .before .before .take-block .ensures .1
+    ∙ ap (λ (k : ℕ). advanced (start .args .t .span) (start .args .t .depth) (l .loop .state) (x .terms .result .w / 2) k
+    (information (start .args .t .symbols) (block l))) (j .ensures .1 .0)
+    ∙ memory-is (whole start) (l .loop .state) (block l) (x .terms .result .w) (width start) (joined x)
+    (x .terms .result .register) (registered x) (f .result) (explained (c .before .before .before .before .before))
+
+entry-next : (c : tie.After-slice-known3 Inv-loop μ-loop)
+    → let l = turn (words c) in
+    c .before .before .take-block .result ∷ [] ≡ decodeEntries (delivery (whole (entry l)) (l .loop .state) (block l))
+entry-next c =
+    let x = words c in
+    let l = turn x in
+    let start = entry l in
+    let u = whole start in
+    let s = l .loop .state in
+    let f = c .before .before .before .before .before .found-by in
+    let j = c .before .before .before .judged in
+    ap (λ (e : ℕ). e ∷ []) (c .before .before .take-block .ensures .0)
+    ∙ entry-is u s (block l) (j .result .mark)
+    (delayedOf u s (turnOf s) 0 ⊕ information (start .args .t .symbols) (j .result .error))
+    (j .ensures .1 .1 ∙ mark-is u s (block l) (x .terms .result .w) (width start) (joined x) (x .terms .result .register)
+    (registered x) (f .result) (explained (c .before .before .before .before .before)))
+    (ap (λ (e : ℕ). delayedOf u s (turnOf s) 0 ⊕ information (start .args .t .symbols) e) (j .ensures .0)
+    ∙ info-is u s (block l) (x .terms .result .w) (width start) (joined x) (x .terms .result .register) (registered x)
+    (f .result) (explained (c .before .before .before .before .before)))
+
+loop-again : tie.Need-loop-again Inv-loop μ-loop
+loop-again c =
+    let l = turn (words c) in
+    let start = entry l in
+    let a = start .args in
+    let i = inside (c .before .before .before .before .before .before .before .before .before .before .before .before .before .before .before .before .before .before) in
+    turn-next (whole start) (a .state .now) (a .blocks .now) (a .out .now) (l .loop .i) (l .loop .state) (l .loop .out)
+    (l .loop .inv) (start .pre .0) (start .pre .2) (i .0) (i .1) (none (c .before .before .before .before .before .before .before .before .before .before .before .before .before)) (c .before .before .take-block .last .0)
+    (memory-next c) (c .before .before .take-block .result) (entry-next c)
+
+same-length-5 : tie.Need-same-length-5 Inv-loop μ-loop
+same-length-5 c = search needs
+
+same-length-6 : tie.Need-same-length-6 Inv-loop μ-loop
+same-length-6 c = search needs
+
+returns-3 : tie.Need-returns-3 Inv-loop μ-loop
+returns-3 c =
+    let l = c .before in
+    let start = entry l in
+    let a = start .args in
+    going-all (whole start) (a .state .now) (a .blocks .now) (a .out .now) (l .loop .i) (l .loop .state) (l .loop .out)
+    (l .loop .inv) (let e = l .before .min .ensures in omega arith)
+
+pub fill-judged-spec : {M : Type 1} → statement M
+fill-judged-spec =
+    tie.close
+    (tie.spec Inv-loop μ-loop error-words-requires slice-aggregate-dual-basis dual-basis-requires mask-requires sub-one-at one-at-requires min-requires loop-holds mul-received shared-slice-read-received cast-received first-malformed-requires same-length same-length-2 returns same-length-3 same-length-4 returns-2 look-up-requires terms-requires found-by-requires judged-requires take-block-requires mul-out slice-write-out add-i loop-less loop-again same-length-5 same-length-6 returns-3)

@@ -1,0 +1,49 @@
+-- `link::decode_batch::found_by`: the dual basis answers with the least error, and the register 0 is the image of 0.
+-- Assumes nothing.
+use mathlib.Core.Path.{_≡_, sym, ap, _∙_}
+use borrow.Author.Needs.{needs}
+use borrow.Author.Tests.{eq-eqb, ne-eqb}
+use lib.Dec.{eqb}
+use Rattle.span.specs.declared.eliminate.Least.the-variants.{Found, Missing}
+use Rattle.span.specs.declared.eliminate.Basis.{Basis}
+use Rattle.span.specs.declared.eliminate.Reduced.{Reduced}
+use Rattle.span.specs.Basis.{answer}
+use Rattle.span.specs.Dual.{atOnce}
+use Rattle.span.specs.Relation.{leastCoefficients}
+use Rattle.span.proofs.Duals.{dual-reduces}
+use Rattle.link.proofs.Error.{zero-found}
+use Rattle.link.proofs.Refusals.{picked, passed}
+use Rattle.link.proofs.decode_batch.found_by.Statement.{statement}
+use Rattle.link.proofs.decode_batch.found_by.Tie as tie
+
+-- what a reduction says of its word
+told : (r : Reduced) → r .rest ≡ 0 → Found (r .coefficients) ≡ answer r
+unfolding answer
+told r e = picked (eqb (r .rest) 0) (Found (r .coefficients)) Missing (eq-eqb (r .rest) 0 e)
+
+untold : (r : Reduced) → (r .rest ≡ 0 → ⊥) → Missing ≡ answer r
+unfolding answer
+untold r e = passed (eqb (r .rest) 0) (Found (r .coefficients)) Missing (ne-eqb (r .rest) 0 e)
+
+returns : tie.Need-returns
+returns c ws size below e = sym (ap (leastCoefficients ws) (c .if1 .taken) ∙ zero-found ws)
+
+reduce-at-once-requires : tie.Need-reduce-at-once-requires
+reduce-at-once-requires c κs = search needs
+
+returns-2 : tie.Need-returns-2
+returns-2 c ws size below e =
+    let x = c .before .before .before .before .args .x in
+    let r = c .before .before .reduce-at-once in
+    told (r .result) (c .if2 .taken) ∙ ap answer (r .ensures ∙ ap (λ (b : Basis). atOnce b x) e)
+    ∙ dual-reduces ws size below x
+
+returns-3 : tie.Need-returns-3
+returns-3 c ws size below e =
+    let x = c .before .before .before .before .args .x in
+    let r = c .before .before .reduce-at-once in
+    untold (r .result) (c .if2 .left) ∙ ap answer (r .ensures ∙ ap (λ (b : Basis). atOnce b x) e)
+    ∙ dual-reduces ws size below x
+
+pub found-by-spec : {M : Type 1} → statement M
+found-by-spec = tie.close (tie.spec returns reduce-at-once-requires returns-2 returns-3)

@@ -1,0 +1,165 @@
+// The decoder by the batch: what holds of all its blocks is tested once, a stream's words once, and the rows are looked
+// up in tables that are made once. The basis of the rows is made at the first register that is not 0.
+use crate::decode::Mark;
+use crate::decode::Verdict;
+use crate::decode::error_words;
+use crate::decode::information;
+use crate::decode::judged;
+use crate::decode::keep;
+use crate::decode::malformed;
+use crate::decode::terms;
+use crate::stream::one_at;
+use span::bits::mask;
+use span::bound::min;
+use span::dual::dual_basis;
+use span::dual::reduce_at_once;
+use span::eliminate::Least;
+use span::lookup::look_up;
+use span::lookup::lookup_of;
+use tables::table::Table;
+use tables::table::lent_fits;
+ghost use mathlib.Core.Path.{_≡_};
+ghost use mathlib.Core.Bool.{true, cond, _&&_};
+ghost use mathlib.Core.List.{List, []};
+ghost use Prim.Native.Nat.{ℕ, _+_, _-_, _/_, _^_, _≤_, _<_};
+ghost use lib.Dec.{ltb};
+ghost use lib.ListN.{length};
+ghost use Rattle.span.specs.Word.{_⊕_};
+ghost use Rattle.span.specs.Combination.{Below};
+ghost use Rattle.span.specs.Relation.{leastCoefficients};
+ghost use Rattle.span.specs.Basis.{basis};
+ghost use Rattle.span.specs.Elimination.{basisOf};
+ghost use Rattle.span.specs.Lookup.{Lookup};
+ghost use Rattle.span.specs.Dual.{dual};
+ghost use Rattle.tables.specs.Lent.{withRows, lent};
+ghost use Rattle.tables.specs.Table.{table, fit, rowsOf};
+ghost use Rattle.link.specs.Memory.{turnOf, fillOf, delayOf, delayedOf, decoderWords};
+ghost use Rattle.link.specs.Refusals.{decoderMalformed};
+ghost use Rattle.link.specs.Step.{information};
+ghost use Rattle.link.specs.Decoder.{advanced, markNumber};
+ghost use Rattle.link.specs.Batch.{decodeEntry, decodeBatch, Fills, FillsPart};
+
+// Whether 14 applies to block i of a batch, of n, N and m, once 12 and 13 are settled. A stream is looked at at its
+// first block only: a step that is taken keeps it well-formed.
+fn first_malformed(n: usize, span: usize, depth: usize, i: usize, state: &[u64]) -> bool
+    requires { ⌜ (2 ≤ n) × (n ≤ 16) × (2 ≤ span) × (span ≤ 64) × (1 ≤ depth) × (depth ≤ 64)
+        × (length (now state) ≡ decoderWords (table n span depth [])) ⌝ }
+    ensures { λ r. ⌜ r ≡ (ltb i depth && decoderMalformed (table n span depth []) (now (state .entry))) ⌝ }
+{
+    if i < depth {
+        return malformed(n, span, depth, state);
+    }
+    false
+}
+
+// What the register is the image of, by the dual basis of the rows.
+fn found_by<'a>(
+    size: usize,
+    vectors: &'a [u64; 32],
+    checks: &'a [u64; 32],
+    coefficients: &'a [u64; 32],
+    x: u64,
+) -> Least
+    ensures { λ r.
+        ⌜ ((ws : List ℕ) → length ws ≤ 32 → Below 64 ws
+        → basis size (now (vectors .entry)) (now (checks .entry)) (now (coefficients .entry)) ≡ dual (basisOf ws)
+        → r ≡ leastCoefficients ws x) ⌝ }
+{
+    if x == 0 {
+        return Least::Found(0);
+    }
+    let reduced = reduce_at_once(size, vectors, checks, coefficients, x);
+    if reduced.rest == 0 {
+        return Least::Found(reduced.coefficients);
+    }
+    Least::Missing
+}
+
+// The entry of a record: the mark's number above the information.
+fn entry(mark: Mark, info: u64) -> u32
+    requires { ⌜ info < 2 ^ 16 ⌝ }
+    ensures { λ r. ⌜ r ≡ decodeEntry (markNumber mark) info ⌝ }
+{
+    let low = info as u32;
+    match mark {
+        Mark::Clean => 65536 + low,
+        Mark::Held => 131072 + low,
+        Mark::Corrected(_) => 196608 + low,
+        Mark::Doubtful => 262144 + low,
+    }
+}
+
+// A step that no refusal applies to, in numbers, once the register is judged.
+fn take_block(
+    state: &mut [u64],
+    n: usize,
+    span: usize,
+    depth: usize,
+    w: u64,
+    v: Verdict,
+    received: u64,
+) -> u32
+    requires { ⌜ (turnOf (now state) < depth) × (depth ≤ 64) × (2 ≤ span) × (span ≤ 64) × (1 ≤ n) × (n ≤ 16)
+        × (length (now state) ≡ decoderWords (table n span depth []))
+        × (delayedOf (table n span depth []) (now state) (turnOf (now state)) 0 < 2 ^ (n - 1)) ⌝ }
+    ensures entry { λ r.
+        ⌜ r ≡ cond (ltb (fillOf (now (state .entry))) (delayOf (table n span depth []))) (decodeEntry 0 0)
+        (decodeEntry (markNumber (v .mark))
+        (delayedOf (table n span depth []) (now (state .entry)) (turnOf (now (state .entry))) 0 ⊕ information n (v .error))) ⌝ }
+    ensures memory { λ r.
+        ⌜ now (state .exit) ≡ advanced span depth (now (state .entry)) (w / 2) (v .kept) (information n received) ⌝ }
+{
+    let fill = state[1];
+    let error = v.error as u64;
+    let mark = v.mark;
+    let oldest = keep(state, span, depth, w, v.kept, information(n, received));
+    if fill < (depth * (span - 1)) as u64 {
+        return 0;
+    }
+    entry(mark, oldest ^ information(n, error))
+}
+
+// The blocks of a batch once 12 and 13 are settled, each register judged by the dual basis of the rows.
+fn fill_judged(
+    t: Table,
+    rows: &[u64],
+    tables: &[u64; 64],
+    state: &mut [u64],
+    blocks: &[u16],
+    out: &mut [u32],
+) -> usize
+    requires { ⌜ (fit (withRows t (now rows)) ≡ true) × (length (now rows) ≡ 15)
+        × (length (now state) ≡ decoderWords (withRows t (now rows))) × Lookup (rowsOf (withRows t (now rows))) (now tables) ⌝ }
+    ensures { λ r.
+        ⌜ Fills (decodeBatch (withRows t (now (rows .entry))) (length (now (out .entry))) (now (state .entry))
+        (now (blocks .entry))) (now (out .entry)) r (now (state .exit)) (now (out .exit)) ⌝ }
+{
+    let words = error_words(rows, t.symbols, 0);
+    let b = dual_basis(&words, t.symbols);
+    let most = mask(t.symbols);
+    let top = one_at(t.span - 1);
+    let end = min(blocks.len(), out.len());
+    let mut i = 0;
+    while i < end {
+        let received = blocks[i] as u64;
+        if first_malformed(t.symbols, t.span, t.depth, i, state) {
+            return i;
+        }
+        if most < received {
+            return i;
+        }
+        let x = terms(state, t.span, top, look_up(tables, received));
+        let found = found_by(b.size, &b.vectors, &b.checks, &b.coefficients, x.register);
+        out[i] = take_block(
+            state,
+            t.symbols,
+            t.span,
+            t.depth,
+            x.w,
+            judged(found, x.register),
+            received,
+        );
+        i += 1;
+    }
+    i
+}
