@@ -6,8 +6,9 @@
 --   turn-passed          no refusal applies
 --   turn-next            its step is taken
 --   entry-is             the entry of a step, of the words of its record
+--   decode-size          a batch has no more entries than room
 --   going-all            no block or no room is left
---   going-on             the blocks that are left are a batch by themselves
+--   going-on, going-rest the blocks that are left are a batch by themselves
 use mathlib.Core.Path.{_≡_, refl, sym, ap, ap₂, subst, _∙_}
 use mathlib.Core.Bool.{Bool, true, false, cond, _&&_}
 use mathlib.Core.List.{List, [], _∷_, _++_, append-assoc}
@@ -15,6 +16,7 @@ use Prim.Native.Nat.{ℕ, suc, _+_, _-_, _^_, _≤_, _<_, min}
 use native.Mathlib.Decide.{decLt}
 use native.Mathlib.Omega.{arith}
 use borrow.Author.Tests.{lt-ltb, le-ltb}
+use borrow.Rule.Slice.PartMut.{midOf, putMid}
 use lib.Dec.{leb, ltb}
 use lib.ListN.{length, getD, set, take, drop, length-append, length-drop}
 use lib.Seq.{drop-drop, length-take-le}
@@ -27,9 +29,11 @@ use Rattle.link.specs.Memory.{fillOf, delayOf, decoderWords}
 use Rattle.link.specs.Refusals.{decoderMalformed, decoderFault}
 use Rattle.link.specs.Decoder.{decodeAnswer, decodeMemory, decoderNext, delivered, delivery, markNumber}
 use Rattle.link.specs.Batch.{Batch, batch, followed, decodeEntry, decodeEntries, decodeBatch, Fills, Reached}
+use Rattle.link.proofs.Parts.{mid-rest, put-rest}
 use Rattle.link.proofs.Refusals.{step-settled}
 use Rattle.link.proofs.Malformed.{decoder-fine}
 use Rattle.link.proofs.Decoder.{decodes, decoder-length}
+use Rattle.link.proofs.Batch.{batch-size}
 use Rattle.link.proofs.Reached.{reached-start, reached-next, reached-refused, reached-all}
 use Rattle.link.proofs.Entries.{decode-none, decode-one}
 use Rattle.link.proofs.Seen.{Seen, seen-start, seen-now, seen-next}
@@ -56,7 +60,7 @@ module _ (u : Table) (before bs out : List ℕ) where
     going-all = reached-all entries (decodeMemory u) before bs out i s out' (g .reached)
 
     -- the rest of the batch on the rest of the output
-    pub going-on : (k : ℕ) (after part : List ℕ)
+    going-on : (k : ℕ) (after part : List ℕ)
         → Fills (decodeBatch u (length (drop i out')) s (drop i bs)) (drop i out') k after part
         → Fills (decodeBatch u (length out) before bs) out (i + k) after (take i out' ++ part)
     unfolding decodeBatch
@@ -81,6 +85,20 @@ module _ (u : Table) (before bs out : List ℕ) where
               (ap (drop (length (B .entries))) (r .past) ∙ drop-drop (length (B .entries)) i out
               ∙ ap (λ (n : ℕ). drop n out) (sym long));
         })
+
+    -- with both parts as they are lent on
+    pub going-rest : (k : ℕ) (after part : List ℕ)
+        → Fills (decodeBatch u (length (midOf i (length out' - i) out')) s (midOf i (length bs - i) bs))
+        (midOf i (length out' - i) out') k after part
+        → Fills (decodeBatch u (length out) before bs) out (i + k) after (putMid i (length out' - i) out' part)
+    going-rest k after part f =
+        let z = g .reached .size in
+        let y = g .reached .room in
+        subst (Fills (decodeBatch u (length out) before bs) out (i + k) after) (sym (put-rest out' part i (omega arith)))
+        (going-on k after part
+        (subst (λ (l : List ℕ). Fills (decodeBatch u (length l) s (drop i bs)) l k after part) (mid-rest out' i)
+        (subst (λ (l : List ℕ). Fills (decodeBatch u (length (midOf i (length out' - i) out')) s l)
+        (midOf i (length out' - i) out') k after part) (mid-rest bs i) f)))
 
     module _ (f : fit u ≡ true) (size : length before ≡ decoderWords u) (left : i < length bs) where
       abbrev r : ℕ
@@ -151,3 +169,7 @@ entry-is t s r mark info p q = go (ltb (fillOf s) (delayOf t))
         ≡ decodeEntries (cond b NothingYet (Delivery (delivered t s r)))
     go true = refl
     go false = ap₂ (λ (m : Mark) (i : ℕ). decodeEntry (markNumber m) i ∷ []) p q
+
+pub decode-size : (t : Table) (room : ℕ) (s bs : List ℕ) → length (decodeBatch t room s bs .entries) ≤ room
+unfolding decodeBatch
+decode-size t room s bs = batch-size (λ s r. decodeEntries (decodeAnswer t s r)) (decodeMemory t) room s bs .0

@@ -163,3 +163,81 @@ fn fill_judged(
     }
     i
 }
+
+// The same, as long as registers are 0, which are the image of 0: a batch of right blocks makes no basis.
+fn fill(t: Table, rows: &[u64], state: &mut [u64], blocks: &[u16], out: &mut [u32]) -> usize
+    requires { ⌜ (fit (withRows t (now rows)) ≡ true) × (length (now rows) ≡ 15)
+        × (length (now state) ≡ decoderWords (withRows t (now rows))) ⌝ }
+    ensures { λ r.
+        ⌜ Fills (decodeBatch (withRows t (now (rows .entry))) (length (now (out .entry))) (now (state .entry))
+        (now (blocks .entry))) (now (out .entry)) r (now (state .exit)) (now (out .exit)) ⌝ }
+{
+    let words = error_words(rows, t.symbols, 0);
+    let tables = lookup_of(&words, t.symbols);
+    let most = mask(t.symbols);
+    let top = one_at(t.span - 1);
+    let end = min(blocks.len(), out.len());
+    let mut i = 0;
+    while i < end {
+        let received = blocks[i] as u64;
+        if first_malformed(t.symbols, t.span, t.depth, i, state) {
+            return i;
+        }
+        if most < received {
+            return i;
+        }
+        let x = terms(state, t.span, top, look_up(&tables, received));
+        if x.register != 0 {
+            return i + fill_judged(t, rows, &tables, state, &blocks[i..], &mut out[i..]);
+        }
+        out[i] = take_block(
+            state,
+            t.symbols,
+            t.span,
+            t.depth,
+            x.w,
+            judged(Least::Found(0), 0),
+            received,
+        );
+        i += 1;
+    }
+    i
+}
+
+// Takes the received blocks one after another, with their entries into `out`, and answers how many: it ends where no
+// block is left, where `out` is full, and before a block that a single call would refuse. The rows are lent beside the
+// table, as for a step.
+pub fn fill_decoded(
+    t: Table,
+    rows: &[u64],
+    state: &mut [u64],
+    blocks: &[u16],
+    out: &mut [u32],
+) -> usize
+    ensures { λ r.
+        ⌜ Fills (decodeBatch (lent t (now (rows .entry))) (length (now (out .entry))) (now (state .entry))
+        (now (blocks .entry))) (now (out .entry)) r (now (state .exit)) (now (out .exit)) ⌝ }
+{
+    if !lent_fits(t, rows) {
+        return 0;
+    }
+    if state.len() != 2 + t.depth * (t.span + 1) {
+        return 0;
+    }
+    fill(t, rows, state, blocks, out)
+}
+
+// The part of `out` that is filled.
+pub fn decode_batch<'a>(
+    t: Table,
+    state: &mut [u64],
+    blocks: &[u16],
+    out: &'a mut [u32],
+) -> &'a mut [u32]
+    ensures { λ r.
+        ⌜ FillsPart (decodeBatch t (length (now (out .entry))) (now (state .entry)) (now (blocks .entry))) (now r)
+        (now (state .exit)) ⌝ }
+{
+    let count = fill_decoded(t, &t.rows, state, blocks, out);
+    &mut out[..count]
+}
