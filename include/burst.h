@@ -1,5 +1,5 @@
 /*
- * The relay's burst codec for C99 and C++: tables, coder, decoder.
+ * The relay's burst codec for C99 and C++: tables, and a coder and a decoder, by the block and by the batch.
  *
  * Link with libexport.a (make staticlib), which is for x86-64 Linux and needs memcpy, memmove and memset of the C
  * library. Nothing here keeps a state of its own, allocates, or calls back: a caller lends all memory, and a call writes
@@ -7,9 +7,10 @@
  * and so is that every call ends; docs/ASSURANCE.md has the statements. That this header fits the archive is tested.
  *
  * What a caller owes, as C cannot say it: a pointer is not null, not even with a length of 0, is aligned for its type,
- * and has behind it as many elements as the length says (18 for a table); what a call writes overlaps nothing else that
- * it is handed; and until it returns no other thread writes what it is handed, nor reads what it writes. A block is a
- * uint16_t: a number above 65,535 is cut to its low 16 bits by C before the call, and so is not itself refused.
+ * and has behind it as many elements as the number after it says, a length, a count or a room (18 for a table); what a
+ * call writes overlaps nothing else that it is handed; and until it returns no other thread writes what it is handed,
+ * nor reads what it writes. A block is a uint16_t: a number above 65,535 is cut to its low 16 bits by C before the call,
+ * and so is not itself refused.
  *
  * The code. A block has n symbols (bits): n - 1 of information, symbol j with weight 2^(j-1), and above them the parity,
  * symbol n. N is the decoding span, m the depth: blocks are dealt in turn to m streams. n is 2 to 16, N is 2 to 64, m is
@@ -32,7 +33,13 @@
  * k blocks after its next one. A step writes the turn, a decoder's fill, and the words of the turn's stream, and no
  * others. What is said of several steps is of steps with one table.
  *
- * Refusals. A call that refuses returns the number of the first reason that applies, and 0 means that it did not refuse:
+ * Batches. A batch is the steps of a list of blocks, one after another, each on the memory as the last left it, with an
+ * entry for each. It ends where no block is left, where its room is filled, and before the first block whose step would
+ * be refused, of which nothing is written. What is said of steps holds of those of batches, and of both mixed.
+ *
+ * Refusals. A call that refuses returns the number of the first reason that applies, and 0 means that it did not refuse.
+ * A batch returns how many blocks it took instead; it took all that it could if that is its length or its room, and if
+ * not, the step of the next block is refused, and the single call of that block returns the number.
  *
  *   reading a table, records left to right (place: the offset of the record's first byte)
  *      1  the bytes end where a kind byte is due (place: there, which is their length)
@@ -152,6 +159,37 @@ struct burst_coded burst_code(const uint64_t table[18], uint64_t *words, size_t 
  * Refused, 12 to 15, it writes no word. The table is only read, and its suitability is not tested.
  */
 struct burst_decoded burst_decode(const uint64_t table[18], uint64_t *words, size_t count, uint16_t received);
+
+/*
+ * Codes a list of blocks, each as burst_code does, on the memory as the block before it left it. Entry i is the coded
+ * block of infos[i], below 2^n.
+ *
+ * Returns how many blocks it took, which are the first of the list, and as many entries are filled. That is length or
+ * room, whichever is less, unless burst_code would refuse an earlier block: then it is the blocks before the first such.
+ * The words are those after as many calls of burst_code, and entries past those filled keep what they held; where the
+ * result is 0 nothing is written. The table and the list are only read, and the table's suitability is not tested.
+ *
+ * A caller that gets back less than length and less than room has, in infos[result], a block that is refused. burst_code
+ * of it says by which number, and writes nothing. It is 12 or 13 only at the first block, 14 only among the first m, as
+ * a step leaves its stream well-formed; else it is 15. A caller that got back its room goes on from infos[result].
+ */
+size_t burst_code_batch(const uint64_t table[18], uint64_t *words, size_t count, const uint16_t *infos, size_t length,
+                        uint32_t *entries, size_t room);
+
+/*
+ * Takes a list of received blocks, each as burst_decode does, on the memory as the block before it left it. Entry i is
+ * what the call of received[i] delivers: its low 16 bits are the information, and the bits above them the mark, 0
+ * nothing yet, 1 clean, 2 held, 3 corrected, 4 doubtful. An entry of nothing yet is 0. The error block that was removed
+ * is not in it.
+ *
+ * Returns how many blocks it took, and fills as many entries, as burst_code_batch does, with burst_decode for burst_code
+ * and received for infos: all of the list, or its room, or those before the first block that burst_decode would refuse.
+ * Entries past those filled keep what they held, where the result is 0 nothing is written, the table and the list are
+ * only read, and the table's suitability is not tested. A caller learns in the same way why it ended. As a block that is
+ * left out shifts all later ones by a place, one that is refused for 15 is handed in again as any block below 2^n.
+ */
+size_t burst_decode_batch(const uint64_t table[18], uint64_t *words, size_t count, const uint16_t *received,
+                          size_t length, uint32_t *entries, size_t room);
 
 #ifdef __cplusplus
 }

@@ -1,5 +1,6 @@
 /*
- * The C interface, called: 01's examples T1 to T6, T8 for n = 5, and T9 to T12, and each refusal's number with what it leaves unwritten.
+ * The C interface, called: 01's examples T1 to T6, T8 for n = 5, and T9 to T12, and each refusal's number with what it leaves unwritten;
+ * T10 to T12 by the batch too, and each way that a batch ends.
  * Prints one line a call. What it prints is held to interface.stdout; that the functions do this on every input is proved.
  */
 #include <inttypes.h>
@@ -115,6 +116,62 @@ static void decode(size_t count, uint16_t received)
     numbers(words, (int)count);
 }
 
+typedef size_t batch_call(const uint64_t table[18], uint64_t *words, size_t count, const uint16_t *blocks, size_t length, uint32_t *entries,
+                          size_t room);
+
+/* The entries are two more than the room, and are printed all, those that were not written as a dash. */
+static void batch(const char *what, batch_call *call, size_t count, const uint16_t *blocks, size_t length, size_t room)
+{
+    uint32_t entries[10];
+    size_t taken;
+    size_t i;
+    memset(entries, 0xff, sizeof entries);
+    memcpy(before, words, sizeof words);
+    taken = call(table, words, count, blocks, length, entries, room);
+    printf("%s batch of %d, room %d: %d; entries", what, (int)length, (int)room, (int)taken);
+    for (i = 0; i < room + 2; i++) {
+        if (entries[i] == UINT32_MAX) {
+            printf(" -");
+        } else {
+            printf(" %" PRIu32, entries[i]);
+        }
+    }
+    printf("; %s", memcmp(before, words, sizeof words) ? "words" : "unchanged");
+    numbers(words, (int)count);
+}
+
+/* With the table Z. */
+static void batches(const uint16_t t10[5], const uint16_t t11[4])
+{
+    static const uint16_t zeros[8] = {0};
+    static const uint16_t large_info[] = {1, 0, 2, 0};
+    static const uint16_t large_block[] = {0, 0, 0, 4, 0};
+
+    start_coder(2);
+    batch("code T10,", burst_code_batch, 2, t10, 5, 5);
+    batch("code", burst_code_batch, 2, t10, 5, 0);
+    batch("code", burst_code_batch, 2, t10, 0, 3);
+    batch("code", burst_code_batch, 2, t10, 5, 2);
+    batch("code", burst_code_batch, 2, t10 + 2, 3, 6);
+    batch("code", burst_code_batch, 2, large_info, 4, 4);
+    batch("code", burst_code_batch, 2, large_info + 2, 2, 4);
+    batch("code", burst_code_batch, 3, t10, 5, 5);
+    words[1] = 8;
+    batch("code", burst_code_batch, 2, t10, 5, 5);
+    start_decoder(7);
+    batch("decode T11,", burst_decode_batch, 7, t11, 4, 4);
+    start_decoder(7);
+    words[1] = 3;
+    words[2] = 4;
+    batch("decode T12,", burst_decode_batch, 7, zeros, 7, 8);
+    words[4] = words[6] = 1;
+    batch("decode", burst_decode_batch, 7, large_block, 5, 5);
+    batch("decode", burst_decode_batch, 7, large_block + 3, 2, 5);
+    batch("decode", burst_decode_batch, 6, zeros, 2, 2);
+    words[1] = 4;
+    batch("decode", burst_decode_batch, 7, zeros, 2, 2);
+}
+
 int main(void)
 {
     static const uint8_t z[] = {1, 2, 4, 1, 2, 1, 10, 0, 0, 0, 0, 0, 0, 0, 0, 0};
@@ -174,6 +231,7 @@ int main(void)
     words[4] = 2;
     decode(7, 0);
     start_decoder(8);
+    batches(t10, t11);
 
     kept = table[0];
     table[0] = UINT64_MAX;
@@ -181,11 +239,15 @@ int main(void)
     start_decoder(7);
     code(2, 0);
     decode(7, 0);
+    batch("code", burst_code_batch, 2, t10, 5, 5);
+    batch("decode", burst_decode_batch, 7, t11, 4, 4);
     table[0] = kept;
     table[4] = UINT64_MAX; /* row 2, which a table of two symbols has not */
     start_decoder(7);
     decode(7, 0);
+    batch("decode", burst_decode_batch, 7, t11, 4, 4);
     table[3] = 16;
     decode(7, 0);
+    batch("decode", burst_decode_batch, 7, t11, 4, 4);
     return 0;
 }
