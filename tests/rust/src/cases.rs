@@ -98,7 +98,7 @@ fn dependent_row(draw: &mut Draw, before: &[u64]) -> u64 {
 }
 
 /// Rows past n − 1 do not matter; half of the time something stands there.
-fn with_unused_rows(draw: &mut Draw, mut table: Table) -> Table {
+pub fn with_unused_rows(draw: &mut Draw, mut table: Table) -> Table {
     if draw.once_in(2) {
         for row in &mut table.rows[table.n as usize - 1..MOST_ROWS] {
             *row = draw.number();
@@ -360,7 +360,7 @@ pub fn well_formed_decoder(draw: &mut Draw, table: &Table) -> Vec<u64> {
 }
 
 /// A word that is 2^bits or more: the least such, the greatest, or any.
-fn too_large(draw: &mut Draw, bits: u64) -> u64 {
+pub fn too_large(draw: &mut Draw, bits: u64) -> u64 {
     match draw.below(3) {
         0 => 1 << bits,
         1 => u64::MAX,

@@ -52,7 +52,29 @@ pub mod linked {
         fn burst_start_decoder(table: *const u64, words: *mut u64, count: usize) -> u64;
         fn burst_code(table: *const u64, words: *mut u64, count: usize, info: u16) -> Coded;
         fn burst_decode(table: *const u64, words: *mut u64, count: usize, received: u16) -> Decoded;
+        fn burst_code_batch(
+            table: *const u64,
+            words: *mut u64,
+            count: usize,
+            infos: *const u16,
+            length: usize,
+            entries: *mut u32,
+            room: usize,
+        ) -> usize;
+        fn burst_decode_batch(
+            table: *const u64,
+            words: *mut u64,
+            count: usize,
+            received: *const u16,
+            length: usize,
+            entries: *mut u32,
+            room: usize,
+        ) -> usize;
     }
+
+    /// Table, words and their count, blocks and their length, entries and their room.
+    type Batch =
+        unsafe extern "C" fn(*const u64, *mut u64, usize, *const u16, usize, *mut u32, usize) -> usize;
 
     /// What the numbers lent for a table hold before the call: a refusal leaves them so.
     pub const UNWRITTEN: Numbers = [0xA5A5_A5A5_A5A5_A5A5; 18];
@@ -89,6 +111,22 @@ pub mod linked {
     pub fn decode(table: &Numbers, words: &mut [u64], received: u16) -> Decoded {
         // SAFETY: as for starting.
         unsafe { burst_decode(table.as_ptr(), words.as_mut_ptr(), words.len(), received) }
+    }
+
+    fn batch(call: Batch, table: &Numbers, words: &mut [u64], blocks: &[u16], entries: &mut [u32]) -> usize {
+        let (list, output) = (blocks.as_ptr(), entries.as_mut_ptr());
+        // SAFETY: as for starting, for each of the three slices.
+        unsafe {
+            call(table.as_ptr(), words.as_mut_ptr(), words.len(), list, blocks.len(), output, entries.len())
+        }
+    }
+
+    pub fn code_batch(table: &Numbers, words: &mut [u64], infos: &[u16], entries: &mut [u32]) -> usize {
+        batch(burst_code_batch, table, words, infos, entries)
+    }
+
+    pub fn decode_batch(table: &Numbers, words: &mut [u64], received: &[u16], entries: &mut [u32]) -> usize {
+        batch(burst_decode_batch, table, words, received, entries)
     }
 }
 

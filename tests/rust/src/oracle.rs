@@ -475,6 +475,47 @@ pub fn decode(table: &Table, words: &mut [u64], received: u64) -> Result<Option<
     Ok(Some(Delivered { info, mark: mark_of(register, error) }))
 }
 
+// ---- Batches ----
+
+// A batch is told by its single calls, and so is this one: the steps above, which other groups compare with the
+// archive's single calls. Nothing is tested ahead, kept between blocks or written later, as one for speed would.
+
+/// Takes blocks while one is left and there is room for its entry, up to the first that is refused, and says how
+/// many.
+fn batch(blocks: &[u16], entries: &mut [u32], mut step: impl FnMut(u64) -> Result<u32, u64>) -> usize {
+    let mut taken = 0;
+    while taken < blocks.len() && taken < entries.len() {
+        match step(u64::from(blocks[taken])) {
+            Ok(entry) => entries[taken] = entry,
+            Err(_) => break,
+        }
+        taken += 1;
+    }
+    taken
+}
+
+/// An entry is the coded block.
+pub fn code_batch(table: &Table, words: &mut [u64], infos: &[u16], entries: &mut [u32]) -> usize {
+    batch(infos, entries, |info| code(table, words, info).map(|block| block as u32))
+}
+
+fn mark_number(mark: Mark) -> u32 {
+    match mark {
+        Mark::Clean => 1,
+        Mark::Held => 2,
+        Mark::Corrected(_) => 3,
+        Mark::Doubtful => 4,
+    }
+}
+
+/// An entry has the information in its low 16 bits and the mark's number above them; "nothing yet" is 0.
+pub fn decode_batch(table: &Table, words: &mut [u64], received: &[u16], entries: &mut [u32]) -> usize {
+    batch(received, entries, |block| {
+        let delivered = decode(table, words, block)?;
+        Ok(delivered.map_or(0, |Delivered { info, mark }| mark_number(mark) << 16 | info as u32))
+    })
+}
+
 // ---- The listing program ----
 
 fn listing_line(number: u64, delivered: Delivered) -> String {

@@ -93,6 +93,41 @@ fn t12_the_unneeded_parity_mark() {
     assert_eq!(answers[6], Ok(Some(Delivered { info: 0, mark: Mark::Clean })));
 }
 
+/// What entries hold before a batch; no batch writes such a number.
+const KEPT: u32 = u32::MAX;
+
+#[test]
+fn t10_to_t12_by_the_batch() {
+    let (mut coder, mut decoder) = ([0; 2], [0; 7]);
+    let mut entries = [KEPT; 7];
+    assert_eq!(code_batch(&z(1), &mut coder, &[1, 1, 0, 0, 0], &mut entries), 5);
+    assert_eq!(entries, [1, 3, 2, 2, 2, KEPT, KEPT]);
+    assert_eq!(decode_batch(&z(1), &mut decoder, &[2, 2, 0, 0], &mut entries), 4);
+    assert_eq!(entries, [0, 0, 0, 4 << 16, 2, KEPT, KEPT]);
+    decoder = [0, 3, 4, 0, 0, 0, 0];
+    assert_eq!(decode_batch(&z(1), &mut decoder, &[0; 7], &mut entries), 7);
+    assert_eq!(entries.map(|entry| entry >> 16), [1, 1, 2, 2, 2, 3, 1]);
+    assert_eq!(decoder, [0, 3, 0, 0, 0, 0, 0]);
+}
+
+#[test]
+fn a_batch_ends_at_its_room_and_before_what_is_refused() {
+    let mut entries = [KEPT; 4];
+    let mut decoder = [0, 3, 0, 0, 1, 0, 1];
+    assert_eq!(decode_batch(&z(1), &mut decoder, &[0; 3], &mut entries[..0]), 0);
+    assert_eq!(decode_batch(&z(1), &mut decoder, &[], &mut entries), 0);
+    assert_eq!(decode_batch(&z(1), &mut decoder, &[4, 0], &mut entries), 0);
+    assert_eq!((decoder, entries), ([0, 3, 0, 0, 1, 0, 1], [KEPT; 4]));
+    assert_eq!(decode_batch(&z(1), &mut decoder, &[0; 3], &mut entries[..1]), 1);
+    assert_eq!(decode_batch(&z(1), &mut decoder, &[0, 0, 4, 0], &mut entries), 2);
+    assert_eq!((decoder, entries), ([0, 3, 0, 0, 0, 0, 0], [1 << 16, 1 << 16 | 1, KEPT, KEPT]));
+    let mut coder = [1, 0, 8, 0]; // of three streams the second is malformed, and the turn's
+    assert_eq!(code_batch(&z(3), &mut coder, &[1; 4], &mut entries), 0);
+    coder[0] = 2;
+    assert_eq!(code_batch(&z(3), &mut coder, &[1; 4], &mut entries), 2);
+    assert_eq!((coder, entries), ([1, 5, 8, 5], [1, 1, KEPT, KEPT]));
+}
+
 #[test]
 fn listing_example() {
     let input = [2, 1, 1, 0, 0, 0, 0, 0, 0, 0, 0, 0];
