@@ -9,6 +9,8 @@ use std::fmt::Debug;
 use std::ops::Range;
 use std::time::Instant;
 
+mod batches;
+
 const SEED: u64 = 0x9E37_79B9_7F4A_7C15;
 const LEAST_CALLS: u64 = 10_000_000;
 const SHOWN_MISMATCHES: usize = 3;
@@ -20,6 +22,7 @@ struct Tally {
     calls: u64,
     refusals: [u64; 16],
     marks: [u64; 5],
+    batches: batches::Count,
     mismatches: u64,
     shown: Vec<String>,
 }
@@ -228,9 +231,16 @@ struct Side {
     linked_start: fn(&Numbers, &mut [u64]) -> u64,
     refusal: fn(&Table, &[u64], u64) -> Option<u64>,
     compare: fn(&mut Tally, &Table, &mut Twin, u16),
+    plain_batch: fn(&Table, &mut [u64], &[u16], &mut [u32]) -> usize,
+    linked_batch: fn(&Numbers, &mut [u64], &[u16], &mut [u32]) -> usize,
+    /// The entry of a block by the linked single call, or why that is refused.
+    linked_entry: fn(&Numbers, &mut [u64], u16) -> Result<u32, u64>,
     memory: fn(&mut Draw, &Table) -> Vec<u64>,
+    well_formed: fn(&mut Draw, &Table) -> Vec<u64>,
     /// How many bits a block has that a step is handed, by n.
     bits: fn(u64) -> u64,
+    /// One past what is fit of each word, by n, N and m.
+    bounds: fn(u64, u64, u64) -> Vec<u64>,
 }
 
 const CODER: Side = Side {
@@ -239,8 +249,16 @@ const CODER: Side = Side {
     linked_start: linked::start_coder,
     refusal: oracle::code_refusal,
     compare: |tally, table, twin, info| _ = compare_code(tally, table, twin, info),
+    plain_batch: oracle::code_batch,
+    linked_batch: linked::code_batch,
+    linked_entry: |table, words, info| match linked::code(table, words, info) {
+        Coded { refused: 0, block } => Ok(block as u32),
+        Coded { refused, .. } => Err(refused),
+    },
     memory: any_coder_memory,
+    well_formed: well_formed_coder,
     bits: |n| n - 1,
+    bounds: |_, span, depth| [vec![depth], vec![1 << (span - 1); depth as usize]].concat(),
 };
 
 const DECODER: Side = Side {
@@ -249,8 +267,19 @@ const DECODER: Side = Side {
     linked_start: linked::start_decoder,
     refusal: oracle::decode_refusal,
     compare: |tally, table, twin, received| _ = compare_decode(tally, table, twin, received),
+    plain_batch: oracle::decode_batch,
+    linked_batch: linked::decode_batch,
+    linked_entry: |table, words, received| match linked::decode(table, words, received) {
+        Decoded { refused: 0, info, mark, .. } => Ok((mark << 16 | info) as u32),
+        Decoded { refused, .. } => Err(refused),
+    },
     memory: any_decoder_memory,
+    well_formed: well_formed_decoder,
     bits: |n| n,
+    bounds: |n, span, depth| {
+        let stream = [vec![1 << (span - 1); 2], vec![1 << (n - 1); span as usize - 1]].concat();
+        [vec![depth, depth * (span - 1) + 1], stream.repeat(depth as usize)].concat()
+    },
 };
 
 impl Side {
@@ -305,18 +334,27 @@ impl Side {
         twin.lend_all();
     }
 
-    /// Steps on every table of these sizes and every memory within the bounds, which are one past what is fit, so
-    /// that refusals 12, 14 and 15 come by themselves.
-    fn every_small(&self, tally: &mut Tally, (n, span, depth): (u64, u64, u64), mut bounds: Vec<u64>) {
-        bounds.push(1 << (self.bits)(n));
+    /// Calls with every table of these sizes, every memory and every list of so many blocks within the bounds, which
+    /// are one past what is fit, so that refusals 12, 14 and 15 come by themselves.
+    fn every_small(
+        &self,
+        (n, span, depth): (u64, u64, u64),
+        length: usize,
+        mut call: impl FnMut(&Table, &mut Twin, &[u16]),
+    ) {
+        let words = (self.bounds)(n, span, depth);
+        let bounds = [words.clone(), vec![1 << (self.bits)(n); length]].concat();
         let rows = vec![1 << span; n as usize - 1];
         let mut twin = Twin::new(Vec::new());
+        let mut blocks = vec![0; length];
         each_tuple(&rows, |rows| {
             let table = Table::new(n, span, depth, rows);
             each_tuple(&bounds, |tuple| {
-                let (block, words) = tuple.split_last().unwrap_or((&0, &[]));
-                twin.set(words);
-                (self.compare)(tally, &table, &mut twin, *block as u16);
+                twin.set(&tuple[..words.len()]);
+                for (block, &number) in blocks.iter_mut().zip(&tuple[words.len()..]) {
+                    *block = number as u16;
+                }
+                call(&table, &mut twin, &blocks);
             });
         });
     }
@@ -574,19 +612,11 @@ fn each_tuple(bounds: &[u64], mut call: impl FnMut(&[u64])) {
 
 fn every_small_memory(tally: &mut Tally, _: &mut Draw) {
     for sizes in [(2, 2, 1), (2, 3, 1), (2, 2, 2), (3, 2, 1), (2, 4, 1)] {
-        let (n, span, depth) = sizes;
-        let mut bounds = vec![depth, depth * (span - 1) + 1];
-        for _ in 0..depth {
-            bounds.extend([1 << (span - 1); 2]);
-            bounds.extend(vec![1 << (n - 1); span as usize - 1]);
-        }
-        DECODER.every_small(tally, sizes, bounds);
+        DECODER
+            .every_small(sizes, 1, |table, twin, blocks| _ = compare_decode(tally, table, twin, blocks[0]));
     }
     for sizes in [(2, 2, 1), (2, 4, 2), (2, 3, 3), (3, 3, 2), (3, 4, 1), (4, 2, 2)] {
-        let (_, span, depth) = sizes;
-        let mut bounds = vec![depth];
-        bounds.extend(vec![1 << (span - 1); depth as usize]);
-        CODER.every_small(tally, sizes, bounds);
+        CODER.every_small(sizes, 1, |table, twin, blocks| _ = compare_code(tally, table, twin, blocks[0]));
     }
 }
 
@@ -895,8 +925,9 @@ fn everything_reached(tally: &mut Tally, _: &mut Draw) {
         let reached = tally.marks[mark] > 0;
         tally.check(reached, || format!("mark {mark} was not reached"));
     }
-    let calls = tally.calls;
-    tally.check(calls >= LEAST_CALLS, || format!("only {calls} calls compared"));
+    batches::everything_reached(tally);
+    let calls = tally.calls - tally.batches.batches;
+    tally.check(calls >= LEAST_CALLS, || format!("only {calls} calls compared, batches apart"));
 }
 
 // ---- Listed cases ----
@@ -949,7 +980,7 @@ fn check_step(tally: &mut Tally, StepCase { table, memory, step, after }: &StepC
 
 type Group = (&'static str, fn(&mut Tally, &mut Draw));
 
-const GROUPS: [Group; 24] = [
+const GROUPS: [Group; 33] = [
     ("examples of tables", examples_of_tables),
     ("examples of steps", examples_of_steps),
     ("bytes of every refusal and place", bytes_of_every_refusal),
@@ -973,6 +1004,15 @@ const GROUPS: [Group; 24] = [
     ("malformed memories take few", malformed_memory_takes_few),
     ("the listing program", listings),
     ("triangle forced", triangle_forced),
+    ("batches: examples", batches::examples),
+    ("batches: any cut of a run", batches::any_cut),
+    ("batches: every length, room and block too large", batches::every_length_and_room),
+    ("batches: malformed memories", batches::malformed),
+    ("batches: every small memory", batches::every_small_memory),
+    ("batches: single calls and refusals in between", batches::mixed),
+    ("batches: the first wrong block at each place", batches::first_wrong_block),
+    ("batches: unused rows", batches::unused_rows),
+    ("batches: every block", batches::every_block),
     ("everything reached", everything_reached),
 ];
 
@@ -1029,6 +1069,7 @@ fn main() {
     println!("{} calls compared", tally.calls);
     println!("refusals 1 to 15: {:?}", &tally.refusals[1..]);
     println!("marks 0 to 4: {:?}", tally.marks);
+    println!("{}", tally.batches);
     println!("{passed} passed, {failed} failed");
     std::process::exit(i32::from(failed > 0));
 }
