@@ -1,7 +1,9 @@
 //! Prints what a call takes in nanoseconds, the proved codec and the one written for speed in the same run, and their ratio: medians of
-//! several rounds, the ratio's too, answers and memories compared throughout. Last, how much longer the images of all error blocks of 16
-//! symbols take with a span of 64 than with one of 4.
+//! several rounds, the ratio's too, answers and memories compared throughout. Then how much longer the images of all error blocks of 16
+//! symbols take with a span of 64 than with one of 4. Last, batches against single calls; the exit status is 1 if they are slower than is
+//! asked for.
 
+mod batch;
 mod fast;
 
 use std::time::Instant;
@@ -216,4 +218,8 @@ fn main() {
         report("reading a table", &t, || timed(&once, 0, read), || timed(&once, 0, fast_read));
     }
     report_images();
+    if !batch::report_all(&mut random) {
+        println!("a batch of 256 blocks or more is slower than is asked for");
+        std::process::exit(1);
+    }
 }
