@@ -14,9 +14,10 @@
 use mathlib.Core.Path.{_≡_, refl, sym, ap, ap₂, _∙_, subst}
 use mathlib.Core.Logic.{_↔_, _⊎_, inl, inr}
 use mathlib.Core.List.{List, [], _∷_, _++_, map, map-append}
-use Prim.Native.Nat.{ℕ, zero, suc, _-_, _≤_, _<_}
+use Prim.Native.Nat.{ℕ, zero, suc, _-_, _/_, _%_, _^_, _≤_, _<_}
 use native.Mathlib.Omega.{arith}
 use native.Mathlib.Decide.{ℕ-discrete}
+use lib.Pow.{pow-mono}
 use lib.ListN.{length, getD, take, length-take, length-map, List·getD-map}
 use Rattle.tables.specs.declared.table.Table.{Table}
 use Rattle.link.specs.declared.code.CodeAnswer.the-variants.{Refused as CodeRefused}
@@ -25,15 +26,18 @@ use Rattle.link.specs.declared.decode.DecodeAnswer.the-variants.{Deliver
 use Rattle.link.specs.Refusals.{coderFault, decoderFault}
 use Rattle.link.specs.Coder.{codedBlock, codeAnswer, codeMemory}
 use Rattle.link.specs.Decoder.{decodeAnswer, decodeMemory, markNumber}
-use Rattle.link.specs.Runs.{Call, Taken, run, ran, takenBy, takenOf, noneTaken}
+use Rattle.link.specs.Memory.{delayOf}
+use Rattle.link.specs.Runs.{Call, Sent, Taken, run, ran, sentBy, sentAt, sentOf, noneSent, takenBy, takenOf}
+use Rattle.link.specs.Runs.{noneTaken}
 use Rattle.link.specs.Batch.{Batch, ended, batch, codeEntries, decodeEntry, decodeEntries, codeBatch, decodeBatch}
 use Rattle.link.specs.Batches.{singly, Ends, Handed, filled, after, callsOf, coderBatch, decoderBatch}
 use Rattle.link.specs.Batches.{SHORTER, BATCH-RUN, SINGLE, MIXTURE, RECOVERY-BATCHES}
-use Rattle.link.proofs.Coder.{codes, code-refuses}
+use Rattle.link.proofs.Coder.{codes, code-refuses, coder-taken}
 use Rattle.link.proofs.Decoder.{decodes, decode-refuses}
 use Rattle.link.proofs.Calls.{delivery-taken}
 use Rattle.link.proofs.Batch.{batch-none, batch-full, batch-refused, batch-taken, batch-size}
-use Rattle.link.proofs.Runs.{run-append}
+use Rattle.link.proofs.Runs.{run-append, sent-place, sent-told, sentEntry, coderBefore}
+use Rattle.link.proofs.Entry.{entry-read}
 use Rattle.link.proofs.Recovery.{recovery}
 
 -- es are the call's entries, s and next the memory before and after it
@@ -297,11 +301,19 @@ pub batch-run : BATCH-RUN
 unfolding codeBatch decodeBatch
 batch-run = (
   λ t room s bs.
-      let r = batch-ran codeMemory codeKept codeRefused code-one t room s bs in
-      (batch-size (codeKept t) (codeMemory t) room s bs .1, r .entries-are, r .memory-is),
+      let r = batch-ran codeMemory codeKept codeRefused code-one t room s bs in (
+        batch-size (codeKept t) (codeMemory t) room s bs .1,
+        batch-size (codeKept t) (codeMemory t) room s bs .0,
+        r .entries-are,
+        r .memory-is,
+      ),
   λ t room s bs.
-      let r = batch-ran decodeMemory decodeKept decodeRefused decode-one t room s bs in
-      (batch-size (decodeKept t) (decodeMemory t) room s bs .1, r .entries-are, r .memory-is),
+      let r = batch-ran decodeMemory decodeKept decodeRefused decode-one t room s bs in (
+        batch-size (decodeKept t) (decodeMemory t) room s bs .1,
+        batch-size (decodeKept t) (decodeMemory t) room s bs .0,
+        r .entries-are,
+        r .memory-is,
+      ),
 )
 
 pub single : SINGLE
@@ -314,9 +326,9 @@ single = (
 pub mixture : MIXTURE
 mixture s hs = (
   mixture-so codeMemory codeKept coderBatch
-      (λ s h. let r = batch-run .0 (h .table) (h .room) s (h .blocks) in (r .1, r .2)) s hs,
+      (λ s h. let r = batch-run .0 (h .table) (h .room) s (h .blocks) in (r .2, r .3)) s hs,
   mixture-so decodeMemory decodeKept decoderBatch
-      (λ s h. let r = batch-run .1 (h .table) (h .room) s (h .blocks) in (r .1, r .2)) s hs,
+      (λ s h. let r = batch-run .1 (h .table) (h .room) s (h .blocks) in (r .2, r .3)) s hs,
 )
 
 -- the entry of a block taken
@@ -328,18 +340,35 @@ entries-told t r (Delivery d) = refl
 entries-told t r NothingYet = refl
 entries-told t r (DecodeRefused k) = refl
 
+-- what was sent has 16 bits at most
+info-fits : (s : List ℕ) (cs : List Call) (p : ℕ) → p < length (sentBy s cs)
+    → getD (sentBy s cs) p noneSent .info < 2 ^ 16
+info-fits s cs p h =
+    let k = sent-place s cs p h in
+    let c = coder-taken (k .call .table) (coderBefore s cs p) (k .call .block) (k .taken) in
+    let n : k .call .table .symbols - 1 ≤ 16 = (let z = c .sizes .n-to in omega arith) in
+    let most = pow-mono n in
+    let low = c .info in
+    let e = ap (λ (x : Sent). x .info) (k .is (λ t s b. sentOf t b (codeAnswer t s b)) sentEntry sent-told noneSent) in
+    omega arith
+
 pub recovery-batches : RECOVERY-BATCHES
 recovery-batches t coder decoder hs gs f p late h =
+    let cs = callsOf coderBatch coder hs in
     let ds = callsOf decoderBatch decoder gs in
+    let sent = sentBy coder cs in
     let taken = takenBy decoder ds in
     let all : filled decoderBatch decoder gs ≡ map entryOf taken =
     mixture decoder gs .1 .0
     ∙ run-map entryOf decodeMemory (λ t s r. takenOf t r (decodeAnswer t s r)) decodeKept
     (λ t s r. entries-told t r (decodeAnswer t s r)) decoder ds in
     let size : length (filled decoderBatch decoder gs) ≡ length taken = ap length all ∙ length-map taken entryOf in
-    let r = recovery t coder decoder (callsOf coderBatch coder hs) ds f p late (omega arith) in (
-      r .0,
-      ap (λ (es : List ℕ). getD es (p - 1) 0) all ∙ List·getD-map entryOf taken (p - 1) noneTaken
-          ∙ ap (λ (a : DecodeAnswer). getD (decodeEntries a) 0 0) (r .1),
-      r .2,
-    )
+    let r = recovery t coder decoder cs ds f p late (omega arith) in
+    let enough = f .running .enough in
+    let low : sentAt sent (p - delayOf t) .info < 2 ^ 16 = info-fits coder cs (p - delayOf t - 1) (omega arith) in
+    let is : getD (filled decoderBatch decoder gs) (p - 1) 0
+    ≡ decodeEntry (markNumber (r .0)) (sentAt sent (p - delayOf t) .info) =
+    ap (λ (es : List ℕ). getD es (p - 1) 0) all ∙ List·getD-map entryOf taken (p - 1) noneTaken
+    ∙ ap (λ (a : DecodeAnswer). getD (decodeEntries a) 0 0) (r .1) in
+    let parts = entry-read (markNumber (r .0)) (sentAt sent (p - delayOf t) .info) low in
+    (r .0, ap (λ (e : ℕ). e % 2 ^ 16) is ∙ parts .0, ap (λ (e : ℕ). e / 2 ^ 16) is ∙ parts .1, r .2)

@@ -1,7 +1,7 @@
 -- The entry of a single call in a batch, by its fault: none of a call that is refused. Assumes nothing.
 --
---   code-none, code-one       the coder's
---   decode-none, decode-one   the decoder's
+--   coded-none, coded-one       the coder's
+--   decoded-none, decoded-one   the decoder's
 --   code-unfit, decode-unfit  with a table or a memory that 12 or 13 refuses, no block has an entry
 use mathlib.Core.Path.{_≡_, sym, ap, _∙_}
 use mathlib.Core.Bool.{Bool, true, false}
@@ -21,29 +21,29 @@ use Rattle.link.proofs.Coder.{codes, code-refuses, coder-fault}
 use Rattle.link.proofs.Decoder.{decodes, decode-refuses, decoder-fault}
 
 module _ (t : Table) (s : List ℕ) (b : ℕ) where
-  pub code-none : (k : ℕ) → coderFault t s b ≡ k → 0 < k → codeEntries (codeAnswer t s b) ≡ []
-  code-none k e some = ap codeEntries (sym (code-refuses t s b k e some .0))
+  pub coded-none : (k : ℕ) → coderFault t s b ≡ k → 0 < k → codeEntries (codeAnswer t s b) ≡ []
+  coded-none k e some = ap codeEntries (sym (code-refuses t s b k e some .0))
 
-  pub code-one : coderFault t s b ≡ 0 → codeEntries (codeAnswer t s b) ≡ codedBlock t s b ∷ []
-  code-one e = ap codeEntries (sym (codes t s b e .0))
+  pub coded-one : coderFault t s b ≡ 0 → codeEntries (codeAnswer t s b) ≡ codedBlock t s b ∷ []
+  coded-one e = ap codeEntries (sym (codes t s b e .0))
 
-  pub decode-none : (k : ℕ) → decoderFault t s b ≡ k → 0 < k → decodeEntries (decodeAnswer t s b) ≡ []
-  decode-none k e some = ap decodeEntries (sym (decode-refuses t s b k e some .0))
+  pub decoded-none : (k : ℕ) → decoderFault t s b ≡ k → 0 < k → decodeEntries (decodeAnswer t s b) ≡ []
+  decoded-none k e some = ap decodeEntries (sym (decode-refuses t s b k e some .0))
 
-  pub decode-one : decoderFault t s b ≡ 0 → decodeEntries (decodeAnswer t s b) ≡ decodeEntries (delivery t s b)
-  decode-one e = ap decodeEntries (sym (decodes t s b e .0))
+  pub decoded-one : decoderFault t s b ≡ 0 → decodeEntries (decodeAnswer t s b) ≡ decodeEntries (delivery t s b)
+  decoded-one e = ap decodeEntries (sym (decodes t s b e .0))
 
 module _ (t : Table) (s : List ℕ) where
   pub code-unfit : fit t ≡ false → (b : ℕ) → codeEntries (codeAnswer t s b) ≡ []
-  code-unfit f b = code-none t s b 12 (coder-fault t s b ∙ simp f) (omega arith)
+  code-unfit f b = coded-none t s b 12 (coder-fault t s b ∙ simp f) (omega arith)
 
   pub code-other : fit t ≡ true → (length s ≡ coderWords t → ⊥) → (b : ℕ) → codeEntries (codeAnswer t s b) ≡ []
   code-other f long b =
-      code-none t s b 13 (coder-fault t s b ∙ simp (f, ne-eqb (length s) (coderWords t) long)) (omega arith)
+      coded-none t s b 13 (coder-fault t s b ∙ simp (f, ne-eqb (length s) (coderWords t) long)) (omega arith)
 
   pub decode-unfit : fit t ≡ false → (r : ℕ) → decodeEntries (decodeAnswer t s r) ≡ []
-  decode-unfit f r = decode-none t s r 12 (decoder-fault t s r ∙ simp f) (omega arith)
+  decode-unfit f r = decoded-none t s r 12 (decoder-fault t s r ∙ simp f) (omega arith)
 
   pub decode-other : fit t ≡ true → (length s ≡ decoderWords t → ⊥) → (r : ℕ) → decodeEntries (decodeAnswer t s r) ≡ []
   decode-other f long r =
-      decode-none t s r 13 (decoder-fault t s r ∙ simp (f, ne-eqb (length s) (decoderWords t) long)) (omega arith)
+      decoded-none t s r 13 (decoder-fault t s r ∙ simp (f, ne-eqb (length s) (decoderWords t) long)) (omega arith)

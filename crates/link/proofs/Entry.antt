@@ -1,9 +1,11 @@
--- The decoder's entry in a batch: information below 2^16, so that the mark above it is read off again. Assumes nothing.
+-- Entries of a batch as numbers: a decoder's has information below 2^16, so that the mark above it is read off again.
+-- Assumes nothing.
 --
 --   delivered-fits   the information delivered has 16 bits at most
 --   entry-read       the parts of an entry
---   entry-parts      those of a step that is taken
-use mathlib.Core.Path.{_≡_, refl, subst}
+--   entry-is         the entry of a step, of the words of its record
+--   entry-parts      those of a call that is not refused
+use mathlib.Core.Path.{_≡_, refl, sym, ap₂, _∙_}
 use mathlib.Core.Bool.{Bool, true, false, cond}
 use mathlib.Core.List.{List, [], _∷_}
 use Prim.Native.Nat.{ℕ, _-_, _/_, _%_, _^_, _≤_, _<_}
@@ -14,14 +16,17 @@ use lib.ListN.{getD}
 use lib.Pow.{pow-pos, pow-mono}
 use Rattle.span.proofs.Word.{xor-lt}
 use Rattle.tables.specs.declared.table.Table.{Table}
-use Rattle.link.specs.declared.decode.DecodeAnswer.{DecodeAnswer}
+use Rattle.link.specs.declared.decode.Mark.{Mark}
+use Rattle.link.specs.declared.decode.Mark.the-variants.{Clean, Held, Corrected, Doubtful}
 use Rattle.link.specs.declared.decode.DecodeAnswer.the-variants.{Delivery, NothingYet}
 use Rattle.link.specs.Memory.{turnOf, fillOf, delayOf, delayedOf}
 use Rattle.link.specs.Step.{errorOf}
 use Rattle.link.specs.Refusals.{decoderFault}
-use Rattle.link.specs.Decoder.{decoderFound, delivered, delivery, decodeValues, recordNumbers, markNumber}
+use Rattle.link.specs.Decoder.{decoderFound, decodeAnswer, delivered, delivery, decodeValues, recordNumbers, markNumber}
 use Rattle.link.specs.Batch.{decodeEntry, decodeEntries, ENTRY}
-use Rattle.link.proofs.Decoder.{decodes, decoder-taken}
+use Rattle.link.proofs.Coder.{coded-fits}
+use Rattle.link.proofs.Decoder.{decoder-taken}
+use Rattle.link.proofs.Entries.{coded-one, decoded-one}
 use Rattle.link.proofs.Room.{oldest-lt}
 
 pub delivered-fits : (t : Table) (s : List ℕ) (r : ℕ) → decoderFault t s r ≡ 0 → delivered t s r .info < 2 ^ 16
@@ -36,23 +41,58 @@ delivered-fits t s r e =
     let most = pow-mono narrow in
     omega arith
 
-entry-read : (mark info : ℕ) → info < 2 ^ 16
+pub entry-read : (mark info : ℕ) → info < 2 ^ 16
     → (decodeEntry mark info % 2 ^ 16 ≡ info) × (decodeEntry mark info / 2 ^ 16 ≡ mark)
 entry-read mark info h = (omega arith, omega arith)
 
-pub entry-parts : ENTRY
+-- the entry of a step, of the words of its record
+pub entry-is : (t : Table) (s : List ℕ) (r : ℕ) (mark : Mark) (info : ℕ) → mark ≡ delivered t s r .mark
+    → info ≡ delivered t s r .info
+    → cond (ltb (fillOf s) (delayOf t)) (decodeEntry 0 0) (decodeEntry (markNumber mark) info) ∷ []
+    ≡ decodeEntries (delivery t s r)
 unfolding delivery
-entry-parts t s r e =
-    subst Parts (decodes t s r e .0) (go (ltb (fillOf s) (delayOf t)))
+entry-is t s r mark info p q = go (ltb (fillOf s) (delayOf t))
   where
-    Parts : DecodeAnswer → Type 0
-    Parts a =
-        let x = getD (decodeEntries a) 0 0 in
-        (x % 2 ^ 16 ≡ getD (decodeValues t s r) 0 0) × (x / 2 ^ 16 ≡ getD (decodeValues t s r) 1 0)
+    go : (b : Bool)
+        → cond b (decodeEntry 0 0) (decodeEntry (markNumber mark) info) ∷ []
+        ≡ decodeEntries (cond b NothingYet (Delivery (delivered t s r)))
+    go true = refl
+    go false = ap₂ (λ (m : Mark) (i : ℕ). decodeEntry (markNumber m) i ∷ []) p q
 
-    go : (b : Bool) →
-        let x = getD (decodeEntries (cond b NothingYet (Delivery (delivered t s r)))) 0 0 in
-        let values = cond b (0 ∷ 0 ∷ 0 ∷ []) (recordNumbers (delivered t s r)) in
-        (x % 2 ^ 16 ≡ getD values 0 0) × (x / 2 ^ 16 ≡ getD values 1 0)
-    go true = (refl, refl)
-    go false = entry-read (markNumber (delivered t s r .mark)) (delivered t s r .info) (delivered-fits t s r e)
+mark-most : (m : Mark) → markNumber m ≤ 4
+mark-most Clean = omega arith
+mark-most Held = omega arith
+mark-most (Corrected e) = omega arith
+mark-most Doubtful = omega arith
+
+decoded-entry : (t : Table) (s : List ℕ) (r : ℕ) → decoderFault t s r ≡ 0
+    → (e : ℕ) × (decodeEntries (decodeAnswer t s r) ≡ e ∷ []) × (e < 2 ^ 32)
+    × (e % 2 ^ 16 ≡ getD (decodeValues t s r) 0 0) × (e / 2 ^ 16 ≡ getD (decodeValues t s r) 1 0)
+decoded-entry t s r e =
+    let d = delivered t s r in
+    let p = parts (ltb (fillOf s) (delayOf t)) in (
+      cond (ltb (fillOf s) (delayOf t)) (decodeEntry 0 0) (decodeEntry (markNumber (d .mark)) (d .info)),
+      decoded-one t s r e ∙ sym (entry-is t s r (d .mark) (d .info) refl refl),
+      p .0,
+      p .1,
+      p .2,
+    )
+  where
+    parts : (b : Bool) →
+        let d = delivered t s r in
+        let x = cond b (decodeEntry 0 0) (decodeEntry (markNumber (d .mark)) (d .info)) in
+        let values = cond b (0 ∷ 0 ∷ 0 ∷ []) (recordNumbers d) in
+        (x < 2 ^ 32) × (x % 2 ^ 16 ≡ getD values 0 0) × (x / 2 ^ 16 ≡ getD values 1 0)
+    parts true = (omega arith, refl, refl)
+    parts false =
+        let d = delivered t s r in
+        let low = delivered-fits t s r e in
+        let most = mark-most (d .mark) in
+        let q = entry-read (markNumber (d .mark)) (d .info) low in
+        (omega arith, q .0, q .1)
+
+pub entry-parts : ENTRY
+entry-parts = (
+  λ t s b e. (coded-one t s b e, (let l = coded-fits t s b e in omega arith)),
+  decoded-entry,
+)

@@ -5,15 +5,19 @@
 --   reached-refused, reached-all   the batch is done: the next block is refused, and no block or no room is left
 --   batch-idle, fills-idle   a batch whose every call would be refused
 --   fills-part        the filled part by itself
+--   reached-rest      the blocks that are left, as a batch by themselves
 use mathlib.Core.Path.{_≡_, refl, sym, ap, ap₂, subst, _∙_}
-use mathlib.Core.List.{List, [], _∷_, _++_, append-nil}
+use mathlib.Core.List.{List, [], _∷_, _++_, append-assoc, append-nil}
 use Prim.Native.Nat.{ℕ, zero, suc, _+_, _-_, _≤_, _<_, min}
 use native.Mathlib.Decide.{decLt}
 use native.Mathlib.Omega.{arith}
-use lib.ListN.{length, getD, set, take, drop, length-set, take-append-drop, drop-of-length-le}
+use borrow.Rule.Slice.PartMut.{midOf, putMid}
+use lib.ListN.{length, getD, set, take, drop, length-set, length-append, length-drop, take-append-drop}
+use lib.ListN.{drop-of-length-le}
 use lib.Seq.{drop-cons, drop-drop, append-snoc, take-suc-set, drop-set-lt, length-take-le}
 use lib.Seq.{take-append-seam}
 use Rattle.link.specs.Batch.{Batch, ended, batch, followed, Fills, FillsPart, Reached}
+use Rattle.link.proofs.Parts.{mid-rest, put-rest}
 use Rattle.link.proofs.Batch.{batch-none, batch-full, batch-refused, batch-taken}
 
 module _ (entries memory : List ℕ → ℕ → List ℕ) where
@@ -116,3 +120,42 @@ fills-part b out count after out' f =
     let part : take count out' ≡ b .entries =
     ap₂ take (f .count) (f .output) ∙ take-append-seam (b .entries) (drop (length (b .entries)) out) in
     (f .count ∙ sym (ap length part), record { entries = part; memory = f .memory })
+
+-- the blocks that are left, on the output that is left, are a batch by themselves
+module _ (rest : ℕ → List ℕ → List ℕ → Batch) (before bs out : List ℕ) (i : ℕ) (s out' : List ℕ)
+    (r : Reached rest before bs out i s out') where
+  joined : (k : ℕ) (after part : List ℕ) → Fills (rest (length (drop i out')) s (drop i bs)) (drop i out') k after part
+      → Fills (rest (length out) before bs) out (i + k) after (take i out' ++ part)
+  joined k after part f =
+      let room : length (drop i out') ≡ length out - i =
+      length-drop i out' ∙ ap (λ (n : ℕ). n - i) (r .size) in
+      let B = rest (length (drop i out')) s (drop i bs) in
+      let whole : rest (length out) before bs ≡ followed (take i out') B =
+      r .comes ∙ ap (λ (n : ℕ). followed (take i out') (rest n s (drop i bs))) (sym room) in
+      let here : length (take i out') ≡ i =
+      length-take-le i out' (let z = r .size in let y = r .room in omega arith) in
+      let long : length (followed (take i out') B .entries) ≡ i + length (B .entries) =
+      length-append (take i out') (B .entries) ∙ ap (λ (n : ℕ). n + length (B .entries)) here in
+      subst (λ (b : Batch). Fills b out (i + k) after (take i out' ++ part)) (sym whole) (record {
+        count = ap (λ (n : ℕ). i + n) (f .count) ∙ sym long;
+        memory = f .memory;
+        output = ap (λ (l : List ℕ). take i out' ++ l) (f .output)
+            ∙ sym (append-assoc (take i out') (B .entries) (drop (length (B .entries)) (drop i out')))
+            ∙ ap (λ (l : List ℕ). (take i out' ++ B .entries) ++ l)
+            (ap (drop (length (B .entries))) (r .past) ∙ drop-drop (length (B .entries)) i out
+            ∙ ap (λ (n : ℕ). drop n out) (sym long));
+      })
+
+  -- with both parts as they are lent on
+  pub reached-rest : (k : ℕ) (after part : List ℕ)
+      → Fills (rest (length (midOf i (length out' - i) out')) s (midOf i (length bs - i) bs))
+      (midOf i (length out' - i) out') k after part
+      → Fills (rest (length out) before bs) out (i + k) after (putMid i (length out' - i) out' part)
+  reached-rest k after part f =
+      let z = r .size in
+      let y = r .room in
+      subst (Fills (rest (length out) before bs) out (i + k) after) (sym (put-rest out' part i (omega arith)))
+      (joined k after part
+      (subst (λ (l : List ℕ). Fills (rest (length l) s (drop i bs)) l k after part) (mid-rest out' i)
+      (subst (λ (l : List ℕ). Fills (rest (length (midOf i (length out' - i) out')) s l)
+      (midOf i (length out' - i) out') k after part) (mid-rest bs i) f)))

@@ -9,10 +9,11 @@
 --   Fills                 what `fill_coded` and `fill_decoded` promise
 --   FillsPart             what `code_batch` and `decode_batch` promise
 --   followed, Reached     entries and then those of another batch; where a batch has come to after some of its blocks
---   ENTRY                 an entry of the decoder has the information in its low 16 bits, and above them the mark
+--   ENTRY                 a call that is not refused has one entry: the coded block; the information in its low 16
+--                         bits, and above them the mark
 use mathlib.Core.Path.{_≡_}
 use mathlib.Core.List.{List, [], _∷_, _++_}
-use Prim.Native.Nat.{ℕ, zero, suc, _+_, _-_, _*_, _/_, _%_, _^_, _≤_}
+use Prim.Native.Nat.{ℕ, zero, suc, _+_, _-_, _*_, _/_, _%_, _^_, _≤_, _<_}
 use lib.ListN.{length, getD, take, drop}
 use Rattle.tables.specs.declared.table.Table.{Table}
 use Rattle.link.specs.declared.code.CodeAnswer.{CodeAnswer}
@@ -20,8 +21,8 @@ use Rattle.link.specs.declared.code.CodeAnswer.the-variants.{Coded, Refu
 use Rattle.link.specs.declared.decode.Mark.{Mark}
 use Rattle.link.specs.declared.decode.DecodeAnswer.{DecodeAnswer}
 use Rattle.link.specs.declared.decode.DecodeAnswer.the-variants.{Delivery, NothingYet, Refused as DecodeRefused}
-use Rattle.link.specs.Refusals.{decoderFault}
-use Rattle.link.specs.Coder.{codeAnswer, codeMemory}
+use Rattle.link.specs.Refusals.{coderFault, decoderFault}
+use Rattle.link.specs.Coder.{codedBlock, codeAnswer, codeMemory}
 use Rattle.link.specs.Decoder.{decodeAnswer, decodeMemory, markNumber, decodeValues}
 
 -- "The answer is the filled part of the lent output, one entry a block taken."
@@ -88,9 +89,12 @@ pub record Reached (rest : ℕ → List ℕ → List ℕ → Batch) (before bs o
   pub comes : rest (length out) before bs ≡ followed (take i out') (rest (length out - i) s (drop i bs))
   pub past : drop i out' ≡ drop i out
 
--- `decodeValues` are information, mark and error of a step that is taken
+-- "Entries are 32-bit numbers": a call that is not refused has one, the coded block, or the information and the mark of
+-- a step that is taken, which are the first two of `decodeValues`
 abbrev pub ENTRY : Type 0
 ENTRY =
-    (t : Table) (s : List ℕ) (r : ℕ) → decoderFault t s r ≡ 0 →
-    let e = getD (decodeEntries (decodeAnswer t s r)) 0 0 in
-    (e % 2 ^ 16 ≡ getD (decodeValues t s r) 0 0) × (e / 2 ^ 16 ≡ getD (decodeValues t s r) 1 0)
+    ((t : Table) (s : List ℕ) (b : ℕ) → coderFault t s b ≡ 0
+    → (codeEntries (codeAnswer t s b) ≡ codedBlock t s b ∷ []) × (codedBlock t s b < 2 ^ 32))
+    × ((t : Table) (s : List ℕ) (r : ℕ) → decoderFault t s r ≡ 0
+    → (e : ℕ) × (decodeEntries (decodeAnswer t s r) ≡ e ∷ []) × (e < 2 ^ 32)
+    × (e % 2 ^ 16 ≡ getD (decodeValues t s r) 0 0) × (e / 2 ^ 16 ≡ getD (decodeValues t s r) 1 0))

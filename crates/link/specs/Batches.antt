@@ -9,14 +9,14 @@
 --   SINGLE                a single call is the batch of its block
 --   Handed                what a batch is handed
 --   filled, after         the entries of a list of batches, and the memory after them
---   callsOf               their single calls
+--   callsOf               their single calls, those that were taken
 --   coderBatch, decoderBatch   a batch of the coder and of the decoder, as handed
 --   MIXTURE               a list of batches is the run of their single calls
 --   RECOVERY-BATCHES      demand 3 of any mixture of batches and single calls
 use mathlib.Core.Path.{_≡_}
 use mathlib.Core.Logic.{_≢_, _↔_, _⊎_}
 use mathlib.Core.List.{List, [], _∷_, _++_}
-use Prim.Native.Nat.{ℕ, _-_, _*_, _≤_, _<_}
+use Prim.Native.Nat.{ℕ, _-_, _*_, _/_, _%_, _^_, _≤_, _<_}
 use lib.ListN.{length, getD, take}
 use Rattle.tables.specs.declared.table.Table.{Table}
 use Rattle.link.specs.declared.code.CodeAnswer.the-variants.{Refused as CodeRefused}
@@ -28,7 +28,7 @@ use Rattle.link.specs.Coder.{codeAnswer, codeMemory}
 use Rattle.link.specs.Decoder.{decodeAnswer, decodeMemory, markNumber}
 use Rattle.link.specs.Runs.{Call, run, sentBy, takenBy, sentAt, coderAfter, decoderAfter}
 use Rattle.link.specs.Recovery.{Fades}
-use Rattle.link.specs.Batch.{Batch, codeEntries, decodeEntry, decodeEntries, codeBatch, decodeBatch}
+use Rattle.link.specs.Batch.{Batch, codeEntries, decodeEntries, codeBatch, decodeBatch}
 
 abbrev pub singly : Table → List ℕ → List Call
 singly t [] = []
@@ -68,11 +68,13 @@ BATCH-RUN =
     ((t : Table) (room : ℕ) (s bs : List ℕ) →
     let b = codeBatch t room s bs in
     let cs = singly t (take (length (b .entries)) bs) in
-    (length (b .entries) ≤ length bs) × (b .entries ≡ codedBy s cs) × (b .memory ≡ coderAfter s cs))
+    (length (b .entries) ≤ length bs) × (length (b .entries) ≤ room) × (b .entries ≡ codedBy s cs)
+    × (b .memory ≡ coderAfter s cs))
     × ((t : Table) (room : ℕ) (s bs : List ℕ) →
     let b = decodeBatch t room s bs in
     let ds = singly t (take (length (b .entries)) bs) in
-    (length (b .entries) ≤ length bs) × (b .entries ≡ decodedBy s ds) × (b .memory ≡ decoderAfter s ds))
+    (length (b .entries) ≤ length bs) × (length (b .entries) ≤ room) × (b .entries ≡ decodedBy s ds)
+    × (b .memory ≡ decoderAfter s ds))
 
 -- with room for one entry; refused, it has none, and leaves the memory
 abbrev pub SINGLE : Type 0
@@ -115,14 +117,15 @@ MIXTURE =
     × ((filled decoderBatch s hs ≡ decodedBy s (callsOf decoderBatch s hs))
     × (after decoderBatch s hs ≡ decoderAfter s (callsOf decoderBatch s hs)))
 
--- `RECOVERY`, read off the entries: entry p, counted from 1, is that of taken block p
+-- `RECOVERY`, read off the entries: entry p, counted from 1, is that of taken block p. A batch ends before a call that
+-- would be refused; a refused single call may stand anywhere, and has no entry (`SINGLE`).
 abbrev pub RECOVERY-BATCHES : Type 0
 RECOVERY-BATCHES =
     (t : Table) (coder decoder : List ℕ) (hs gs : List Handed) →
     let cs = callsOf coderBatch coder hs in
     Fades t coder decoder cs (callsOf decoderBatch decoder gs)
     → (p : ℕ) → 2 * delayOf t < p → p ≤ length (filled decoderBatch decoder gs)
-    → (mark : Mark)
-    × (getD (filled decoderBatch decoder gs) (p - 1) 0
-    ≡ decodeEntry (markNumber mark) (sentAt (sentBy coder cs) (p - delayOf t) .info))
+    →
+    let e = getD (filled decoderBatch decoder gs) (p - 1) 0 in
+    (mark : Mark) × (e % 2 ^ 16 ≡ sentAt (sentBy coder cs) (p - delayOf t) .info) × (e / 2 ^ 16 ≡ markNumber mark)
     × (mark ≢ Doubtful)

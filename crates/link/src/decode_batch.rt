@@ -13,6 +13,7 @@ use span::bits::mask;
 use span::bound::min;
 use span::dual::dual_basis;
 use span::dual::reduce_at_once;
+use span::dual::together;
 use span::eliminate::Least;
 use span::lookup::look_up;
 use span::lookup::lookup_of;
@@ -21,7 +22,7 @@ use tables::table::lent_fits;
 ghost use mathlib.Core.Path.{_≡_};
 ghost use mathlib.Core.Bool.{true, cond, _&&_};
 ghost use mathlib.Core.List.{List, []};
-ghost use Prim.Native.Nat.{ℕ, _+_, _-_, _/_, _^_, _≤_, _<_};
+ghost use Prim.Native.Nat.{ℕ, _+_, _-_, _/_, _^_, _≤_, _<_, min};
 ghost use lib.Dec.{ltb};
 ghost use lib.ListN.{length};
 ghost use Rattle.span.specs.Word.{_⊕_};
@@ -29,15 +30,14 @@ ghost use Rattle.span.specs.Combination.{Below};
 ghost use Rattle.span.specs.Relation.{leastCoefficients};
 ghost use Rattle.span.specs.Basis.{basis};
 ghost use Rattle.span.specs.Elimination.{basisOf};
-ghost use Rattle.span.specs.Lookup.{Lookup};
-ghost use Rattle.span.specs.Dual.{dual};
+ghost use Rattle.span.specs.Dual.{dual, together};
 ghost use Rattle.tables.specs.Lent.{withRows, lent};
-ghost use Rattle.tables.specs.Table.{table, fit, rowsOf};
+ghost use Rattle.tables.specs.Table.{table, fit};
 ghost use Rattle.link.specs.Memory.{turnOf, fillOf, delayOf, delayedOf, decoderWords};
 ghost use Rattle.link.specs.Refusals.{decoderMalformed};
 ghost use Rattle.link.specs.Step.{information};
 ghost use Rattle.link.specs.Decoder.{advanced, markNumber};
-ghost use Rattle.link.specs.Batch.{decodeEntry, decodeBatch, Fills, FillsPart};
+ghost use Rattle.link.specs.Batch.{decodeEntry, decodeBatch, Fills, FillsPart, Reached};
 
 // Whether 14 applies to block i of a batch, of n, N and m, once 12 and 13 are settled. A stream is looked at at its
 // first block only: a step that is taken keeps it well-formed.
@@ -52,21 +52,27 @@ fn first_malformed(n: usize, span: usize, depth: usize, i: usize, state: &[u64])
     false
 }
 
-// What the register is the image of, by the dual basis of the rows.
+// What the register is the image of, by the dual basis of the rows. A register that has no one in common with the
+// check words, whose ones together are `ones`, is not reduced.
 fn found_by<'a>(
     size: usize,
     vectors: &'a [u64; 32],
     checks: &'a [u64; 32],
     coefficients: &'a [u64; 32],
+    ones: u64,
     x: u64,
 ) -> Least
     ensures { λ r.
         ⌜ ((ws : List ℕ) → length ws ≤ 32 → Below 64 ws
         → basis size (now (vectors .entry)) (now (checks .entry)) (now (coefficients .entry)) ≡ dual (basisOf ws)
+        → ones ≡ together (now (checks .entry)) (min size 32)
         → r ≡ leastCoefficients ws x) ⌝ }
 {
     if x == 0 {
         return Least::Found(0);
+    }
+    if x & ones == 0 {
+        return Least::Missing;
     }
     let reduced = reduce_at_once(size, vectors, checks, coefficients, x);
     if reduced.rest == 0 {
@@ -120,22 +126,17 @@ fn take_block(
 }
 
 // The blocks of a batch once 12 and 13 are settled, each register judged by the dual basis of the rows.
-fn fill_judged(
-    t: Table,
-    rows: &[u64],
-    tables: &[u64; 64],
-    state: &mut [u64],
-    blocks: &[u16],
-    out: &mut [u32],
-) -> usize
+fn fill_judged(t: Table, rows: &[u64], state: &mut [u64], blocks: &[u16], out: &mut [u32]) -> usize
     requires { ⌜ (fit (withRows t (now rows)) ≡ true) × (length (now rows) ≡ 15)
-        × (length (now state) ≡ decoderWords (withRows t (now rows))) × Lookup (rowsOf (withRows t (now rows))) (now tables) ⌝ }
+        × (length (now state) ≡ decoderWords (withRows t (now rows))) ⌝ }
     ensures { λ r.
         ⌜ Fills (decodeBatch (withRows t (now (rows .entry))) (length (now (out .entry))) (now (state .entry))
         (now (blocks .entry))) (now (out .entry)) r (now (state .exit)) (now (out .exit)) ⌝ }
 {
     let words = error_words(rows, t.symbols, 0);
+    let tables = lookup_of(&words, t.symbols);
     let b = dual_basis(&words, t.symbols);
+    let ones = together(&b.checks, b.size);
     let most = mask(t.symbols);
     let top = one_at(t.span - 1);
     let end = min(blocks.len(), out.len());
@@ -148,8 +149,15 @@ fn fill_judged(
         if most < received {
             return i;
         }
-        let x = terms(state, t.span, top, look_up(tables, received));
-        let found = found_by(b.size, &b.vectors, &b.checks, &b.coefficients, x.register);
+        let x = terms(state, t.span, top, look_up(&tables, received));
+        let found = found_by(
+            b.size,
+            &b.vectors,
+            &b.checks,
+            &b.coefficients,
+            ones,
+            x.register,
+        );
         out[i] = take_block(
             state,
             t.symbols,
@@ -164,13 +172,15 @@ fn fill_judged(
     i
 }
 
-// The same, as long as registers are 0, which are the image of 0: a batch of right blocks makes no basis.
-fn fill(t: Table, rows: &[u64], state: &mut [u64], blocks: &[u16], out: &mut [u32]) -> usize
+// The same up to a register that is not 0, or to a block that is refused: registers of 0 are the image of 0, and a batch
+// of right blocks makes no basis.
+fn fill_clean(t: Table, rows: &[u64], state: &mut [u64], blocks: &[u16], out: &mut [u32]) -> usize
     requires { ⌜ (fit (withRows t (now rows)) ≡ true) × (length (now rows) ≡ 15)
         × (length (now state) ≡ decoderWords (withRows t (now rows))) ⌝ }
     ensures { λ r.
-        ⌜ Fills (decodeBatch (withRows t (now (rows .entry))) (length (now (out .entry))) (now (state .entry))
-        (now (blocks .entry))) (now (out .entry)) r (now (state .exit)) (now (out .exit)) ⌝ }
+        ⌜ Reached (decodeBatch (withRows t (now (rows .entry)))) (now (state .entry)) (now (blocks .entry))
+        (now (out .entry)) r (now (state .exit)) (now (out .exit))
+        × (length (now (state .exit)) ≡ length (now (state .entry))) ⌝ }
 {
     let words = error_words(rows, t.symbols, 0);
     let tables = lookup_of(&words, t.symbols);
@@ -188,7 +198,7 @@ fn fill(t: Table, rows: &[u64], state: &mut [u64], blocks: &[u16], out: &mut [u3
         }
         let x = terms(state, t.span, top, look_up(&tables, received));
         if x.register != 0 {
-            return i + fill_judged(t, rows, &tables, state, &blocks[i..], &mut out[i..]);
+            return i;
         }
         out[i] = take_block(
             state,
@@ -202,6 +212,21 @@ fn fill(t: Table, rows: &[u64], state: &mut [u64], blocks: &[u16], out: &mut [u3
         i += 1;
     }
     i
+}
+
+// Once 12 and 13 are settled: what is left after registers of 0 is judged.
+fn fill(t: Table, rows: &[u64], state: &mut [u64], blocks: &[u16], out: &mut [u32]) -> usize
+    requires { ⌜ (fit (withRows t (now rows)) ≡ true) × (length (now rows) ≡ 15)
+        × (length (now state) ≡ decoderWords (withRows t (now rows))) ⌝ }
+    ensures { λ r.
+        ⌜ Fills (decodeBatch (withRows t (now (rows .entry))) (length (now (out .entry))) (now (state .entry))
+        (now (blocks .entry))) (now (out .entry)) r (now (state .exit)) (now (out .exit)) ⌝ }
+{
+    let i = fill_clean(t, rows, state, blocks, out);
+    if min(blocks.len(), out.len()) <= i {
+        return i;
+    }
+    i + fill_judged(t, rows, state, &blocks[i..], &mut out[i..])
 }
 
 // Takes the received blocks one after another, with their entries into `out`, and answers how many: it ends where no

@@ -7,6 +7,7 @@ use Prim.Native.Nat.{ℕ, zero, suc, _≤_, _<_, min}
 use native.Mathlib.Nat.{le-refl}
 use native.Mathlib.Decide.{decLe}
 use native.Mathlib.Omega.{arith}
+use lib.Bits.{bitAnd}
 use lib.ListN.{length, getD, set, length-set}
 use lib.Seq.{getD-set-same, getD-set-other}
 use Rattle.span.specs.declared.eliminate.Basis.{Basis}
@@ -14,8 +15,9 @@ use Rattle.span.specs.declared.eliminate.Reduced.{Reduced}
 use Rattle.span.specs.Word.{_⊕_, sel, commonParity}
 use Rattle.span.specs.Basis.{basis, reducedBy, reducedTo, reduction, answer}
 use Rattle.span.specs.Elimination.{basisOf}
-use Rattle.span.specs.Dual.{crossed, dualTo, dualChecks, dual, atOnceTo, atOnce, AT-ONCE, DUAL-REDUCES}
-use Rattle.span.proofs.Word.{parity-zero-l, parity-comm, parity-xor}
+use Rattle.span.specs.Dual.{crossed, dualTo, dualChecks, dual, atOnceTo, atOnce, together}
+use Rattle.span.specs.Dual.{AT-ONCE, DUAL-REDUCES, UNMET}
+use Rattle.span.proofs.Word.{xor-zero-r, parity-zero-l, parity-comm, parity-xor, parity-none, and-or-l, and-or-r}
 use Rattle.span.proofs.Basis.{reduces}
 use Rattle.span.proofs.Linear.{parity-xor-r}
 
@@ -96,6 +98,26 @@ at-once b x = at-once-to b x (min (b .size) 32) (le-refl (min (b .size) 32))
 
 pub dual-reduces : DUAL-REDUCES
 dual-reduces ws room bound x = ap answer (at-once (basisOf ws) x) ∙ reduces ws room bound x
+
+-- no check word that a word has no one in common with changes it
+unmet-to : (b : Basis) (x i : ℕ) → bitAnd x (together (b .checks) i) ≡ 0
+    → atOnceTo b i x ≡ record { rest = x; coefficients = 0 }
+unfolding atOnceTo together
+unmet-to b x zero e = refl
+unmet-to b x (suc i) e =
+    let h = getD (b .checks) i 0 in
+    ap₂
+    (λ (s : Bool) (r : Reduced). record {
+      rest = r .rest ⊕ sel s (getD (b .vectors) i 0);
+      coefficients = r .coefficients ⊕ sel s (getD (b .coefficients) i 0);
+    })
+    (parity-none 64 x h (and-or-r x (together (b .checks) i) h e))
+    (unmet-to b x i (and-or-l x (together (b .checks) i) h e))
+    ∙ ap₂ (λ (y c : ℕ). record { rest = y; coefficients = c }) (xor-zero-r x) (xor-zero-r 0)
+
+pub unmet : UNMET
+unfolding atOnce
+unmet b x e = unmet-to b x (min (b .size) 32) e
 
 -- the stores of the code
 pub dual-stored : (b b′ : Basis) (ds : List ℕ) → b ≡ b′ → ds ≡ dualTo (b .vectors) (b .checks) (min (b .size) 32)

@@ -12,7 +12,7 @@ use native.Mathlib.Omega.{arith}
 use borrow.Author.Tests.{eq-eqb, ne-eqb, eqb-true, eqb-false}
 use lib.Arith.{bin-ind, lt-one}
 use lib.Pow.{pow-pos, pow-add, shr-shr, shl-shr, shl-exact, split, field, mod-pow-add, mod-mod-pow}
-use lib.Bits.{bitXor, bitAnd, and-shr, and-mod, xor-block}
+use lib.Bits.{bitXor, bitAnd, bitOr, and-step, or-step, and-shr, and-mod, or-shr, or-comm, xor-block}
 use lib.Bits as Bits
 use lib.Count.{ones, ones-step, trailingZeros, under}
 use Rattle.span.specs.Word.{_⊕_, odd, bit, sel, digit, commonParity, shifted}
@@ -402,6 +402,32 @@ parity-ones (suc k) a b h =
 -- and is it, modulo 2
 pub ones-parity : (k a b : ℕ) → a < 2 ^ k → ones (bitAnd a b) % 2 ≡ digit (commonParity k a b)
 ones-parity k a b h = odd-mod (ones (bitAnd a b)) ∙ ap digit (sym (parity-ones k a b h))
+
+-- where there are no common ones it is false
+pub parity-none : (k a b : ℕ) → bitAnd a b ≡ 0 → commonParity k a b ≡ false
+unfolding commonParity odd
+parity-none zero a b e = refl
+parity-none (suc k) a b e =
+    ap₂ xor (sym (odd-and a b) ∙ ap odd e)
+    (parity-none k (a / 2) (b / 2) (sym (and-shr a b 1) ∙ ap (λ (x : ℕ). x / 2) e))
+    ∙ xor-false-l false
+
+-- ---- the ones of two words together
+
+and-or-le : (x a b : ℕ) → bitAnd x a ≤ bitAnd x (bitOr a b)
+and-or-le =
+    bin-ind (λ (x : ℕ). (a b : ℕ) → bitAnd x a ≤ bitAnd x (bitOr a b)) (λ a b. omega arith)
+    (λ x ih a b.
+    let half : bitAnd (x / 2) (bitOr a b / 2) ≡ bitAnd (x / 2) (bitOr (a / 2) (b / 2)) =
+    ap (bitAnd (x / 2)) (or-shr a b 1) in
+    omega (arith, ih (a / 2) (b / 2), half, and-step x a, and-step x (bitOr a b), or-step a b))
+
+-- a word that has no one in common with them has none with either
+pub and-or-l : (x a b : ℕ) → bitAnd x (bitOr a b) ≡ 0 → bitAnd x a ≡ 0
+and-or-l x a b e = let l = and-or-le x a b in omega arith
+
+pub and-or-r : (x a b : ℕ) → bitAnd x (bitOr a b) ≡ 0 → bitAnd x b ≡ 0
+and-or-r x a b e = and-or-l x b a (ap (bitAnd x) (or-comm b a) ∙ e)
 
 -- ---- order
 

@@ -7,11 +7,14 @@
 --   dual b              b with these in place of its check words
 --   atOnceTo b i x      x reduced by the first i triples of b, each of which tests x itself
 --   atOnce b x          x reduced by all triples of b, in that way
+--   together ws i       the ones of the first i words of ws together
 --   AT-ONCE             with the new check words that is the reduction, of every value of the struct
 --   DUAL-REDUCES        so that the basis of words answers with the least coefficients
+--   UNMET               a word that has no one in common with the check words is left as it is
 use mathlib.Core.Path.{_≡_}
 use mathlib.Core.List.{List}
 use Prim.Native.Nat.{ℕ, zero, suc, _≤_, min}
+use lib.Bits.{bitAnd, bitOr}
 use lib.ListN.{length, getD, set, replicate}
 use Rattle.span.specs.declared.eliminate.Basis.{Basis}
 use Rattle.span.specs.declared.eliminate.Reduced.{Reduced}
@@ -50,6 +53,10 @@ atOnceTo b (suc i) x =
 unfoldable pub atOnce : Basis → ℕ → Reduced
 atOnce b x = atOnceTo b (min (b .size) 32) x
 
+unfoldable pub together : List ℕ → ℕ → ℕ
+together ws zero = 0
+together ws (suc i) = bitOr (together ws i) (getD ws i 0)
+
 abbrev pub AT-ONCE : Type 0
 AT-ONCE = (b : Basis) (x : ℕ) → atOnce (dual b) x ≡ reduction b x
 
@@ -58,3 +65,9 @@ abbrev pub DUAL-REDUCES : Type 0
 DUAL-REDUCES =
     (ws : List ℕ) → length ws ≤ 32 → Below 64 ws → (x : ℕ)
     → answer (atOnce (dual (basisOf ws)) x) ≡ leastCoefficients ws x
+
+-- a word that has no one in common with the check words is left as it is, of every value of the struct
+abbrev pub UNMET : Type 0
+UNMET =
+    (b : Basis) (x : ℕ) → bitAnd x (together (b .checks) (min (b .size) 32)) ≡ 0
+    → atOnce b x ≡ record { rest = x; coefficients = 0 }

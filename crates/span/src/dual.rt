@@ -11,7 +11,7 @@ ghost use Prim.Native.Nat.{_≤_, min};
 ghost use Rattle.span.specs.Combination.{counted};
 ghost use Rattle.span.specs.Basis.{basis};
 ghost use Rattle.span.specs.Elimination.{basisOf};
-ghost use Rattle.span.specs.Dual.{crossed, dualTo, dual, atOnce};
+ghost use Rattle.span.specs.Dual.{crossed, dualTo, dual, together, atOnce};
 
 // A check word, with each of the first `end` new ones added whose vector it meets.
 fn dual_check<'a>(vectors: &'a [u64; 32], duals: &'a [u64; 32], check: u64, end: usize) -> u64
@@ -79,4 +79,18 @@ pub fn reduce_at_once<'a>(
         rest,
         coefficients: removed,
     }
+}
+
+// The ones of the first `count` words together; a count above 32 counts as 32.
+pub fn together(words: &[u64; 32], count: usize) -> u64
+    ensures { λ r. ⌜ r ≡ together (now (words .entry)) (min count 32) ⌝ }
+{
+    let end = min(count, 32);
+    let mut ones: u64 = 0;
+    let mut i = 0;
+    while i < end {
+        ones |= words[i];
+        i += 1;
+    }
+    ones
 }

@@ -24,7 +24,7 @@ use Rattle.link.proofs.Coder.{CoderTaken, coder-taken, coder-length, co
 use Rattle.link.proofs.Coder.{memory-in-numbers}
 use Rattle.link.specs.Batch.{Batch, batch, codeEntries, codeBatch, Fills, Reached}
 use Rattle.link.proofs.Refusals.{step-settled}
-use Rattle.link.proofs.Entries.{code-none, code-one}
+use Rattle.link.proofs.Entries.{coded-none, coded-one}
 use Rattle.link.proofs.Reached.{reached-start, reached-next, reached-refused, reached-all}
 use Rattle.link.proofs.code_batch.fill.Statement.{statement}
 use Rattle.link.proofs.code_batch.fill.Tie as tie
@@ -113,7 +113,7 @@ refused c left k e some =
     let u = whole (entry c) in
     reached-refused (λ s b. codeEntries (codeAnswer u s b)) (codeMemory u) (a .state .now) (a .infos .now) (a .out .now)
     (c .loop .i) (c .loop .state) (c .loop .out) (c .loop .inv .0) left
-    (code-none u (c .loop .state) (block c) k e some)
+    (coded-none u (c .loop .state) (block c) k e some)
 
 -- the turn's block is there, and so is its room
 inside : (c : tie.In-loop Inv-loop μ-loop)
@@ -255,7 +255,7 @@ loop-again c =
           (reached-next (λ s b. codeEntries (codeAnswer u s b)) (codeMemory u) (a .state .now) (a .infos .now)
           (a .out .now) (l .loop .i) s (l .loop .out) (l .loop .inv .0) (inside (c .before .before .before .before .before .before .before .before .before .before .before) .0) (inside (c .before .before .before .before .before .before .before .before .before .before .before) .1)
           (c .before .before .taken .result)
-          (code-one u s (block l) (none (passed c)) ∙ ap (λ (x : ℕ). x ∷ []) (sym (block-is c)))),
+          (coded-one u s (block l) (none (passed c)) ∙ ap (λ (x : ℕ). x ∷ []) (sym (block-is c)))),
       ap length e ∙ coder-length u s (block l) ∙ l .loop .inv .1,
     )
 

@@ -1,393 +1,118 @@
--- `link::decode_batch::fill`: block by block (`Going`), and what is left by the dual basis. Assumes nothing.
-use mathlib.Core.Path.{_≡_, refl, sym, ap, ap₂, subst, _∙_}
-use mathlib.Core.Bool.{Bool, true, false, cond}
-use mathlib.Core.List.{List, [], _∷_}
-use Prim.Native.Nat.{ℕ, _+_, _-_, _*_, _/_, _^_, _≤_, _<_}
+-- `link::decode_batch::fill`: where the registers of 0 end, a batch of what is left. Assumes nothing.
+use mathlib.Core.Path.{_∙_}
+use Prim.Native.Nat.{ℕ, _+_, _-_, _*_, _^_, _<_}
 use native.Mathlib.Omega.{arith}
-use borrow.Author.Needs.{needs, scaled-fits}
-use borrow.Author.Tests.{lt-ltb, le-ltb}
+use borrow.Author.Needs.{needs}
 use borrow.Rule.Slice.PartMut.{putMid}
-use lib.Dec.{leb, ltb}
-use lib.ListN.{length, getD, set, take}
+use lib.ListN.{length}
 use Rattle.tables.specs.declared.table.Table.{Table}
 use Rattle.tables.specs.Lent.{withRows}
-use Rattle.link.proofs.Going.{Going, going-start, going-all, going-rest, turn-malformed, turn-large, turn-passed, turn-next}
-use Rattle.link.proofs.Going.{entry-is, decode-size}
-use lib.Pow.{pow-mono}
-use Rattle.span.specs.declared.eliminate.Least.the-variants.{Found}
-use Rattle.span.specs.Word.{_⊕_}
-use Rattle.span.specs.Combination.{combination}
-use Rattle.span.specs.Lookup.{Lookup}
-use Rattle.span.proofs.Lookups.{looked-up}
-use Rattle.span.proofs.Masks.{above-mask}
-use Rattle.tables.specs.Table.{infoRows, rowsOf}
-use Rattle.tables.proofs.Fit.{Fits, fit-facts, code-length}
-use Rattle.link.specs.Memory.{turnOf, pendingOf, syndromeOf, delayedOf}
-use Rattle.link.specs.Batch.{decodeEntries, decodeBatch, Fills}
-use Rattle.link.specs.Refusals.{decoderFault}
-use Rattle.link.specs.Step.{information, found, errorOf}
-use Rattle.link.specs.Decoder.{decoderRegister, decoderNext, delivery, advanced}
-use Rattle.link.proofs.Decoder.{DecoderTaken, decoder-taken}
-use Rattle.link.proofs.Error.{zero-found}
-use Rattle.link.proofs.CodeWords.{sixteen-words}
-use Rattle.link.proofs.Room.{terms-room, keep-room, oldest-lt}
-use Rattle.link.proofs.StepWords.{register-is, memory-is, info-is, mark-is}
+use Rattle.link.specs.Batch.{decodeBatch, Fills}
+use Rattle.link.proofs.Reached.{reached-rest}
+use Rattle.link.proofs.Going.{come-all, decode-size}
 use Rattle.link.proofs.decode_batch.fill.Statement.{statement}
 use Rattle.link.proofs.decode_batch.fill.Tie as tie
 
-abbrev Inv-loop : tie.InvT-loop
-Inv-loop t rows state₀ blocks out₀ tables most top end i₀ state out i =
-    Going (withRows t rows) state₀ blocks out₀ i state out
+-- the call's entry from the registers of 0
+abbrev entry : tie.After-fill-clean → tie.Start
+entry c = c .before .before .before .before .before .before .before
 
-abbrev μ-loop : tie.MeasureT-loop
-μ-loop t rows state₀ blocks out₀ tables most top end i₀ state out i = end - i
-
--- points that the proofs look back to: the call's entry from a turn, and what is known there
-abbrev entry : tie.At-loop Inv-loop μ-loop → tie.Start Inv-loop μ-loop
-entry c = c .before .before .before .before .before .before .before .before .before .before .before .before
-
-abbrev whole : tie.Start Inv-loop μ-loop → Table
+abbrev whole : tie.Start → Table
 whole c = withRows (c .args .t) (c .args .rows .now)
 
-facts : (c : tie.Start Inv-loop μ-loop)
-    → Fits (c .args .t .symbols) (c .args .t .span) (c .args .t .depth) (infoRows (whole c))
-facts c = fit-facts (whole c) (c .pre .0)
+fill-clean-requires : tie.Need-fill-clean-requires
+fill-clean-requires c κs = search needs
 
-width : (c : tie.Start Inv-loop μ-loop) → c .args .t .symbols - 1 ≤ length (c .args .rows .now)
-width c = let n = facts c .n-to in let l = c .pre .1 in omega arith
-
-size : (c : tie.Start Inv-loop μ-loop) → length (rowsOf (whole c)) ≡ c .args .t .symbols
-size c =
-    code-length (c .args .t .symbols) (c .args .rows .now) (let n = facts c .n-from in omega arith) (width c)
-
--- what owning a slice tells: it has fewer than 2^63 bytes
-taken-bytes : (c : tie.Start Inv-loop μ-loop) → length (c .args .out .now) * 4 < 2 ^ 63
-taken-bytes c = omega arith
-
-handed-bytes : (c : tie.Start Inv-loop μ-loop) → length (c .args .blocks .now) * 2 < 2 ^ 63
-handed-bytes c = omega arith
-
-error-words-requires : tie.Need-error-words-requires Inv-loop μ-loop
-error-words-requires c κs =
-    let here = c .before .before .before .before in
-    let z = facts here in
-    (z .n-from, z .n-to, width here)
-
-slice-aggregate-lookup-of : tie.Need-slice-aggregate-lookup-of Inv-loop μ-loop
-slice-aggregate-lookup-of c = search needs
-
-lookup-of-requires : tie.Need-lookup-of-requires Inv-loop μ-loop
-lookup-of-requires c κs = search needs
-
-mask-requires : tie.Need-mask-requires Inv-loop μ-loop
-mask-requires c κs = search needs
-
-sub-one-at : tie.Need-sub-one-at Inv-loop μ-loop
-sub-one-at c = let z = facts (c .before .before .before .before .before .before .before .before .before) .N-from in omega arith
-
-one-at-requires : tie.Need-one-at-requires Inv-loop μ-loop
-one-at-requires c κs = let z = facts (c .before .before .before .before .before .before .before .before .before) .N-to in omega arith
-
-min-requires : tie.Need-min-requires Inv-loop μ-loop
+min-requires : tie.Need-min-requires
 min-requires c κs = search needs
 
-loop-holds : tie.Need-loop-holds Inv-loop μ-loop
-loop-holds c =
-    let here = c .before .before .before .before .before .before .before .before .before .before .before in
-    going-start (whole here) (here .args .state .now) (here .args .blocks .now) (here .args .out .now)
-
-mul-received : tie.Need-mul-received Inv-loop μ-loop
-mul-received c = search needs
-
-shared-slice-read-received : tie.Need-shared-slice-read-received Inv-loop μ-loop
-shared-slice-read-received c = search needs
-
-cast-received : tie.Need-cast-received Inv-loop μ-loop
-cast-received c =
-    record { fits = omega (arith, c .shared-slice-known3 .given (c .before .before .loop .i)) }
-
-first-malformed-requires : tie.Need-first-malformed-requires Inv-loop μ-loop
-first-malformed-requires c κs =
-    let l = c .before .before .before in
-    let z = facts (entry l) in
-    (z .n-from, z .n-to, z .N-from, z .N-to, z .m-from, z .m-to, l .loop .inv .size ∙ entry l .pre .2)
-
-abbrev block : tie.At-loop Inv-loop μ-loop → ℕ
-block c = getD (entry c .args .blocks .now) (c .loop .i) 0
-
--- the turn's block is there, and so is its room
-inside : (c : tie.In-loop Inv-loop μ-loop)
-    → let l = c .before in
-    (l .loop .i < length (entry l .args .blocks .now)) × (l .loop .i < length (entry l .args .out .now))
-inside c = let e = c .before .before .min .ensures in (omega arith, omega arith)
-
-tested : (c : tie.At-loop Inv-loop μ-loop) → ltb (c .before .before .before .before .mask .result) (block c) ≡ leb (2 ^ entry c .args .t .symbols) (block c)
-tested c =
-    let n = facts (entry c) .n-to in
-    above-mask (entry c .args .t .symbols) (c .before .before .before .before .mask .result) (block c) (omega arith) (c .before .before .before .before .mask .ensures)
-
-same-length : tie.Need-same-length Inv-loop μ-loop
+same-length : tie.Need-same-length
 same-length c = search needs
 
-same-length-2 : tie.Need-same-length-2 Inv-loop μ-loop
+same-length-2 : tie.Need-same-length-2
 same-length-2 c = search needs
 
-returns : tie.Need-returns Inv-loop μ-loop
+returns : tie.Need-returns
 returns c =
-    let l = c .before .before .before .before .before in
-    let start = entry l in
+    let here = c .before .before .before .before .before .before in
+    let start = entry here in
     let a = start .args in
-    turn-malformed (whole start) (a .state .now) (a .blocks .now) (a .out .now) (l .loop .i) (l .loop .state)
-    (l .loop .out) (l .loop .inv) (start .pre .0) (start .pre .2) (inside (c .before .before .before .before) .0)
-    (sym (c .before .first-malformed .ensures) ∙ c .if1 .taken)
+    let f = here .fill-clean in
+    let e = c .before .min .ensures in
+    come-all (whole start) (a .state .now) (a .blocks .now) (a .out .now) (f .result) (f .last .1 .1 .0)
+    (f .last .1 .1 .1 .1 .0) (f .ensures .0) (omega arith)
 
-same-length-3 : tie.Need-same-length-3 Inv-loop μ-loop
-same-length-3 c = search needs
+mul-fill-judged : tie.Need-mul-fill-judged
+mul-fill-judged c = search needs
 
-same-length-4 : tie.Need-same-length-4 Inv-loop μ-loop
-same-length-4 c = search needs
-
-returns-2 : tie.Need-returns-2 Inv-loop μ-loop
-returns-2 c =
-    let l = c .before .before .before .before .before .before in
-    let start = entry l in
-    let a = start .args in
-    turn-large (whole start) (a .state .now) (a .blocks .now) (a .out .now) (l .loop .i) (l .loop .state)
-    (l .loop .out) (l .loop .inv) (start .pre .0) (start .pre .2) (inside (c .before .before .before .before .before) .0)
-    (sym (c .before .before .first-malformed .ensures) ∙ c .before .if1 .left)
-    (sym (tested l) ∙ lt-ltb _ _ (c .if2 .taken))
-
--- no refusal applies
-none : (c : tie.Else2 Inv-loop μ-loop)
-    → let l = c .before .before .before .before .before .before in
-    decoderFault (whole (entry l)) (l .loop .state) (block l) ≡ 0
-none c =
-    let l = c .before .before .before .before .before .before in
-    let start = entry l in
-    let a = start .args in
-    turn-passed (whole start) (a .state .now) (a .blocks .now) (a .out .now) (l .loop .i) (l .loop .state)
-    (l .loop .out) (l .loop .inv) (start .pre .0) (start .pre .2) (inside (c .before .before .before .before .before) .0)
-    (sym (c .before .before .first-malformed .ensures) ∙ c .before .if1 .left)
-    (sym (tested l) ∙ le-ltb _ _ (c .if2 .left))
-
-tests : (c : tie.Else2 Inv-loop μ-loop)
-    → let l = c .before .before .before .before .before .before in
-    DecoderTaken (whole (entry l)) (l .loop .state) (block l)
-tests c =
-    let l = c .before .before .before .before .before .before in
-    decoder-taken (whole (entry l)) (l .loop .state) (block l) (none c)
-
-look-up-requires : tie.Need-look-up-requires Inv-loop μ-loop
-look-up-requires c κs = search needs
-
-terms-requires : tie.Need-terms-requires Inv-loop μ-loop
-terms-requires c κs =
-    let l = c .before .before .before .before .before .before .before .before .before in
-    let s = l .loop .state in
-    let u = whole (entry l) in
-    let r = terms-room u s (block l) (tests (c .before .before .before)) in
-    let e = sym (l .before .before .one-at .ensures) in
-    (r .0, r .1, subst (λ (x : ℕ). syndromeOf u s (turnOf s) < x) e (r .2), subst (λ (x : ℕ). x ≤ 2 ^ 63) e (r .3), r .4)
-
--- the turn from its words, and the words
-abbrev turn : tie.After-terms Inv-loop μ-loop → tie.At-loop Inv-loop μ-loop
-turn c = c .before .before .before .before .before .before .before .before .before .before
-
--- the tables are those of the rows
-looked : (c : tie.At-loop Inv-loop μ-loop) → Lookup (rowsOf (whole (entry c))) (c .before .before .before .before .before .lookup-of .result)
-looked c =
-    let start = entry c in
-    let w = c .before .before .before .before .before .before .before .error-words in
-    subst (λ (ws : List ℕ). Lookup ws (c .before .before .before .before .before .lookup-of .result))
-    (sixteen-words (rowsOf (whole start)) (w .result) (start .args .t .symbols) 0 (size start) (w .ensures)
-    (facts start .n-to)) (c .before .before .before .before .before .lookup-of .ensures)
-
-joined : (c : tie.After-terms Inv-loop μ-loop)
-    → let l = turn c in
-    let s = l .loop .state in
-    c .terms .result .w ≡ pendingOf (whole (entry l)) s (turnOf s) ⊕ combination (rowsOf (whole (entry l))) (block l)
-joined c =
-    let l = turn c in
-    let start = entry l in
-    let s = l .loop .state in
-    c .terms .ensures .0
-    ∙ ap (λ (x : ℕ). pendingOf (whole start) s (turnOf s) ⊕ x)
-    (c .before .look-up .ensures
-    ∙ looked-up (rowsOf (whole start)) (l .before .before .before .before .before .lookup-of .result) (block l)
-    (let z = size start in let n = facts start .n-to in omega arith) (looked l))
-
-registered : (c : tie.After-terms Inv-loop μ-loop)
-    → let l = turn c in
-    c .terms .result .register ≡ decoderRegister (whole (entry l)) (l .loop .state) (block l)
-registered c =
-    let l = turn c in
-    let start = entry l in
-    register-is (whole start) (l .loop .state) (block l) (c .terms .result .w) (width start) (joined c)
-    (c .terms .result .register) (l .before .before .one-at .result) (c .terms .ensures .1)
-    (l .before .before .one-at .ensures)
-
-mul-fill-judged : tie.Need-mul-fill-judged Inv-loop μ-loop
-mul-fill-judged c =
-    let l = c .before .before .before .before .before .before .before .before .before .before .before .before .before .before in
-    scaled-fits (l .loop .i) (length (entry l .args .blocks .now)) 2 (inside (c .before .before .before .before .before .before .before .before .before .before .before .before .before) .0) (handed-bytes (entry l))
-
-sub-fill-judged : tie.Need-sub-fill-judged Inv-loop μ-loop
+sub-fill-judged : tie.Need-sub-fill-judged
 sub-fill-judged c = search needs
 
-part-fill-judged-start : tie.Need-part-fill-judged-start Inv-loop μ-loop
+part-fill-judged-start : tie.Need-part-fill-judged-start
 part-fill-judged-start c = search needs
 
-part-fill-judged-end : tie.Need-part-fill-judged-end Inv-loop μ-loop
+part-fill-judged-end : tie.Need-part-fill-judged-end
 part-fill-judged-end c = search needs
 
-mul-fill-judged-2 : tie.Need-mul-fill-judged-2 Inv-loop μ-loop
-mul-fill-judged-2 c =
-    let l = c .before .before .before .before .before .before .before .before .before .before .before .before .before .before .before in
-    scaled-fits (l .loop .i) (length (entry l .args .out .now)) 4 (inside (c .before .before .before .before .before .before .before .before .before .before .before .before .before .before) .1) (taken-bytes (entry l))
+mul-fill-judged-2 : tie.Need-mul-fill-judged-2
+mul-fill-judged-2 c = search needs
 
-sub-fill-judged-2 : tie.Need-sub-fill-judged-2 Inv-loop μ-loop
+sub-fill-judged-2 : tie.Need-sub-fill-judged-2
 sub-fill-judged-2 c = search needs
 
-part-fill-judged-start-2 : tie.Need-part-fill-judged-start-2 Inv-loop μ-loop
+part-fill-judged-start-2 : tie.Need-part-fill-judged-start-2
 part-fill-judged-start-2 c = search needs
 
-part-fill-judged-end-2 : tie.Need-part-fill-judged-end-2 Inv-loop μ-loop
+part-fill-judged-end-2 : tie.Need-part-fill-judged-end-2
 part-fill-judged-end-2 c = search needs
 
-fill-judged-requires : tie.Need-fill-judged-requires Inv-loop μ-loop
+fill-judged-requires : tie.Need-fill-judged-requires
 fill-judged-requires c κs =
-    let l = c .before .before .before .before .before .before .before .before .before .before .before .before .before .before .before .before in
-    let start = entry l in
-    (start .pre .0, start .pre .1, l .loop .inv .size ∙ start .pre .2, looked l)
+    let here = c .before .before .before .before .before .before .before .before .before in
+    let start = entry here in
+    (start .pre .0, start .pre .1, here .fill-clean .ensures .1 ∙ start .pre .2)
 
--- the blocks that are left, judged
-rested : (c : tie.After-slice-known4 Inv-loop μ-loop)
-    → let l = c .before .before .before .before .before .before .before .before .before .before .before .before .before .before .before .before .before .before .before .before .before in
-    let a = entry l .args in
-    let f = c .before .before .before .before .fill-judged in
-    Fills (decodeBatch (whole (entry l)) (length (a .out .now)) (a .state .now) (a .blocks .now)) (a .out .now)
-    (l .loop .i + f .result) (f .last .1 .1 .1 .0)
-    (putMid (l .loop .i) (length (l .loop .out) - l .loop .i) (l .loop .out) (f .last .1 .1 .1 .1 .1 .0))
+-- what is left, judged
+rested : (c : tie.After-slice-known6)
+    → let here = c .before .before .before .before .before .before .before .before .before .before .before .before .before .before in
+    let a = entry here .args in
+    let f = here .fill-clean in
+    let j = c .before .before .before .before .fill-judged in
+    Fills (decodeBatch (whole (entry here)) (length (a .out .now)) (a .state .now) (a .blocks .now)) (a .out .now)
+    (f .result + j .result) (j .last .1 .1 .0)
+    (putMid (f .result) (length (f .last .1 .1 .1 .1 .0) - f .result) (f .last .1 .1 .1 .1 .0) (j .last .1 .1 .1 .1 .0))
 rested c =
-    let l = c .before .before .before .before .before .before .before .before .before .before .before .before .before .before .before .before .before .before .before .before .before in
-    let start = entry l in
+    let here = c .before .before .before .before .before .before .before .before .before .before .before .before .before .before in
+    let start = entry here in
     let a = start .args in
-    let f = c .before .before .before .before .fill-judged in
-    going-rest (whole start) (a .state .now) (a .blocks .now) (a .out .now) (l .loop .i) (l .loop .state) (l .loop .out)
-    (l .loop .inv) (f .result) (f .last .1 .1 .1 .0) (f .last .1 .1 .1 .1 .1 .0) (f .ensures)
+    let f = here .fill-clean in
+    let j = c .before .before .before .before .fill-judged in
+    reached-rest (decodeBatch (whole start)) (a .state .now) (a .blocks .now) (a .out .now) (f .result)
+    (f .last .1 .1 .0) (f .last .1 .1 .1 .1 .0) (f .ensures .0) (j .result) (j .last .1 .1 .0) (j .last .1 .1 .1 .1 .0)
+    (j .ensures)
 
-add-result : tie.Need-add-result Inv-loop μ-loop
+-- what owning a slice tells: it has fewer than 2^63 bytes
+taken-bytes : (c : tie.Start) → length (c .args .out .now) * 4 < 2 ^ 63
+taken-bytes c = omega arith
+
+add-result : tie.Need-add-result
 add-result c =
-    let start = entry (c .before .before .before .before .before .before .before .before .before .before .before .before .before .before .before .before .before .before .before .before .before) in
+    let start = entry (c .before .before .before .before .before .before .before .before .before .before .before .before .before .before) in
     let a = start .args in
     let most = decode-size (whole start) (length (a .out .now)) (a .state .now) (a .blocks .now) in
     let bytes = taken-bytes start in
     record { fits = omega (arith, rested c .count) }
 
-same-length-5 : tie.Need-same-length-5 Inv-loop μ-loop
-same-length-5 c = search needs
+same-length-3 : tie.Need-same-length-3
+same-length-3 c = search needs
 
-same-length-6 : tie.Need-same-length-6 Inv-loop μ-loop
-same-length-6 c = search needs
+same-length-4 : tie.Need-same-length-4
+same-length-4 c = search needs
 
-returns-3 : tie.Need-returns-3 Inv-loop μ-loop
-returns-3 c = rested c
-
-judged-requires : tie.Need-judged-requires Inv-loop μ-loop
-judged-requires c κs = search needs
-
-take-block-requires : tie.Need-take-block-requires Inv-loop μ-loop
-take-block-requires c κs =
-    let l = turn (c .before .before .before .before) in
-    let s = l .loop .state in
-    let k = tests (c .before .before .before .before .before .before .before .before) in
-    let r = keep-room (whole (entry l)) s (block l) k in
-    let n = k .sizes .n-from in
-    (r .0, r .1, r .2, r .3, omega arith, k .sizes .n-to, r .4, oldest-lt (whole (entry l)) s (block l) k)
-
-mul-out : tie.Need-mul-out Inv-loop μ-loop
-mul-out c =
-    let l = c .before .before .before .before .before .before .before .before .before .before .before .before .before .before .before .before .before in
-    scaled-fits (l .loop .i) (length (entry l .args .out .now)) 4 (inside (c .before .before .before .before .before .before .before .before .before .before .before .before .before .before .before .before) .1) (taken-bytes (entry l))
-
-slice-write-out : tie.Need-slice-write-out Inv-loop μ-loop
-slice-write-out c = search needs
-
-add-i : tie.Need-add-i Inv-loop μ-loop
-add-i c = search needs
-
-loop-less : tie.Need-loop-less Inv-loop μ-loop
-loop-less c = search needs
-
--- points that the end of a turn looks back to
-abbrev words : tie.After-slice-known5 Inv-loop μ-loop → tie.After-terms Inv-loop μ-loop
-words c = c .before .before .before .before .before .before .before
-
--- the register 0 is the image of 0
-explained : (c : tie.After-slice-known5 Inv-loop μ-loop)
-    → Found 0 ≡ found (rowsOf (whole (entry (turn (words c))))) (words c .terms .result .register)
-explained c =
-    let R = rowsOf (whole (entry (turn (words c)))) in
-    sym (ap (found R) (c .before .before .before .before .before .if3 .left) ∙ zero-found R)
-
-memory-next : (c : tie.After-slice-known5 Inv-loop μ-loop)
-    → let l = turn (words c) in
-    c .before .before .take-block .last .0 ≡ decoderNext (whole (entry l)) (l .loop .state) (block l)
-memory-next c =
-    let x = words c in
-    let l = turn x in
-    let start = entry l in
-    let j = c .before .before .before .judged in
-    c .before .before .take-block .ensures .1
-    ∙ ap (λ (k : ℕ). advanced (start .args .t .span) (start .args .t .depth) (l .loop .state) (x .terms .result .w / 2) k
-    (information (start .args .t .symbols) (block l))) (j .ensures .1 .0)
-    ∙ memory-is (whole start) (l .loop .state) (block l) (x .terms .result .w) (width start) (joined x)
-    (x .terms .result .register) (registered x) (Found 0) (explained c)
-
-entry-next : (c : tie.After-slice-known5 Inv-loop μ-loop)
-    → let l = turn (words c) in
-    c .before .before .take-block .result ∷ [] ≡ decodeEntries (delivery (whole (entry l)) (l .loop .state) (block l))
-entry-next c =
-    let x = words c in
-    let l = turn x in
-    let start = entry l in
-    let u = whole start in
-    let s = l .loop .state in
-    let j = c .before .before .before .judged in
-    ap (λ (e : ℕ). e ∷ []) (c .before .before .take-block .ensures .0)
-    ∙ entry-is u s (block l) (j .result .mark)
-    (delayedOf u s (turnOf s) 0 ⊕ information (start .args .t .symbols) (j .result .error))
-    (j .ensures .1 .1 ∙ mark-is u s (block l) (x .terms .result .w) (width start) (joined x) (x .terms .result .register)
-    (registered x) (Found 0) (explained c))
-    (ap (λ (e : ℕ). delayedOf u s (turnOf s) 0 ⊕ information (start .args .t .symbols) e) (j .ensures .0)
-    ∙ info-is u s (block l) (x .terms .result .w) (width start) (joined x) (x .terms .result .register) (registered x)
-    (Found 0) (explained c))
-
-loop-again : tie.Need-loop-again Inv-loop μ-loop
-loop-again c =
-    let l = turn (words c) in
-    let start = entry l in
-    let a = start .args in
-    let i = inside (c .before .before .before .before .before .before .before .before .before .before .before .before .before .before .before .before) in
-    turn-next (whole start) (a .state .now) (a .blocks .now) (a .out .now) (l .loop .i) (l .loop .state) (l .loop .out)
-    (l .loop .inv) (start .pre .0) (start .pre .2) (i .0) (i .1) (none (c .before .before .before .before .before .before .before .before .before .before .before)) (c .before .before .take-block .last .0)
-    (memory-next c) (c .before .before .take-block .result) (entry-next c)
-
-same-length-7 : tie.Need-same-length-7 Inv-loop μ-loop
-same-length-7 c = search needs
-
-same-length-8 : tie.Need-same-length-8 Inv-loop μ-loop
-same-length-8 c = search needs
-
-returns-4 : tie.Need-returns-4 Inv-loop μ-loop
-returns-4 c =
-    let l = c .before in
-    let start = entry l in
-    let a = start .args in
-    going-all (whole start) (a .state .now) (a .blocks .now) (a .out .now) (l .loop .i) (l .loop .state) (l .loop .out)
-    (l .loop .inv) (let e = l .before .min .ensures in omega arith)
+returns-2 : tie.Need-returns-2
+returns-2 c = rested c
 
 pub fill-spec : {M : Type 1} → statement M
 fill-spec =
     tie.close
-    (tie.spec Inv-loop μ-loop error-words-requires slice-aggregate-lookup-of lookup-of-requires mask-requires sub-one-at one-at-requires min-requires loop-holds mul-received shared-slice-read-received cast-received first-malformed-requires same-length same-length-2 returns same-length-3 same-length-4 returns-2 look-up-requires terms-requires mul-fill-judged sub-fill-judged part-fill-judged-start part-fill-judged-end mul-fill-judged-2 sub-fill-judged-2 part-fill-judged-start-2 part-fill-judged-end-2 fill-judged-requires add-result same-length-5 same-length-6 returns-3 judged-requires take-block-requires mul-out slice-write-out add-i loop-less loop-again same-length-7 same-length-8 returns-4)
+    (tie.spec fill-clean-requires min-requires same-length same-length-2 returns mul-fill-judged sub-fill-judged part-fill-judged-start part-fill-judged-end mul-fill-judged-2 sub-fill-judged-2 part-fill-judged-start-2 part-fill-judged-end-2 fill-judged-requires add-result same-length-3 same-length-4 returns-2)

@@ -11,13 +11,14 @@ use lib.ListN.{length, getD, set, take}
 use Rattle.tables.specs.declared.table.Table.{Table}
 use Rattle.tables.specs.Lent.{withRows}
 use Rattle.link.proofs.Going.{Going, going-start, going-all, turn-malformed, turn-large, turn-passed, turn-next}
-use Rattle.link.proofs.Going.{entry-is}
+use Rattle.link.proofs.Entry.{entry-is}
 use lib.Pow.{pow-mono}
 use Rattle.span.specs.declared.eliminate.Least.{Least}
 use Rattle.span.specs.Word.{_⊕_}
 use Rattle.span.specs.Combination.{combination}
 use Rattle.span.specs.Elimination.{basisOf}
 use Rattle.span.specs.Dual.{dual}
+use Rattle.span.specs.Lookup.{Lookup}
 use Rattle.span.proofs.Lookups.{looked-up}
 use Rattle.span.proofs.Masks.{above-mask}
 use Rattle.tables.specs.Table.{infoRows, rowsOf}
@@ -29,22 +30,25 @@ use Rattle.link.specs.Step.{information, found, errorOf}
 use Rattle.link.specs.Decoder.{decoderRegister, decoderNext, delivery, advanced}
 use Rattle.link.proofs.Decoder.{DecoderTaken, decoder-taken}
 use Rattle.link.proofs.Error.{error-lt}
-use Rattle.link.proofs.CodeWords.{counted-words, code-below}
+use Rattle.link.proofs.CodeWords.{counted-words, sixteen-words, code-below}
 use Rattle.link.proofs.Room.{terms-room, keep-room, oldest-lt}
 use Rattle.link.proofs.StepWords.{register-is, memory-is, info-is, mark-is}
 use Rattle.link.proofs.decode_batch.fill_judged.Statement.{statement}
 use Rattle.link.proofs.decode_batch.fill_judged.Tie as tie
 
 abbrev Inv-loop : tie.InvT-loop
-Inv-loop t rows tables state₀ blocks out₀ b most top end i₀ state out i =
+Inv-loop t rows state₀ blocks out₀ tables b ones most top end i₀ state out i =
     Going (withRows t rows) state₀ blocks out₀ i state out
 
 abbrev μ-loop : tie.MeasureT-loop
-μ-loop t rows tables state₀ blocks out₀ b most top end i₀ state out i = end - i
+μ-loop t rows state₀ blocks out₀ tables b ones most top end i₀ state out i = end - i
 
 -- points that the proofs look back to: the call's entry from a turn, and what is known there
+abbrev first : tie.After-b Inv-loop μ-loop → tie.Start Inv-loop μ-loop
+first c = c .before .before .before .before .before .before .before .before .before .before
+
 abbrev entry : tie.At-loop Inv-loop μ-loop → tie.Start Inv-loop μ-loop
-entry c = c .before .before .before .before .before .before .before .before .before .before .before .before
+entry c = first (c .before .before .before .before .before .before .before)
 
 abbrev whole : tie.Start Inv-loop μ-loop → Table
 whole c = withRows (c .args .t) (c .args .rows .now)
@@ -64,11 +68,20 @@ size c =
 taken-bytes : (c : tie.Start Inv-loop μ-loop) → length (c .args .out .now) * 4 < 2 ^ 63
 taken-bytes c = omega arith
 
+handed-bytes : (c : tie.Start Inv-loop μ-loop) → length (c .args .blocks .now) * 2 < 2 ^ 63
+handed-bytes c = omega arith
+
 error-words-requires : tie.Need-error-words-requires Inv-loop μ-loop
 error-words-requires c κs =
     let here = c .before .before .before .before in
     let z = facts here in
     (z .n-from, z .n-to, width here)
+
+slice-aggregate-lookup-of : tie.Need-slice-aggregate-lookup-of Inv-loop μ-loop
+slice-aggregate-lookup-of c = search needs
+
+lookup-of-requires : tie.Need-lookup-of-requires Inv-loop μ-loop
+lookup-of-requires c κs = search needs
 
 slice-aggregate-dual-basis : tie.Need-slice-aggregate-dual-basis Inv-loop μ-loop
 slice-aggregate-dual-basis c = search needs
@@ -76,25 +89,36 @@ slice-aggregate-dual-basis c = search needs
 dual-basis-requires : tie.Need-dual-basis-requires Inv-loop μ-loop
 dual-basis-requires c κs = search needs
 
+together-requires : tie.Need-together-requires Inv-loop μ-loop
+together-requires c κs = search needs
+
 mask-requires : tie.Need-mask-requires Inv-loop μ-loop
 mask-requires c κs = search needs
 
 sub-one-at : tie.Need-sub-one-at Inv-loop μ-loop
-sub-one-at c = let z = facts (c .before .before .before .before .before .before .before .before .before) .N-from in omega arith
+sub-one-at c = let z = facts (first (c .before .before .before .before)) .N-from in omega arith
 
 one-at-requires : tie.Need-one-at-requires Inv-loop μ-loop
-one-at-requires c κs = let z = facts (c .before .before .before .before .before .before .before .before .before) .N-to in omega arith
+one-at-requires c κs = let z = facts (first (c .before .before .before .before)) .N-to in omega arith
 
 min-requires : tie.Need-min-requires Inv-loop μ-loop
 min-requires c κs = search needs
 
 loop-holds : tie.Need-loop-holds Inv-loop μ-loop
 loop-holds c =
-    let here = c .before .before .before .before .before .before .before .before .before .before .before in
+    let here = first (c .before .before .before .before .before .before) in
     going-start (whole here) (here .args .state .now) (here .args .blocks .now) (here .args .out .now)
 
+-- the turn's block is there, and so is its room
+inside : (c : tie.In-loop Inv-loop μ-loop)
+    → let l = c .before in
+    (l .loop .i < length (entry l .args .blocks .now)) × (l .loop .i < length (entry l .args .out .now))
+inside c = let e = c .before .before .min .ensures in (omega arith, omega arith)
+
 mul-received : tie.Need-mul-received Inv-loop μ-loop
-mul-received c = search needs
+mul-received c =
+    let l = c .before in
+    scaled-fits (l .loop .i) (length (entry l .args .blocks .now)) 2 (inside c .0) (handed-bytes (entry l))
 
 shared-slice-read-received : tie.Need-shared-slice-read-received Inv-loop μ-loop
 shared-slice-read-received c = search needs
@@ -111,12 +135,6 @@ first-malformed-requires c κs =
 
 abbrev block : tie.At-loop Inv-loop μ-loop → ℕ
 block c = getD (entry c .args .blocks .now) (c .loop .i) 0
-
--- the turn's block is there, and so is its room
-inside : (c : tie.In-loop Inv-loop μ-loop)
-    → let l = c .before in
-    (l .loop .i < length (entry l .args .blocks .now)) × (l .loop .i < length (entry l .args .out .now))
-inside c = let e = c .before .before .min .ensures in (omega arith, omega arith)
 
 tested : (c : tie.At-loop Inv-loop μ-loop) → ltb (c .before .before .before .before .mask .result) (block c) ≡ leb (2 ^ entry c .args .t .symbols) (block c)
 tested c =
@@ -179,16 +197,25 @@ look-up-requires c κs = search needs
 
 terms-requires : tie.Need-terms-requires Inv-loop μ-loop
 terms-requires c κs =
-    let l = c .before .before .before .before .before .before .before .before in
+    let l = c .before .before .before .before .before .before .before .before .before in
     let s = l .loop .state in
     let u = whole (entry l) in
-    let r = terms-room u s (block l) (tests (c .before .before)) in
+    let r = terms-room u s (block l) (tests (c .before .before .before)) in
     let e = sym (l .before .before .one-at .ensures) in
     (r .0, r .1, subst (λ (x : ℕ). syndromeOf u s (turnOf s) < x) e (r .2), subst (λ (x : ℕ). x ≤ 2 ^ 63) e (r .3), r .4)
 
 -- the turn from its words, and the words
 abbrev turn : tie.After-terms Inv-loop μ-loop → tie.At-loop Inv-loop μ-loop
-turn c = c .before .before .before .before .before .before .before .before .before
+turn c = c .before .before .before .before .before .before .before .before .before .before
+
+-- the tables are those of the rows
+looked : (c : tie.At-loop Inv-loop μ-loop) → Lookup (rowsOf (whole (entry c))) (c .before .before .before .before .before .before .before .before .before .before .lookup-of .result)
+looked c =
+    let start = entry c in
+    let w = c .before .before .before .before .before .before .before .before .before .before .before .before .error-words in
+    subst (λ (ws : List ℕ). Lookup ws (c .before .before .before .before .before .before .before .before .before .before .lookup-of .result))
+    (sixteen-words (rowsOf (whole start)) (w .result) (start .args .t .symbols) 0 (size start) (w .ensures)
+    (facts start .n-to)) (c .before .before .before .before .before .before .before .before .before .before .lookup-of .ensures)
 
 joined : (c : tie.After-terms Inv-loop μ-loop)
     → let l = turn c in
@@ -201,8 +228,8 @@ joined c =
     c .terms .ensures .0
     ∙ ap (λ (x : ℕ). pendingOf (whole start) s (turnOf s) ⊕ x)
     (c .before .look-up .ensures
-    ∙ looked-up (rowsOf (whole start)) (start .args .tables .now) (block l)
-    (let z = size start in let n = facts start .n-to in omega arith) (start .pre .3))
+    ∙ looked-up (rowsOf (whole start)) (l .before .before .before .before .before .before .before .before .before .before .lookup-of .result) (block l)
+    (let z = size start in let n = facts start .n-to in omega arith) (looked l))
 
 registered : (c : tie.After-terms Inv-loop μ-loop)
     → let l = turn c in
@@ -224,12 +251,13 @@ explained c =
     let l = turn (c .before .before .before .before .before) in
     let start = entry l in
     let n = facts start .n-to in
-    let b = l .before .before .before .before .before .dual-basis in
-    let w = l .before .before .before .before .before .before .before .error-words in
+    let b = l .before .before .before .before .before .before .before .before .dual-basis in
+    let w = l .before .before .before .before .before .before .before .before .before .before .before .before .error-words in
     let z = size start in
     c .found-by .ensures (rowsOf (whole start)) (omega arith) (code-below (whole start) (facts start))
     (b .ensures ∙ ap (λ (ws : List ℕ). dual (basisOf ws))
     (counted-words (rowsOf (whole start)) (w .result) (start .args .t .symbols) 0 z (w .ensures) (omega arith)))
+    (l .before .before .before .before .before .together .ensures)
 
 judged-requires : tie.Need-judged-requires Inv-loop μ-loop
 judged-requires c κs =
@@ -243,35 +271,46 @@ take-block-requires : tie.Need-take-block-requires Inv-loop μ-loop
 take-block-requires c κs =
     let l = turn (c .before .before .before .before .before .before .before) in
     let s = l .loop .state in
-    let k = tests (c .before .before .before .before .before .before .before .before .before .before) in
+    let k = tests (c .before .before .before .before .before .before .before .before .before .before .before) in
     let r = keep-room (whole (entry l)) s (block l) k in
     let n = k .sizes .n-from in
     (r .0, r .1, r .2, r .3, omega arith, k .sizes .n-to, r .4, oldest-lt (whole (entry l)) s (block l) k)
 
+-- points that the end of a turn looks back to
+abbrev words : tie.After-slice-known3 Inv-loop μ-loop → tie.After-terms Inv-loop μ-loop
+words c = c .before .before .before .before .before .before .before .before .before .before
+
+abbrev looped : tie.After-slice-known3 Inv-loop μ-loop → tie.In-loop Inv-loop μ-loop
+looped c = words c .before .before .before .before .before .before .before .before .before
+
+abbrev passed : tie.After-slice-known3 Inv-loop μ-loop → tie.Else2 Inv-loop μ-loop
+passed c = words c .before .before .before .before
+
 -- the entry's place
-written : (c : tie.After-slice-known3 Inv-loop μ-loop) → let l = c .before .before .before .before .before .before .before .before .before .before .before .before .before .before .before .before .before .before .before in l .loop .i < length (l .loop .out)
+written : (c : tie.After-slice-known3 Inv-loop μ-loop)
+    → let l = turn (words c) in
+    l .loop .i < length (l .loop .out)
 written c =
-    let r = inside (c .before .before .before .before .before .before .before .before .before .before .before .before .before .before .before .before .before .before) in
-    let z = c .before .before .before .before .before .before .before .before .before .before .before .before .before .before .before .before .before .before .before .loop .inv .reached .size in
+    let r = inside (looped c) in
+    let z = turn (words c) .loop .inv .reached .size in
     omega arith
 
 mul-out : tie.Need-mul-out Inv-loop μ-loop
 mul-out c =
-    let l = c .before .before .before .before .before .before .before .before .before .before .before .before .before .before .before .before .before .before .before in
-    scaled-fits (l .loop .i) (length (entry l .args .out .now)) 4 (inside (c .before .before .before .before .before .before .before .before .before .before .before .before .before .before .before .before .before .before) .1) (taken-bytes (entry l))
+    let l = turn (words c) in
+    scaled-fits (l .loop .i) (length (entry l .args .out .now)) 4 (inside (looped c) .1) (taken-bytes (entry l))
 
 slice-write-out : tie.Need-slice-write-out Inv-loop μ-loop
 slice-write-out c = written c
 
 add-i : tie.Need-add-i Inv-loop μ-loop
-add-i c = search needs
+add-i c =
+    let x = words c in
+    let bytes = taken-bytes (entry (turn x)) in
+    record { fits = omega (arith, inside (looped c) .1) }
 
 loop-less : tie.Need-loop-less Inv-loop μ-loop
 loop-less c = search needs
-
--- points that the end of a turn looks back to
-abbrev words : tie.After-slice-known3 Inv-loop μ-loop → tie.After-terms Inv-loop μ-loop
-words c = c .before .before .before .before .before .before .before .before .before .before
 
 memory-next : (c : tie.After-slice-known3 Inv-loop μ-loop)
     → let l = turn (words c) in
@@ -313,9 +352,9 @@ loop-again c =
     let l = turn (words c) in
     let start = entry l in
     let a = start .args in
-    let i = inside (c .before .before .before .before .before .before .before .before .before .before .before .before .before .before .before .before .before .before) in
+    let i = inside (looped c) in
     turn-next (whole start) (a .state .now) (a .blocks .now) (a .out .now) (l .loop .i) (l .loop .state) (l .loop .out)
-    (l .loop .inv) (start .pre .0) (start .pre .2) (i .0) (i .1) (none (c .before .before .before .before .before .before .before .before .before .before .before .before .before)) (c .before .before .take-block .last .0)
+    (l .loop .inv) (start .pre .0) (start .pre .2) (i .0) (i .1) (none (passed c)) (c .before .before .take-block .last .0)
     (memory-next c) (c .before .before .take-block .result) (entry-next c)
 
 same-length-5 : tie.Need-same-length-5 Inv-loop μ-loop
@@ -335,4 +374,4 @@ returns-3 c =
 pub fill-judged-spec : {M : Type 1} → statement M
 fill-judged-spec =
     tie.close
-    (tie.spec Inv-loop μ-loop error-words-requires slice-aggregate-dual-basis dual-basis-requires mask-requires sub-one-at one-at-requires min-requires loop-holds mul-received shared-slice-read-received cast-received first-malformed-requires same-length same-length-2 returns same-length-3 same-length-4 returns-2 look-up-requires terms-requires found-by-requires judged-requires take-block-requires mul-out slice-write-out add-i loop-less loop-again same-length-5 same-length-6 returns-3)
+    (tie.spec Inv-loop μ-loop error-words-requires slice-aggregate-lookup-of lookup-of-requires slice-aggregate-dual-basis dual-basis-requires together-requires mask-requires sub-one-at one-at-requires min-requires loop-holds mul-received shared-slice-read-received cast-received first-malformed-requires same-length same-length-2 returns same-length-3 same-length-4 returns-2 look-up-requires terms-requires found-by-requires judged-requires take-block-requires mul-out slice-write-out add-i loop-less loop-again same-length-5 same-length-6 returns-3)
