@@ -33,7 +33,16 @@ use Rattle.link.specs.Memory.{joining, nextTurn, coderWords, turnOf, pen
 use Rattle.link.specs.Refusals.{coderMalformed, coderFault}
 use Rattle.span.proofs.Masks.{topped-lt}
 use Rattle.link.proofs.Malformed.{fine-coder}
-use Rattle.link.proofs.Refusals.{step-fault, step-passed, refuses, takes, call-numbers, zero-refused, LentTaken, lent-taken}
+use Rattle.link.proofs.Refusals.{
+  step-fault,
+  step-passed,
+  refuses,
+  takes,
+  call-numbers,
+  zero-refused,
+  LentTaken,
+  lent-taken,
+}
 
 -- ---- refusals
 

@@ -22,7 +22,15 @@ use Rattle.link.specs.declared.decode.DecodeAnswer.the-variants.{Deliver
 use Rattle.link.specs.Memory.{turnOf, fillOf, delayOf, delayedOf}
 use Rattle.link.specs.Step.{errorOf}
 use Rattle.link.specs.Refusals.{decoderFault}
-use Rattle.link.specs.Decoder.{decoderFound, decodeAnswer, delivered, delivery, decodeValues, recordNumbers, markNumber}
+use Rattle.link.specs.Decoder.{
+  decoderFound,
+  decodeAnswer,
+  delivered,
+  delivery,
+  decodeValues,
+  recordNumbers,
+  markNumber,
+}
 use Rattle.link.specs.Batch.{decodeEntry, decodeEntries, ENTRY}
 use Rattle.link.proofs.Coder.{coded-fits}
 use Rattle.link.proofs.Decoder.{decoder-taken}

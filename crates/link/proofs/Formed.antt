@@ -260,7 +260,8 @@ module _ (t : Table) (s : List ℕ) (r : ℕ) (answer : DecodeAnswer) (after : L
       rw (eqb-true k (turnOf s) q) (rw (step .syndrome-on)
       (kept-lt (found (infoRows t ++ (1 ∷ [])) reg) reg (N - 1) (register-lt n N (infoRows t) s r (step .syndrome-lt))))
   syndrome-kept false q =
-      rw (step .others k 1 (f .turn) (let z = step .fits .N-from in omega arith) (eqb-false k (turnOf s) q)) (f .syndrome)
+      rw (step .others k 1 (f .turn) (let z = step .fits .N-from in omega arith) (eqb-false k (turnOf s) q))
+      (f .syndrome)
 
   -- a block that stays has its bound from the place it had before, and the youngest has no parity
   moved-kept : (i : ℕ) → i < N - 1 → Dec (suc i < N - 1) → getD after (streamIn N (turnOf s) + 2 + i) 0 < 2 ^ (n - 1)

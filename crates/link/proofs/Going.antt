@@ -66,7 +66,8 @@ module _ (u : Table) (before bs out : List ℕ) where
       refused : (k : ℕ) → decoderFault u s r ≡ k → 0 < k → Fills (decodeBatch u (length out) before bs) out i s out'
       unfolding decodeBatch
       refused k e some =
-          reached-refused entries (decodeMemory u) before bs out i s out' (g .reached) left (decoded-none u s r k e some)
+          reached-refused entries (decodeMemory u) before bs out i s out' (g .reached) left
+          (decoded-none u s r k e some)
 
       -- 14, where a stream is looked at
       pub turn-malformed : (ltb i (u .depth) && decoderMalformed u s) ≡ true

@@ -42,4 +42,5 @@ mid-rest s a = take-all (length s - a) (drop a s) (let l = length-drop a s in om
 pub put-rest : (s part : List ℕ) (a : ℕ) → a ≤ length s → putMid a (length s - a) s part ≡ take a s ++ part
 put-rest s part a h =
     put-part s part a (length s) h
-    ∙ ap (λ (l : List ℕ). take a s ++ (part ++ l)) (drop-length s) ∙ ap (λ (l : List ℕ). take a s ++ l) (append-nil part)
+    ∙ ap (λ (l : List ℕ). take a s ++ (part ++ l)) (drop-length s) ∙ ap (λ (l : List ℕ). take a s ++ l)
+    (append-nil part)

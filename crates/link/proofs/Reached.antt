@@ -97,7 +97,8 @@ module _ (entries memory : List ℕ → ℕ → List ℕ) where
                 ∙ ap (λ (l : List ℕ). take i out' ++ l) (sym (r .past)) ∙ take-append-drop i out');
           }
 
-      pub reached-refused : i < length bs → entries s (getD bs i 0) ≡ [] → Fills (rest (length out) before bs) out i s out'
+      pub reached-refused : i < length bs → entries s (getD bs i 0) ≡ [] → Fills (rest (length out) before bs) out i s
+          out'
       reached-refused left none =
           done (ap (rest (length out - i) s) (drop-cons bs i 0 left)
           ∙ batch-refused entries memory (length out - i) s (getD bs i 0) (drop (suc i) bs) none)

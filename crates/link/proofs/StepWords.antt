@@ -41,14 +41,16 @@ module _ (t : Table) (s : List ℕ) (r w : ℕ) (room : t .symbols - 1 ≤ lengt
       h
       ∙ ap₂ (λ (b : Bool) (k : ℕ). syndromeOf t s (turnOf s) + sel b k)
       (ap odd e ∙ joined-odd (infoRows t) (t .symbols - 1) width (pendingOf t s (turnOf s)) r) g
-      ∙ ap (λ (y : ℕ). syndromeOf t s (turnOf s) + y) (sel-digit (rawTerm (decoderJoining t s r) (t .symbols) r) (2 ^ (t .span - 1)))
+      ∙ ap (λ (y : ℕ). syndromeOf t s (turnOf s) + y) (sel-digit (rawTerm (decoderJoining t s r) (t .symbols) r)
+      (2 ^ (t .span - 1)))
 
   module _ (x : ℕ) (is : x ≡ decoderRegister t s r) (f : Least) (g : f ≡ found (rowsOf t) x) where
     pub found-is : f ≡ decoderFound t s r
     unfolding decoderFound decoderRegister
     found-is = g ∙ ap (found (rowsOf t)) is
 
-    pub memory-is : advanced (t .span) (t .depth) s (w / 2) (keptOf f x) (information (t .symbols) r) ≡ decoderNext t s r
+    pub memory-is : advanced (t .span) (t .depth) s (w / 2) (keptOf f x) (information (t .symbols) r) ≡ decoderNext t s
+        r
     unfolding decoderNext partNext decoderFound decoderRegister decoderJoining
     memory-is =
         ap₂ (λ (p k : ℕ). advanced (t .span) (t .depth) s p k (information (t .symbols) r)) pending-is

@@ -82,12 +82,13 @@ pub record FillsPart (b : Batch) (part after : List ℕ) : Type 0 where
 abbrev pub followed : List ℕ → Batch → Batch
 followed es b = record { entries = es ++ b .entries; memory = b .memory }
 
-pub record Reached (rest : ℕ → List ℕ → List ℕ → Batch) (before bs out : List ℕ) (i : ℕ) (s out' : List ℕ) : Type 0 where
-  pub left : i ≤ length bs
-  pub room : i ≤ length out
-  pub size : length out' ≡ length out
-  pub comes : rest (length out) before bs ≡ followed (take i out') (rest (length out - i) s (drop i bs))
-  pub past : drop i out' ≡ drop i out
+pub record Reached (rest : ℕ → List ℕ → List ℕ → Batch) (before bs out : List ℕ) (i : ℕ) (s out' : List ℕ) : Type 0
+  where
+    pub left : i ≤ length bs
+    pub room : i ≤ length out
+    pub size : length out' ≡ length out
+    pub comes : rest (length out) before bs ≡ followed (take i out') (rest (length out - i) s (drop i bs))
+    pub past : drop i out' ≡ drop i out
 
 -- "Entries are 32-bit numbers": a call that is not refused has one, the coded block, or the information and the mark of
 -- a step that is taken, which are the first two of `decodeValues`

@@ -1,5 +1,5 @@
-// The coder by the batch: what holds of all its blocks is tested once, and the rows are looked up in tables that are made
-// once.
+// The coder by the batch: what holds of all its blocks is tested once, and the rows are looked up in tables that are
+// made once.
 use crate::code::malformed;
 use crate::code::taken;
 use crate::stream::one_at;
@@ -19,7 +19,8 @@ ghost use Rattle.link.specs.Batch.{codeBatch, Fills, FillsPart};
 
 // Once 12 and 13 are settled: 14 and 15 of each block, and its step.
 fn fill(t: Table, rows: &[u64], state: &mut [u64], infos: &[u16], out: &mut [u32]) -> usize
-    requires { ⌜ (fit (withRows t (now rows)) ≡ true) × (length (now rows) ≡ 15) × (length (now state) ≡ 1 + t .depth) ⌝ }
+    requires { ⌜ (fit (withRows t (now rows)) ≡ true) × (length (now rows) ≡ 15)
+        × (length (now state) ≡ 1 + t .depth) ⌝ }
     ensures { λ r.
         ⌜ Fills (codeBatch (withRows t (now (rows .entry))) (length (now (out .entry))) (now (state .entry))
         (now (infos .entry))) (now (out .entry)) r (now (state .exit)) (now (out .exit)) ⌝ }

@@ -142,10 +142,12 @@ fn image(rows: &[u64], n: usize, received: u64) -> u64
 // Lines 1 and 2 on the turn's stream, of N and 2^(N−1): w is its pending word and the image of the received block, so
 // that bit 0 of w is the raw term, which stands above the syndrome word in the register.
 pub(crate) fn terms(state: &[u64], span: usize, top: u64, image: u64) -> Joined
-    requires { ⌜ (streamAt (table 0 span 0 []) (turnOf (now state)) + 1 < length (now state)) × (length (now state) ≤ 4162)
+    requires { ⌜ (streamAt (table 0 span 0 []) (turnOf (now state)) + 1 < length (now state))
+        × (length (now state) ≤ 4162)
         × (getD (now state) (streamAt (table 0 span 0 []) (turnOf (now state)) + 1) 0 < top) × (top ≤ 2 ^ 63)
         × (span ≤ 64) ⌝ }
-    ensures w { λ r. ⌜ r .w ≡ getD (now (state .entry)) (streamAt (table 0 span 0 []) (turnOf (now (state .entry)))) 0 ⊕ image ⌝ }
+    ensures w { λ r.
+        ⌜ r .w ≡ getD (now (state .entry)) (streamAt (table 0 span 0 []) (turnOf (now (state .entry)))) 0 ⊕ image ⌝ }
     ensures register { λ r.
         ⌜ r .register ≡ getD (now (state .entry)) (streamAt (table 0 span 0 []) (turnOf (now (state .entry))) + 1) 0
         + sel (odd (r .w)) top ⌝ }
@@ -284,7 +286,8 @@ pub(crate) fn keep(
 ) -> u64
     requires { ⌜ (turnOf (now state) < depth) × (depth ≤ 64) × (2 ≤ span) × (span ≤ 64)
         × (length (now state) ≡ decoderWords (table 0 span depth [])) ⌝ }
-    ensures oldest { λ r. ⌜ r ≡ delayedOf (table 0 span depth []) (now (state .entry)) (turnOf (now (state .entry))) 0 ⌝ }
+    ensures oldest { λ r.
+        ⌜ r ≡ delayedOf (table 0 span depth []) (now (state .entry)) (turnOf (now (state .entry))) 0 ⌝ }
     ensures memory { λ r. ⌜ now (state .exit) ≡ advanced span depth (now (state .entry)) (w / 2) kept youngest ⌝ }
 {
     let turn = state[0];

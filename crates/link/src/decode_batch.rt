@@ -111,7 +111,8 @@ fn take_block(
     ensures entry { λ r.
         ⌜ r ≡ cond (ltb (fillOf (now (state .entry))) (delayOf (table n span depth []))) (decodeEntry 0 0)
         (decodeEntry (markNumber (v .mark))
-        (delayedOf (table n span depth []) (now (state .entry)) (turnOf (now (state .entry))) 0 ⊕ information n (v .error))) ⌝ }
+        (delayedOf (table n span depth []) (now (state .entry)) (turnOf (now (state .entry))) 0
+        ⊕ information n (v .error))) ⌝ }
     ensures memory { λ r.
         ⌜ now (state .exit) ≡ advanced span depth (now (state .entry)) (w / 2) (v .kept) (information n received) ⌝ }
 {
@@ -172,7 +173,7 @@ fn fill_judged(t: Table, rows: &[u64], state: &mut [u64], blocks: &[u16], out: &
     i
 }
 
-// The same up to a register that is not 0, or to a block that is refused: registers of 0 are the image of 0, and a batch
+// The same up to a register that is not 0, or to a block that is refused: the register 0 is the image of 0, and a batch
 // of right blocks makes no basis.
 fn fill_clean(t: Table, rows: &[u64], state: &mut [u64], blocks: &[u16], out: &mut [u32]) -> usize
     requires { ⌜ (fit (withRows t (now rows)) ≡ true) × (length (now rows) ≡ 15)

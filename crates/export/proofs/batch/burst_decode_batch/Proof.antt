@@ -27,7 +27,8 @@ returns c =
     let f = c .before .before .before .before .fill-decoded in
     let t = here .table-of .result in
     let size : length (t .rows) ≡ 15 = search needs in
-    subst (λ (u : Table). Fills (decodeBatch u (length (a .entries .now)) (a .words .now) (a .received .now)) (a .entries .now)
+    subst (λ (u : Table). Fills (decodeBatch u (length (a .entries .now)) (a .words .now) (a .received .now))
+    (a .entries .now)
     (f .result) (f .last .1 .1 .0) (f .last .1 .1 .1 .1 .0))
     (lent-rows t (t .rows) .0 size ∙ here .table-of .ensures) (f .ensures)
 

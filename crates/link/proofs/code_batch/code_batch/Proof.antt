@@ -16,7 +16,8 @@ fill-coded-requires c κs = search needs
 
 -- the call's entry, and what it filled and counted
 abbrev entry : tie.After-out2 → tie.Start
-entry c = c .before .before .before .before .before .before .before .before .before .before .before .before .before .before
+entry c = c .before .before .before .before .before .before .before .before .before .before .before .before .before
+    .before
 
 filled : (c : tie.After-out2)
     → let a = entry c .args in

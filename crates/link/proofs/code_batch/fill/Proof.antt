@@ -69,7 +69,8 @@ loop-holds : tie.Need-loop-holds Inv-loop μ-loop
 loop-holds c =
     let a = c .before .before .before .before .before .before .before .before .before .args in
     let u = withRows (a .t) (a .rows .now) in (
-      reached-start (λ s b. codeEntries (codeAnswer u s b)) (codeMemory u) (a .state .now) (a .infos .now) (a .out .now),
+      reached-start (λ s b. codeEntries (codeAnswer u s b)) (codeMemory u) (a .state .now) (a .infos .now)
+          (a .out .now),
       refl,
     )
 
@@ -127,7 +128,8 @@ large c = leb (2 ^ (entry c .args .t .symbols - 1)) (block c)
 tested : (c : tie.At-loop Inv-loop μ-loop) → ltb (c .before .before .before .mask .result) (block c) ≡ large c
 tested c =
     let n = facts (entry c) .n-to in
-    above-mask (entry c .args .t .symbols - 1) (c .before .before .before .mask .result) (block c) (omega arith) (c .before .before .before .mask .ensures)
+    above-mask (entry c .args .t .symbols - 1) (c .before .before .before .mask .result) (block c) (omega arith)
+    (c .before .before .before .mask .ensures)
 
 same-length : tie.Need-same-length Inv-loop μ-loop
 same-length c = search needs
@@ -138,7 +140,8 @@ same-length-2 c = search needs
 returns : tie.Need-returns Inv-loop μ-loop
 returns c =
     let l = c .before .before .before .before .before in
-    refused l (inside (c .before .before .before .before) .0) 14 (settled l true (large l) (sym (c .before .malformed .ensures) ∙ c .if1 .taken) refl)
+    refused l (inside (c .before .before .before .before) .0) 14 (settled l true (large l)
+    (sym (c .before .malformed .ensures) ∙ c .if1 .taken) refl)
     (omega arith)
 
 same-length-3 : tie.Need-same-length-3 Inv-loop μ-loop
@@ -176,11 +179,19 @@ look-up-requires c κs = search needs
 taken-requires : tie.Need-taken-requires Inv-loop μ-loop
 taken-requires c κs =
     let k = tests (c .before .before .before) in
-    let e = c .before .before .before .before .before .before .before .before .before .before .before .one-at .ensures in
+    let e = c .before .before .before .before .before .before .before .before .before .before .before .one-at .ensures
+    in
     let n = k .sizes .n-to in
     let a = entry (c .before .before .before .before .before .before .before .before .before) .args in
-    let h : a .t .symbols - 1 ≤ 15 = omega arith in
-    (k .size, k .sizes .m-to, k .turn, subst (λ (w : ℕ). block (c .before .before .before .before .before .before .before .before .before) < w) (sym e) (k .info), rw e (pow-mono h))
+    let h : a .t .symbols - 1 ≤ 15 = omega arith in (
+      k .size,
+      k .sizes .m-to,
+      k .turn,
+      subst
+          (λ (w : ℕ). block (c .before .before .before .before .before .before .before .before .before) < w) (sym e)
+          (k .info),
+      rw e (pow-mono h),
+    )
 
 -- points that the proofs look back to: the turn's tests, and the turn
 abbrev passed : tie.After-slice-known3 Inv-loop μ-loop → tie.Else2 Inv-loop μ-loop
@@ -191,7 +202,8 @@ turn c = c .before .before .before .before .before .before .before .before .befo
 
 -- the rows of the information's ones, looked up
 image-is : (c : tie.After-slice-known3 Inv-loop μ-loop)
-    → c .before .before .before .before .look-up .result ≡ combination (infoRows (whole (entry (turn c)))) (block (turn c))
+    → c .before .before .before .before .look-up .result ≡ combination (infoRows (whole (entry (turn c))))
+    (block (turn c))
 image-is c =
     let l = turn c in
     let start = entry l in
@@ -202,7 +214,8 @@ image-is c =
     let long = length-take-le w (a .rows .now) (let z = start .pre .1 in omega arith) in
     let all = take-all 16 (take w (a .rows .now)) (omega arith) in
     c .before .before .before .before .look-up .ensures
-    ∙ looked-up (take 16 (take w (a .rows .now))) _ (block l) (rw all (omega arith)) (l .before .before .before .before .lookup-of .ensures)
+    ∙ looked-up (take 16 (take w (a .rows .now))) _ (block l) (rw all (omega arith))
+    (l .before .before .before .before .lookup-of .ensures)
     ∙ ap (λ (ws : List ℕ). combination ws (block l)) all
 
 block-is : (c : tie.After-slice-known3 Inv-loop μ-loop)
@@ -211,7 +224,8 @@ block-is : (c : tie.After-slice-known3 Inv-loop μ-loop)
 block-is c =
     let l = turn c in
     c .before .before .taken .ensures .0
-    ∙ block-in-numbers (whole (entry l)) (l .loop .state) (block l) (c .before .before .before .before .look-up .result) (image-is c)
+    ∙ block-in-numbers (whole (entry l)) (l .loop .state) (block l) (c .before .before .before .before .look-up .result)
+    (image-is c)
     (l .before .before .one-at .result) (l .before .before .one-at .ensures)
 
 memory-is : (c : tie.After-slice-known3 Inv-loop μ-loop)
@@ -220,7 +234,8 @@ memory-is : (c : tie.After-slice-known3 Inv-loop μ-loop)
 memory-is c =
     let l = turn c in
     c .before .before .taken .ensures .1
-    ∙ memory-in-numbers (whole (entry l)) (l .loop .state) (block l) (c .before .before .before .before .look-up .result) (image-is c)
+    ∙ memory-in-numbers (whole (entry l)) (l .loop .state) (block l)
+    (c .before .before .before .before .look-up .result) (image-is c)
 
 cast-out : tie.Need-cast-out Inv-loop μ-loop
 cast-out c =
@@ -253,7 +268,9 @@ loop-again c =
           (set (l .loop .out) (l .loop .i) (c .before .before .taken .result)))
           (sym (e ∙ codes u s (block l) (none (passed c)) .1))
           (reached-next (λ s b. codeEntries (codeAnswer u s b)) (codeMemory u) (a .state .now) (a .infos .now)
-          (a .out .now) (l .loop .i) s (l .loop .out) (l .loop .inv .0) (inside (c .before .before .before .before .before .before .before .before .before .before .before) .0) (inside (c .before .before .before .before .before .before .before .before .before .before .before) .1)
+          (a .out .now) (l .loop .i) s (l .loop .out) (l .loop .inv .0)
+          (inside (c .before .before .before .before .before .before .before .before .before .before .before) .0)
+          (inside (c .before .before .before .before .before .before .before .before .before .before .before) .1)
           (c .before .before .taken .result)
           (coded-one u s (block l) (none (passed c)) ∙ ap (λ (x : ℕ). x ∷ []) (sym (block-is c)))),
       ap length e ∙ coder-length u s (block l) ∙ l .loop .inv .1,
@@ -278,4 +295,7 @@ returns-3 c =
 pub fill-spec : {M : Type 1} → statement M
 fill-spec =
     tie.close
-    (tie.spec Inv-loop μ-loop sub-width lookup-of-requires mask-requires one-at-requires min-requires loop-holds mul-info shared-slice-read-info cast-info malformed-requires same-length same-length-2 returns same-length-3 same-length-4 returns-2 look-up-requires taken-requires cast-out mul-out slice-write-out add-i loop-less loop-again same-length-5 same-length-6 returns-3)
+    (tie.spec Inv-loop μ-loop sub-width lookup-of-requires mask-requires one-at-requires min-requires loop-holds
+    mul-info shared-slice-read-info cast-info malformed-requires same-length same-length-2 returns same-length-3
+    same-length-4 returns-2 look-up-requires taken-requires cast-out mul-out slice-write-out add-i loop-less loop-again
+    same-length-5 same-length-6 returns-3)

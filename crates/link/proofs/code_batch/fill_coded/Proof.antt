@@ -58,8 +58,11 @@ returns-2 c =
 fill-requires : tie.Need-fill-requires
 fill-requires c κs =
     let e = c .before .before .before .before in
-    let a = entry e .args in
-    (fit-lent (a .t) (a .rows .now) (fitted e) .1, fit-fifteen (a .t) (a .rows .now) (fitted e), c .before .before .if2 .left)
+    let a = entry e .args in (
+      fit-lent (a .t) (a .rows .now) (fitted e) .1,
+      fit-fifteen (a .t) (a .rows .now) (fitted e),
+      c .before .before .if2 .left,
+    )
 
 same-length : tie.Need-same-length
 same-length c = search needs

@@ -18,7 +18,8 @@ taken-whole : (c : tie.Else1)
     LentTaken (λ u. decoderFault u (a .state .now) (a .received)) (a .t) (a .rows .now)
 taken-whole c =
     let a = c .before .before .before .before .before .args in
-    decode-lent-taken (a .t) (a .rows .now) (a .state .now) (a .received) (sym (c .before .fault .ensures) ∙ c .if1 .left)
+    decode-lent-taken (a .t) (a .rows .now) (a .state .now) (a .received)
+    (sym (c .before .fault .ensures) ∙ c .if1 .left)
 
 fault-requires : tie.Need-fault-requires
 fault-requires c κs = search needs

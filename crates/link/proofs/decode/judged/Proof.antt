@@ -20,7 +20,8 @@ returns c = search needs
 -- an error block has 16 bits at most
 error-fits : (c : tie.Else1) → c .before .before .found .given .0 .0 < 2 ^ 16
 error-fits c =
-    subst (λ (f : Least). errorOf f < 2 ^ 16) (c .before .before .found .given .1) (c .before .before .before .before .pre)
+    subst (λ (f : Least). errorOf f < 2 ^ 16) (c .before .before .found .given .1)
+    (c .before .before .before .before .pre)
 
 cast-t7 : tie.Need-cast-t7
 cast-t7 c = record { fits = error-fits c }

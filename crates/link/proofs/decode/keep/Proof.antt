@@ -37,7 +37,8 @@ module _ (N m : ℕ) (s : List ℕ) (room : streamAt (table 0 N m []) (turnOf s)
     memory-is pending kept young last e fill turn f u =
         ap (λ (l : List ℕ). set (set (putMid at (end - at) s l) 1 fill) 0 turn)
         (e ∙ ap (λ (l : List ℕ). pending ∷ kept ∷ (l ++ (young ∷ []))) (mid-drop s at end 3 (omega arith) room))
-        ∙ ap (λ (l : List ℕ). set (set l 1 fill) 0 turn) (put-part s (pending ∷ kept ∷ (drop (at + 3) (take end s) ++ (young ∷ []))) at end (omega arith))
+        ∙ ap (λ (l : List ℕ). set (set l 1 fill) 0 turn) (put-part s (pending ∷ kept ∷
+        (drop (at + 3) (take end s) ++ (young ∷ []))) at end (omega arith))
         ∙ ap₂ (λ (i j : ℕ). set (set (take at s ++ ((pending ∷ kept ∷ (drop (at + 3) (take end s) ++ (young ∷ [])))
         ++ drop end s)) 1 i) 0 j) f u
 
@@ -130,5 +131,6 @@ pub keep-spec : {M : Type 1} → statement M
 keep-spec =
     tie.close
     (tie.spec slice-read-turn slice-read-fill add-at mul-at add-at-2 add-end add-end-2 mul-advance sub-advance
-    part-advance-start part-advance-end advance-requires sub-next-fill mul-next-fill next-fill-requires slice-write-state
+    part-advance-start part-advance-end advance-requires sub-next-fill mul-next-fill next-fill-requires
+    slice-write-state
     next-turn-requires slice-write-state-2 same-length returns)

@@ -88,7 +88,8 @@ stream-malformed-requires c κs =
 returns-3 : tie.Need-returns-3
 returns-3 c =
     let b = c .before .before .before .before .before .before in
-    late (sizes b) (b .args .state .now) (c .stream-malformed .result) (omega arith) (omega arith) (c .stream-malformed .ensures)
+    late (sizes b) (b .args .state .now) (c .stream-malformed .result) (omega arith) (omega arith)
+    (c .stream-malformed .ensures)
 
 pub malformed-spec : {M : Type 1} → statement M
 malformed-spec =

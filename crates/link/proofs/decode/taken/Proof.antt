@@ -62,8 +62,14 @@ terms-requires c κs =
     let a = here .args in
     let r = terms-room (whole here) (a .state .now) (a .received) (tests here) in
     let e = sym (c .before .one-at .ensures) in
-    let s = a .state .now in
-    (r .0, r .1, subst (λ (x : ℕ). syndromeOf (whole here) s (turnOf s) < x) e (r .2), subst (λ (x : ℕ). x ≤ 2 ^ 63) e (r .3), r .4)
+    let s = a .state .now in (
+      r .0,
+      r .1,
+      subst (λ (x : ℕ). syndromeOf (whole here) s (turnOf s) < x) e (r .2),
+      subst (λ (x : ℕ). x ≤ 2 ^ 63) e
+          (r .3),
+      r .4,
+    )
 
 explain-requires : tie.Need-explain-requires
 explain-requires c κs =
@@ -85,20 +91,26 @@ cast-error : tie.Need-cast-error
 cast-error c = search needs
 
 information-requires : tie.Need-information-requires
-information-requires c κs = let k = tests (c .before .before .before .before .before .before .before .before .before .before .before .before) .sizes in (let n = k .n-from in omega arith, k .n-to)
+information-requires c κs = let k = tests
+    (c .before .before .before .before .before .before .before .before .before .before .before .before) .sizes in
+    (let n = k .n-from in omega arith, k .n-to)
 
 keep-requires : tie.Need-keep-requires
 keep-requires c κs =
-    let here = c .before .before .before .before .before .before .before .before .before .before .before .before .before in
+    let here = c .before .before .before .before .before .before .before .before .before .before .before .before .before
+    in
     let a = here .args in
     keep-room (whole here) (a .state .now) (a .received) (tests here)
 
 sub-if1 : tie.Need-sub-if1
-sub-if1 c = let k = tests (c .before .before .before .before .before .before .before .before .before .before .before .before .before .before .before .before .before) .sizes .N-from in omega arith
+sub-if1 c = let k = tests
+    (c .before .before .before .before .before .before .before .before .before .before .before .before .before .before
+    .before .before .before) .sizes .N-from in omega arith
 
 mul-if1 : tie.Need-mul-if1
 mul-if1 c =
-    let here = c .before .before .before .before .before .before .before .before .before .before .before .before .before .before .before .before .before .before in
+    let here = c .before .before .before .before .before .before .before .before .before .before .before .before .before
+    .before .before .before .before .before in
     let k = tests here .sizes in
     let m = fit-room (whole here) (k .N-to) (k .m-to) in
     record { fits = omega arith }
@@ -108,7 +120,8 @@ same-length c = search needs
 
 -- the call's entry from the memory that is kept, and the words of the step
 abbrev entry : tie.After-keep → tie.Start
-entry c = c .before .before .before .before .before .before .before .before .before .before .before .before .before .before
+entry c = c .before .before .before .before .before .before .before .before .before .before .before .before .before
+    .before
 
 abbrev register : tie.After-keep → ℕ
 register c = c .before .before .before .before .before .before .terms .result .register
@@ -116,11 +129,13 @@ register c = c .before .before .before .before .before .before .terms .result .r
 joined : (c : tie.After-keep)
     → let a = entry c .args in
     c .before .before .before .before .before .before .terms .result .w
-    ≡ pendingOf (whole (entry c)) (a .state .now) (turnOf (a .state .now)) ⊕ combination (rowsOf (whole (entry c))) (a .received)
+    ≡ pendingOf (whole (entry c)) (a .state .now) (turnOf (a .state .now)) ⊕ combination (rowsOf (whole (entry c)))
+    (a .received)
 joined c =
     let a = entry c .args in
     c .before .before .before .before .before .before .terms .ensures .0
-    ∙ ap (λ (x : ℕ). pendingOf (whole (entry c)) (a .state .now) (turnOf (a .state .now)) ⊕ x) (c .before .before .before .before .before .before .before .image .ensures)
+    ∙ ap (λ (x : ℕ). pendingOf (whole (entry c)) (a .state .now) (turnOf (a .state .now)) ⊕ x)
+    (c .before .before .before .before .before .before .before .image .ensures)
 
 registered : (c : tie.After-keep)
     → let a = entry c .args in
@@ -129,7 +144,9 @@ registered c =
     let here = entry c in
     let a = here .args in
     register-is (whole here) (a .state .now) (a .received) _ (width here) (joined c) (register c)
-    (c .before .before .before .before .before .before .before .before .one-at .result) (c .before .before .before .before .before .before .terms .ensures .1) (c .before .before .before .before .before .before .before .before .one-at .ensures)
+    (c .before .before .before .before .before .before .before .before .one-at .result)
+    (c .before .before .before .before .before .before .terms .ensures .1)
+    (c .before .before .before .before .before .before .before .before .one-at .ensures)
 
 kept : (c : tie.After-keep)
     → let a = entry c .args in
@@ -139,7 +156,8 @@ kept c =
     let a = here .args in
     let e = c .before .before .before .before .before .explain in
     c .keep .ensures .1
-    ∙ ap₂ (λ (k i : ℕ). advanced (a .t .span) (a .t .depth) (a .state .now) (c .before .before .before .before .before .before .terms .result .w / 2) k i)
+    ∙ ap₂ (λ (k i : ℕ). advanced (a .t .span) (a .t .depth) (a .state .now)
+    (c .before .before .before .before .before .before .terms .result .w / 2) k i)
     (c .before .before .before .before .judged .ensures .1 .0) (c .before .information .ensures)
     ∙ memory-is (whole here) (a .state .now) (a .received) _ (width here) (joined c) (register c) (registered c)
     (e .result) (e .ensures)
@@ -157,7 +175,9 @@ returns c =
     )
 
 information-requires-2 : tie.Need-information-requires-2
-information-requires-2 c κs = let k = tests (c .before .before .before .before .before .before .before .before .before .before .before .before .before .before .before .before .before .before .before) .sizes in (let n = k .n-from in omega arith, k .n-to)
+information-requires-2 c κs = let k = tests
+    (c .before .before .before .before .before .before .before .before .before .before .before .before .before .before
+    .before .before .before .before .before) .sizes in (let n = k .n-from in omega arith, k .n-to)
 
 -- the record
 abbrev stepped : tie.After-information2 → tie.After-keep
@@ -175,7 +195,8 @@ corrected c =
     let e = here .before .before .before .before .before .explain in
     xor-code (here .keep .result) (c .information2 .result)
     ∙ ap₂ _⊕_ (here .keep .ensures .0)
-    (c .information2 .ensures ∙ ap (information (a .t .symbols)) (here .before .before .before .before .judged .ensures .0))
+    (c .information2 .ensures ∙ ap (information (a .t .symbols))
+    (here .before .before .before .before .judged .ensures .0))
     ∙ info-is (whole start) s (a .received) _ (width start) (joined here) (register here) (registered here)
     (e .result) (e .ensures)
 
@@ -200,7 +221,8 @@ returns-2 c =
     let s = a .state .now in
     let e = here .before .before .before .before .before .explain in
     let mark = here .before .before .before .before .judged .ensures .1 .1
-    ∙ mark-is t s (a .received) _ (width start) (joined here) (register here) (registered here) (e .result) (e .ensures) in (
+    ∙ mark-is t s (a .received) _ (width start) (joined here) (register here) (registered here) (e .result)
+    (e .ensures) in (
       ap₂ (λ (i : ℕ) (m : Mark). Delivery (record { info = i; mark = m })) (corrected c) mark
           ∙ passed (ltb (fillOf s) (delayOf t)) NothingYet (Delivery (delivered t s (a .received)))
           (le-ltb (fillOf s) (delayOf t) (c .before .if1 .left)),

@@ -45,4 +45,5 @@ returns-4 c = rw (c .enum-told4 .given .1)
 pub entry-spec : {M : Type 1} → statement M
 entry-spec =
     tie.close
-    (tie.spec cast-low enum-told add-result enum-told-2 add-result-2 enum-told-3 add-result-3 enum-told-4 add-result-4 returns returns-2 returns-3 returns-4)
+    (tie.spec cast-low enum-told add-result enum-told-2 add-result-2 enum-told-3 add-result-3 enum-told-4 add-result-4
+    returns returns-2 returns-3 returns-4)

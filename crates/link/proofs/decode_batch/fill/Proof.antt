@@ -74,7 +74,8 @@ fill-judged-requires c κs =
 
 -- what is left, judged
 rested : (c : tie.After-slice-known6)
-    → let here = c .before .before .before .before .before .before .before .before .before .before .before .before .before .before in
+    → let here = c .before .before .before .before .before .before .before .before .before .before .before .before
+    .before .before in
     let a = entry here .args in
     let f = here .fill-clean in
     let j = c .before .before .before .before .fill-judged in
@@ -82,7 +83,8 @@ rested : (c : tie.After-slice-known6)
     (f .result + j .result) (j .last .1 .1 .0)
     (putMid (f .result) (length (f .last .1 .1 .1 .1 .0) - f .result) (f .last .1 .1 .1 .1 .0) (j .last .1 .1 .1 .1 .0))
 rested c =
-    let here = c .before .before .before .before .before .before .before .before .before .before .before .before .before .before in
+    let here = c .before .before .before .before .before .before .before .before .before .before .before .before .before
+    .before in
     let start = entry here in
     let a = start .args in
     let f = here .fill-clean in
@@ -97,7 +99,8 @@ taken-bytes c = omega arith
 
 add-result : tie.Need-add-result
 add-result c =
-    let start = entry (c .before .before .before .before .before .before .before .before .before .before .before .before .before .before) in
+    let start = entry (c .before .before .before .before .before .before .before .before .before .before .before .before
+    .before .before) in
     let a = start .args in
     let most = decode-size (whole start) (length (a .out .now)) (a .state .now) (a .blocks .now) in
     let bytes = taken-bytes start in
@@ -115,4 +118,6 @@ returns-2 c = rested c
 pub fill-spec : {M : Type 1} → statement M
 fill-spec =
     tie.close
-    (tie.spec fill-clean-requires min-requires same-length same-length-2 returns mul-fill-judged sub-fill-judged part-fill-judged-start part-fill-judged-end mul-fill-judged-2 sub-fill-judged-2 part-fill-judged-start-2 part-fill-judged-end-2 fill-judged-requires add-result same-length-3 same-length-4 returns-2)
+    (tie.spec fill-clean-requires min-requires same-length same-length-2 returns mul-fill-judged sub-fill-judged
+    part-fill-judged-start part-fill-judged-end mul-fill-judged-2 sub-fill-judged-2 part-fill-judged-start-2
+    part-fill-judged-end-2 fill-judged-requires add-result same-length-3 same-length-4 returns-2)

@@ -79,10 +79,12 @@ mask-requires : tie.Need-mask-requires Inv-loop μ-loop
 mask-requires c κs = search needs
 
 sub-one-at : tie.Need-sub-one-at Inv-loop μ-loop
-sub-one-at c = let z = facts (c .before .before .before .before .before .before .before .before .before) .N-from in omega arith
+sub-one-at c = let z = facts (c .before .before .before .before .before .before .before .before .before) .N-from in
+    omega arith
 
 one-at-requires : tie.Need-one-at-requires Inv-loop μ-loop
-one-at-requires c κs = let z = facts (c .before .before .before .before .before .before .before .before .before) .N-to in omega arith
+one-at-requires c κs = let z = facts
+    (c .before .before .before .before .before .before .before .before .before) .N-to in omega arith
 
 min-requires : tie.Need-min-requires Inv-loop μ-loop
 min-requires c κs = search needs
@@ -117,10 +119,12 @@ inside : (c : tie.In-loop Inv-loop μ-loop)
     (l .loop .i < length (entry l .args .blocks .now)) × (l .loop .i < length (entry l .args .out .now))
 inside c = let e = c .before .before .min .ensures in (omega arith, omega arith)
 
-tested : (c : tie.At-loop Inv-loop μ-loop) → ltb (c .before .before .before .before .mask .result) (block c) ≡ leb (2 ^ entry c .args .t .symbols) (block c)
+tested : (c : tie.At-loop Inv-loop μ-loop) → ltb (c .before .before .before .before .mask .result) (block c) ≡ leb
+    (2 ^ entry c .args .t .symbols) (block c)
 tested c =
     let n = facts (entry c) .n-to in
-    above-mask (entry c .args .t .symbols) (c .before .before .before .before .mask .result) (block c) (omega arith) (c .before .before .before .before .mask .ensures)
+    above-mask (entry c .args .t .symbols) (c .before .before .before .before .mask .result) (block c) (omega arith)
+    (c .before .before .before .before .mask .ensures)
 
 -- where the loop has come to
 come : (c : tie.At-loop Inv-loop μ-loop)
@@ -158,7 +162,8 @@ none c =
     let start = entry l in
     let a = start .args in
     turn-passed (whole start) (a .state .now) (a .blocks .now) (a .out .now) (l .loop .i) (l .loop .state)
-    (l .loop .out) (l .loop .inv) (start .pre .0) (start .pre .2) (inside (c .before .before .before .before .before) .0)
+    (l .loop .out) (l .loop .inv) (start .pre .0) (start .pre .2) (inside
+    (c .before .before .before .before .before) .0)
     (sym (c .before .before .first-malformed .ensures) ∙ c .before .if1 .left)
     (sym (tested l) ∙ le-ltb _ _ (c .if2 .left))
 
@@ -178,15 +183,21 @@ terms-requires c κs =
     let s = l .loop .state in
     let u = whole (entry l) in
     let r = terms-room u s (block l) (tests (c .before .before .before)) in
-    let e = sym (l .before .before .one-at .ensures) in
-    (r .0, r .1, subst (λ (x : ℕ). syndromeOf u s (turnOf s) < x) e (r .2), subst (λ (x : ℕ). x ≤ 2 ^ 63) e (r .3), r .4)
+    let e = sym (l .before .before .one-at .ensures) in (
+      r .0,
+      r .1,
+      subst (λ (x : ℕ). syndromeOf u s (turnOf s) < x) e (r .2),
+      subst (λ (x : ℕ). x ≤ 2 ^ 63) e (r .3),
+      r .4,
+    )
 
 -- the turn from its words, and the words
 abbrev turn : tie.After-terms Inv-loop μ-loop → tie.At-loop Inv-loop μ-loop
 turn c = c .before .before .before .before .before .before .before .before .before .before
 
 -- the tables are those of the rows
-looked : (c : tie.At-loop Inv-loop μ-loop) → Lookup (rowsOf (whole (entry c))) (c .before .before .before .before .before .lookup-of .result)
+looked : (c : tie.At-loop Inv-loop μ-loop) → Lookup (rowsOf (whole (entry c)))
+    (c .before .before .before .before .before .lookup-of .result)
 looked c =
     let start = entry c in
     let w = c .before .before .before .before .before .before .before .error-words in
@@ -241,8 +252,11 @@ take-block-requires c κs =
 
 mul-out : tie.Need-mul-out Inv-loop μ-loop
 mul-out c =
-    let l = c .before .before .before .before .before .before .before .before .before .before .before .before .before .before .before .before .before in
-    scaled-fits (l .loop .i) (length (entry l .args .out .now)) 4 (inside (c .before .before .before .before .before .before .before .before .before .before .before .before .before .before .before .before) .1) (taken-bytes (entry l))
+    let l = c .before .before .before .before .before .before .before .before .before .before .before .before .before
+    .before .before .before .before in
+    scaled-fits (l .loop .i) (length (entry l .args .out .now)) 4 (inside
+    (c .before .before .before .before .before .before .before .before .before .before .before .before .before .before
+    .before .before) .1) (taken-bytes (entry l))
 
 slice-write-out : tie.Need-slice-write-out Inv-loop μ-loop
 slice-write-out c = search needs
@@ -273,7 +287,8 @@ memory-next c =
     let start = entry l in
     let j = c .before .before .before .judged in
     c .before .before .take-block .ensures .1
-    ∙ ap (λ (k : ℕ). advanced (start .args .t .span) (start .args .t .depth) (l .loop .state) (x .terms .result .w / 2) k
+    ∙ ap (λ (k : ℕ). advanced (start .args .t .span) (start .args .t .depth) (l .loop .state) (x .terms .result .w / 2)
+    k
     (information (start .args .t .symbols) (block l))) (j .ensures .1 .0)
     ∙ memory-is (whole start) (l .loop .state) (block l) (x .terms .result .w) (width start) (joined x)
     (x .terms .result .register) (registered x) (Found 0) (explained c)
@@ -291,7 +306,8 @@ entry-next c =
     ap (λ (e : ℕ). e ∷ []) (c .before .before .take-block .ensures .0)
     ∙ entry-is u s (block l) (j .result .mark)
     (delayedOf u s (turnOf s) 0 ⊕ information (start .args .t .symbols) (j .result .error))
-    (j .ensures .1 .1 ∙ mark-is u s (block l) (x .terms .result .w) (width start) (joined x) (x .terms .result .register)
+    (j .ensures .1 .1 ∙ mark-is u s (block l) (x .terms .result .w) (width start) (joined x)
+    (x .terms .result .register)
     (registered x) (Found 0) (explained c))
     (ap (λ (e : ℕ). delayedOf u s (turnOf s) 0 ⊕ information (start .args .t .symbols) e) (j .ensures .0)
     ∙ info-is u s (block l) (x .terms .result .w) (width start) (joined x) (x .terms .result .register) (registered x)
@@ -302,9 +318,12 @@ loop-again c =
     let l = turn (words c) in
     let start = entry l in
     let a = start .args in
-    let i = inside (c .before .before .before .before .before .before .before .before .before .before .before .before .before .before .before .before) in
+    let i = inside (c .before .before .before .before .before .before .before .before .before .before .before .before
+    .before .before .before .before) in
     turn-next (whole start) (a .state .now) (a .blocks .now) (a .out .now) (l .loop .i) (l .loop .state) (l .loop .out)
-    (l .loop .inv) (start .pre .0) (start .pre .2) (i .0) (i .1) (none (c .before .before .before .before .before .before .before .before .before .before .before)) (c .before .before .take-block .last .0)
+    (l .loop .inv) (start .pre .0) (start .pre .2) (i .0) (i .1) (none
+    (c .before .before .before .before .before .before .before .before .before .before .before))
+    (c .before .before .take-block .last .0)
     (memory-next c) (c .before .before .take-block .result) (entry-next c)
 
 same-length-7 : tie.Need-same-length-7 Inv-loop μ-loop
@@ -319,4 +338,8 @@ returns-4 c = come (c .before)
 pub fill-clean-spec : {M : Type 1} → statement M
 fill-clean-spec =
     tie.close
-    (tie.spec Inv-loop μ-loop error-words-requires slice-aggregate-lookup-of lookup-of-requires mask-requires sub-one-at one-at-requires min-requires loop-holds mul-received shared-slice-read-received cast-received first-malformed-requires same-length same-length-2 returns same-length-3 same-length-4 returns-2 look-up-requires terms-requires same-length-5 same-length-6 returns-3 judged-requires take-block-requires mul-out slice-write-out add-i loop-less loop-again same-length-7 same-length-8 returns-4)
+    (tie.spec Inv-loop μ-loop error-words-requires slice-aggregate-lookup-of lookup-of-requires mask-requires sub-one-at
+    one-at-requires min-requires loop-holds mul-received shared-slice-read-received cast-received
+    first-malformed-requires same-length same-length-2 returns same-length-3 same-length-4 returns-2 look-up-requires
+    terms-requires same-length-5 same-length-6 returns-3 judged-requires take-block-requires mul-out slice-write-out
+    add-i loop-less loop-again same-length-7 same-length-8 returns-4)

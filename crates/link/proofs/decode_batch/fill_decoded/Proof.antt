@@ -44,7 +44,8 @@ fitted : (c : tie.Else1) → let a = entry c .args in fit (lent (a .t) (a .rows 
 fitted c = sym (c .before .lent-fits .ensures) ∙ not-false _ (c .if1 .left)
 
 -- nothing overflows
-room : (c : tie.Else1) → let a = entry c .args in (a .t .span ≤ 64) × (decoderWords (withRows (a .t) (a .rows .now)) ≤ 4162)
+room : (c : tie.Else1) → let a = entry c .args in (a .t .span ≤ 64) × (decoderWords (withRows (a .t) (a .rows .now)) ≤
+    4162)
 room c =
     let a = entry c .args in
     let z = lent-facts (a .t) (a .rows .now) (fitted c) in
@@ -72,8 +73,11 @@ returns-2 c =
 fill-requires : tie.Need-fill-requires
 fill-requires c κs =
     let e = c .before .before .before .before .before in
-    let a = entry e .args in
-    (fit-lent (a .t) (a .rows .now) (fitted e) .1, fit-fifteen (a .t) (a .rows .now) (fitted e), c .before .before .if2 .left)
+    let a = entry e .args in (
+      fit-lent (a .t) (a .rows .now) (fitted e) .1,
+      fit-fifteen (a .t) (a .rows .now) (fitted e),
+      c .before .before .if2 .left,
+    )
 
 same-length : tie.Need-same-length
 same-length c = search needs
@@ -93,4 +97,5 @@ returns-3 c =
 pub fill-decoded-spec : {M : Type 1} → statement M
 fill-decoded-spec =
     tie.close
-    (tie.spec lent-fits-requires returns add-if2 mul-if2 add-if2-2 returns-2 fill-requires same-length same-length-2 returns-3)
+    (tie.spec lent-fits-requires returns add-if2 mul-if2 add-if2-2 returns-2 fill-requires same-length same-length-2
+    returns-3)

@@ -136,10 +136,12 @@ first-malformed-requires c κs =
 abbrev block : tie.At-loop Inv-loop μ-loop → ℕ
 block c = getD (entry c .args .blocks .now) (c .loop .i) 0
 
-tested : (c : tie.At-loop Inv-loop μ-loop) → ltb (c .before .before .before .before .mask .result) (block c) ≡ leb (2 ^ entry c .args .t .symbols) (block c)
+tested : (c : tie.At-loop Inv-loop μ-loop) → ltb (c .before .before .before .before .mask .result) (block c) ≡ leb
+    (2 ^ entry c .args .t .symbols) (block c)
 tested c =
     let n = facts (entry c) .n-to in
-    above-mask (entry c .args .t .symbols) (c .before .before .before .before .mask .result) (block c) (omega arith) (c .before .before .before .before .mask .ensures)
+    above-mask (entry c .args .t .symbols) (c .before .before .before .before .mask .result) (block c) (omega arith)
+    (c .before .before .before .before .mask .ensures)
 
 same-length : tie.Need-same-length Inv-loop μ-loop
 same-length c = search needs
@@ -168,7 +170,8 @@ returns-2 c =
     let start = entry l in
     let a = start .args in
     turn-large (whole start) (a .state .now) (a .blocks .now) (a .out .now) (l .loop .i) (l .loop .state)
-    (l .loop .out) (l .loop .inv) (start .pre .0) (start .pre .2) (inside (c .before .before .before .before .before) .0)
+    (l .loop .out) (l .loop .inv) (start .pre .0) (start .pre .2) (inside
+    (c .before .before .before .before .before) .0)
     (sym (c .before .before .first-malformed .ensures) ∙ c .before .if1 .left)
     (sym (tested l) ∙ lt-ltb _ _ (c .if2 .taken))
 
@@ -181,7 +184,8 @@ none c =
     let start = entry l in
     let a = start .args in
     turn-passed (whole start) (a .state .now) (a .blocks .now) (a .out .now) (l .loop .i) (l .loop .state)
-    (l .loop .out) (l .loop .inv) (start .pre .0) (start .pre .2) (inside (c .before .before .before .before .before) .0)
+    (l .loop .out) (l .loop .inv) (start .pre .0) (start .pre .2) (inside
+    (c .before .before .before .before .before) .0)
     (sym (c .before .before .first-malformed .ensures) ∙ c .before .if1 .left)
     (sym (tested l) ∙ le-ltb _ _ (c .if2 .left))
 
@@ -201,21 +205,30 @@ terms-requires c κs =
     let s = l .loop .state in
     let u = whole (entry l) in
     let r = terms-room u s (block l) (tests (c .before .before .before)) in
-    let e = sym (l .before .before .one-at .ensures) in
-    (r .0, r .1, subst (λ (x : ℕ). syndromeOf u s (turnOf s) < x) e (r .2), subst (λ (x : ℕ). x ≤ 2 ^ 63) e (r .3), r .4)
+    let e = sym (l .before .before .one-at .ensures) in (
+      r .0,
+      r .1,
+      subst (λ (x : ℕ). syndromeOf u s (turnOf s) < x) e (r .2),
+      subst (λ (x : ℕ). x ≤ 2 ^ 63) e (r .3),
+      r .4,
+    )
 
 -- the turn from its words, and the words
 abbrev turn : tie.After-terms Inv-loop μ-loop → tie.At-loop Inv-loop μ-loop
 turn c = c .before .before .before .before .before .before .before .before .before .before
 
 -- the tables are those of the rows
-looked : (c : tie.At-loop Inv-loop μ-loop) → Lookup (rowsOf (whole (entry c))) (c .before .before .before .before .before .before .before .before .before .before .lookup-of .result)
+looked : (c : tie.At-loop Inv-loop μ-loop) → Lookup (rowsOf (whole (entry c)))
+    (c .before .before .before .before .before .before .before .before .before .before .lookup-of .result)
 looked c =
     let start = entry c in
-    let w = c .before .before .before .before .before .before .before .before .before .before .before .before .error-words in
-    subst (λ (ws : List ℕ). Lookup ws (c .before .before .before .before .before .before .before .before .before .before .lookup-of .result))
+    let w = c .before .before .before .before .before .before .before .before .before .before .before .before
+    .error-words in
+    subst (λ (ws : List ℕ). Lookup ws
+    (c .before .before .before .before .before .before .before .before .before .before .lookup-of .result))
     (sixteen-words (rowsOf (whole start)) (w .result) (start .args .t .symbols) 0 (size start) (w .ensures)
-    (facts start .n-to)) (c .before .before .before .before .before .before .before .before .before .before .lookup-of .ensures)
+    (facts start .n-to)) (c .before .before .before .before .before .before .before .before .before .before .lookup-of
+    .ensures)
 
 joined : (c : tie.After-terms Inv-loop μ-loop)
     → let l = turn c in
@@ -228,7 +241,8 @@ joined c =
     c .terms .ensures .0
     ∙ ap (λ (x : ℕ). pendingOf (whole start) s (turnOf s) ⊕ x)
     (c .before .look-up .ensures
-    ∙ looked-up (rowsOf (whole start)) (l .before .before .before .before .before .before .before .before .before .before .lookup-of .result) (block l)
+    ∙ looked-up (rowsOf (whole start))
+    (l .before .before .before .before .before .before .before .before .before .before .lookup-of .result) (block l)
     (let z = size start in let n = facts start .n-to in omega arith) (looked l))
 
 registered : (c : tie.After-terms Inv-loop μ-loop)
@@ -246,13 +260,15 @@ found-by-requires c κs = search needs
 
 -- the least error, by the dual basis
 explained : (c : tie.After-found-by Inv-loop μ-loop)
-    → c .found-by .result ≡ found (rowsOf (whole (entry (turn (c .before .before .before .before .before))))) (c .before .before .before .before .before .terms .result .register)
+    → c .found-by .result ≡ found (rowsOf (whole (entry (turn (c .before .before .before .before .before)))))
+    (c .before .before .before .before .before .terms .result .register)
 explained c =
     let l = turn (c .before .before .before .before .before) in
     let start = entry l in
     let n = facts start .n-to in
     let b = l .before .before .before .before .before .before .before .before .dual-basis in
-    let w = l .before .before .before .before .before .before .before .before .before .before .before .before .error-words in
+    let w = l .before .before .before .before .before .before .before .before .before .before .before .before
+    .error-words in
     let z = size start in
     c .found-by .ensures (rowsOf (whole start)) (omega arith) (code-below (whole start) (facts start))
     (b .ensures ∙ ap (λ (ws : List ℕ). dual (basisOf ws))
@@ -322,7 +338,8 @@ memory-next c =
     let f = c .before .before .before .before .before .found-by in
     let j = c .before .before .before .judged in
     c .before .before .take-block .ensures .1
-    ∙ ap (λ (k : ℕ). advanced (start .args .t .span) (start .args .t .depth) (l .loop .state) (x .terms .result .w / 2) k
+    ∙ ap (λ (k : ℕ). advanced (start .args .t .span) (start .args .t .depth) (l .loop .state) (x .terms .result .w / 2)
+    k
     (information (start .args .t .symbols) (block l))) (j .ensures .1 .0)
     ∙ memory-is (whole start) (l .loop .state) (block l) (x .terms .result .w) (width start) (joined x)
     (x .terms .result .register) (registered x) (f .result) (explained (c .before .before .before .before .before))
@@ -341,7 +358,8 @@ entry-next c =
     ap (λ (e : ℕ). e ∷ []) (c .before .before .take-block .ensures .0)
     ∙ entry-is u s (block l) (j .result .mark)
     (delayedOf u s (turnOf s) 0 ⊕ information (start .args .t .symbols) (j .result .error))
-    (j .ensures .1 .1 ∙ mark-is u s (block l) (x .terms .result .w) (width start) (joined x) (x .terms .result .register)
+    (j .ensures .1 .1 ∙ mark-is u s (block l) (x .terms .result .w) (width start) (joined x)
+    (x .terms .result .register)
     (registered x) (f .result) (explained (c .before .before .before .before .before)))
     (ap (λ (e : ℕ). delayedOf u s (turnOf s) 0 ⊕ information (start .args .t .symbols) e) (j .ensures .0)
     ∙ info-is u s (block l) (x .terms .result .w) (width start) (joined x) (x .terms .result .register) (registered x)
@@ -354,7 +372,8 @@ loop-again c =
     let a = start .args in
     let i = inside (looped c) in
     turn-next (whole start) (a .state .now) (a .blocks .now) (a .out .now) (l .loop .i) (l .loop .state) (l .loop .out)
-    (l .loop .inv) (start .pre .0) (start .pre .2) (i .0) (i .1) (none (passed c)) (c .before .before .take-block .last .0)
+    (l .loop .inv) (start .pre .0) (start .pre .2) (i .0) (i .1) (none (passed c))
+    (c .before .before .take-block .last .0)
     (memory-next c) (c .before .before .take-block .result) (entry-next c)
 
 same-length-5 : tie.Need-same-length-5 Inv-loop μ-loop
@@ -374,4 +393,9 @@ returns-3 c =
 pub fill-judged-spec : {M : Type 1} → statement M
 fill-judged-spec =
     tie.close
-    (tie.spec Inv-loop μ-loop error-words-requires slice-aggregate-lookup-of lookup-of-requires slice-aggregate-dual-basis dual-basis-requires together-requires mask-requires sub-one-at one-at-requires min-requires loop-holds mul-received shared-slice-read-received cast-received first-malformed-requires same-length same-length-2 returns same-length-3 same-length-4 returns-2 look-up-requires terms-requires found-by-requires judged-requires take-block-requires mul-out slice-write-out add-i loop-less loop-again same-length-5 same-length-6 returns-3)
+    (tie.spec Inv-loop μ-loop error-words-requires slice-aggregate-lookup-of lookup-of-requires
+    slice-aggregate-dual-basis dual-basis-requires together-requires mask-requires sub-one-at one-at-requires
+    min-requires loop-holds mul-received shared-slice-read-received cast-received first-malformed-requires same-length
+    same-length-2 returns same-length-3 same-length-4 returns-2 look-up-requires terms-requires found-by-requires
+    judged-requires take-block-requires mul-out slice-write-out add-i loop-less loop-again same-length-5 same-length-6
+    returns-3)

@@ -82,7 +82,8 @@ corrected : (c : tie.After-information2)
     ≡ delayedOf (sizes (entry here)) (a .state .now) (turnOf (a .state .now)) 0 ⊕ information (a .n) (a .v .error)
 corrected c =
     let here = c .before .before .before .before in
-    xor-code (here .keep .result) (c .information2 .result) ∙ ap₂ _⊕_ (here .keep .ensures .0) (c .information2 .ensures)
+    xor-code (here .keep .result) (c .information2 .result) ∙ ap₂ _⊕_ (here .keep .ensures .0)
+    (c .information2 .ensures)
 
 entry-requires : tie.Need-entry-requires
 entry-requires c κs =
