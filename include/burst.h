@@ -170,8 +170,7 @@ struct burst_decoded burst_decode(const uint64_t table[18], uint64_t *words, siz
  * result is 0 nothing is written. The table and the list are only read, and the table's suitability is not tested.
  *
  * A caller that gets back less than length and less than room has, in infos[result], a block that is refused. burst_code
- * of it says by which number, and writes nothing. It is 12 or 13 only at the first block, 14 only among the first m, as
- * a step leaves its stream well-formed; else it is 15. A caller that got back its room goes on from infos[result].
+ * of it says by which number, and writes nothing. A caller that got back its room goes on from infos[result].
  */
 size_t burst_code_batch(const uint64_t table[18], uint64_t *words, size_t count, const uint16_t *infos, size_t length,
                         uint32_t *entries, size_t room);

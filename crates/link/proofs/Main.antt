@@ -5,6 +5,7 @@ use Rattle.link.proofs.Marks.{marks}
 use Rattle.link.proofs.Massey.{parity, syndrome-errors, deliveries, waiting}
 use Rattle.link.proofs.Recovery.{recovery}
 use Rattle.link.proofs.Clean.{clean, started-clean}
+use Rattle.link.proofs.Batches.{shorter, batch-run, recovery-batches}
 
 pub link : LINK
 link = record {
@@ -18,4 +19,7 @@ link = record {
   recovery = recovery;
   clean = clean;
   started-clean = started-clean;
+  shorter = shorter;
+  batch-run = batch-run;
+  recovery-batches = recovery-batches;
 }

@@ -1,5 +1,6 @@
 -- The door: all that a user of coder and decoder needs to read, each theorem stated in the file that is named. What the
--- functions promise of one call is `Starts`, `Codes` and `Decodes` (`Start`, `Coder`, `Decoder`).
+-- functions promise of one call is `Starts`, `Codes` and `Decodes` (`Start`, `Coder`, `Decoder`), and of a batch `Fills`
+-- (`Batch`).
 --
 --   Link, LINK   the theorems
 use Rattle.link.specs.Calls.{REFUSED-CALLS, TAKEN-CALLS}
@@ -7,6 +8,7 @@ use Rattle.link.specs.Marks.{MARKS}
 use Rattle.link.specs.Massey.{PARITY, SYNDROME-ERRORS, DELIVERY, WAITING}
 use Rattle.link.specs.Recovery.{RECOVERY}
 use Rattle.link.specs.Clean.{CLEAN, STARTED-CLEAN}
+use Rattle.link.specs.Batches.{SHORTER, BATCH-RUN, RECOVERY-BATCHES}
 
 pub record Link : Type 0 where
   -- demand 1: a refused call leaves every lent word as it was, and where no reason applies a call is not refused
@@ -22,6 +24,10 @@ pub record Link : Type 0 where
   pub recovery : RECOVERY
   pub clean : CLEAN
   pub started-clean : STARTED-CLEAN
+  -- blocks by the batch (02, CR 1): where a batch ends, that it is a run of single calls, and demand 3 of any mixture
+  pub shorter : SHORTER
+  pub batch-run : BATCH-RUN
+  pub recovery-batches : RECOVERY-BATCHES
 
 abbrev pub LINK : Type 0
 LINK = Link

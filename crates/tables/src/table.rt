@@ -33,7 +33,8 @@ pub(crate) fn sizes_fit(symbols: usize, span: usize, depth: usize) -> bool
 }
 
 // Whether the table of these sizes and rows is fit: the condition of refusal 12 does not hold. The rows are lent, since
-// each step asks it; of fewer than n − 1, those that are there are looked at.
+// each step asks it, and compared once, all their ones together; of fewer than n − 1, those that are there are looked
+// at.
 pub fn is_fit(symbols: usize, span: usize, depth: usize, rows: &[u64]) -> bool
     ensures { λ r. ⌜ r ≡ fit (table symbols span depth (now (rows .entry))) ⌝ }
 {
@@ -42,13 +43,13 @@ pub fn is_fit(symbols: usize, span: usize, depth: usize, rows: &[u64]) -> bool
     }
     let most = mask(span);
     let end = min(symbols - 1, rows.len());
-    let mut fit = true;
+    let mut ones: u64 = 0;
     let mut i = 0;
     while i < end {
-        fit = fit & (rows[i] <= most);
+        ones |= rows[i];
         i += 1;
     }
-    fit
+    ones <= most
 }
 
 // Whether a table whose rows are lent beside it is fit. With another count than fifteen it is not.

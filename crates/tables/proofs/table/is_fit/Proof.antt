@@ -8,6 +8,7 @@ use native.Mathlib.Numerals.{add-one}
 use native.Mathlib.Omega.{arith}
 use borrow.Author.Needs.{needs}
 use borrow.Author.Tests.{lt-ltb, le-ltb, leb-true, leb-false, not-true, not-false}
+use lib.Bits.{bitOr, or-lt, or-add-and, and-le-l, and-le-r}
 use lib.Dec.{leb, ltb}
 use lib.ListN.{length, getD, take}
 use lib.Pow.{pow-pos}
@@ -19,10 +20,11 @@ use Rattle.tables.proofs.table.is_fit.Statement.{statement}
 use Rattle.tables.proofs.table.is_fit.Tie as tie
 
 abbrev Inv-loop : tie.InvT-loop
-Inv-loop symbols span depth rows most end fit₀ i₀ fit i = (i ≤ end) × (fit ≡ rowsFit span (take i rows))
+Inv-loop symbols span depth rows most end ones₀ i₀ ones i = (i ≤ end) ×
+    (ltb ones (2 ^ span) ≡ rowsFit span (take i rows))
 
 abbrev μ-loop : tie.MeasureT-loop
-μ-loop symbols span depth rows most end fit₀ i₀ fit i = end - i
+μ-loop symbols span depth rows most end ones₀ i₀ ones i = end - i
 
 -- one row more; past the end there is none, and 0 fits
 next : (N : ℕ) (rows : List ℕ) (i : ℕ)
@@ -34,6 +36,21 @@ next N (w ∷ ws) zero = sym (and-true (ltb w (2 ^ N)))
 next N (w ∷ ws) (suc i) =
     and-assoc (ltb w (2 ^ N)) (rowsFit N (take i ws)) (ltb (getD ws i 0) (2 ^ N))
     ∙ ap (_&&_ (ltb w (2 ^ N))) (next N ws i)
+
+-- the ones of two words together are below the power exactly if both words are
+or-below : (k a b : ℕ) → ltb (bitOr a b) (2 ^ k) ≡ ltb a (2 ^ k) && ltb b (2 ^ k)
+or-below k a b = go (decLt a (2 ^ k)) (decLt b (2 ^ k))
+  where
+    go : Dec (a < 2 ^ k) → Dec (b < 2 ^ k) → ltb (bitOr a b) (2 ^ k) ≡ ltb a (2 ^ k) && ltb b (2 ^ k)
+    go (yes p) (yes q) = rw (lt-ltb a (2 ^ k) p, lt-ltb b (2 ^ k) q) (lt-ltb (bitOr a b) (2 ^ k) (or-lt k a b p q))
+    go (yes p) (no q) =
+        let sum = or-add-and a b in
+        let part = and-le-l a b in
+        rw (lt-ltb a (2 ^ k) p, le-ltb b (2 ^ k) (omega arith)) (le-ltb (bitOr a b) (2 ^ k) (omega arith))
+    go (no p) q =
+        let sum = or-add-and a b in
+        let part = and-le-r a b in
+        rw (le-ltb a (2 ^ k) (omega arith)) (le-ltb (bitOr a b) (2 ^ k) (omega arith))
 
 -- to be at most the mask is to be below the power
 below : (w m N : ℕ) → suc m ≡ 2 ^ N → leb w m ≡ ltb w (2 ^ N)
@@ -82,13 +99,14 @@ min-requires c κs = search needs
 
 loop-holds : tie.Need-loop-holds Inv-loop μ-loop
 unfolding rowsFit
-loop-holds c = (omega arith, refl)
+loop-holds c = let a = c .before .before .before .before .before .args in
+    (omega arith, lt-ltb 0 (2 ^ a .span) (pow-pos (a .span)))
 
-mul-fit : tie.Need-mul-fit Inv-loop μ-loop
-mul-fit c = search needs
+mul-ones : tie.Need-mul-ones Inv-loop μ-loop
+mul-ones c = search needs
 
-shared-slice-read-fit : tie.Need-shared-slice-read-fit Inv-loop μ-loop
-shared-slice-read-fit c = search needs
+shared-slice-read-ones : tie.Need-shared-slice-read-ones Inv-loop μ-loop
+shared-slice-read-ones c = search needs
 
 add-i : tie.Need-add-i Inv-loop μ-loop
 add-i c = search needs
@@ -99,13 +117,10 @@ loop-less c = search needs
 loop-again : tie.Need-loop-again Inv-loop μ-loop
 loop-again c =
     let l = c .before .before in
-    let m = l .before .before in
-    let a = m .before .before .before .before .args in
-    let z = sizes-of (a .symbols) (a .span) (a .depth) (sizes (m .before)) in
-    let p = pow-pos (a .span) in
-    let whole : 2 ^ min (a .span) 64 ≡ 2 ^ (a .span) = ap (λ (k : ℕ). 2 ^ k) (omega arith) in (
+    let a = l .before .before .before .before .before .before .args in
+    let w = getD (a .rows .now) (l .loop .i) 0 in (
       omega arith,
-      ap₂ _&&_ (l .loop .inv .1) (below (getD (a .rows .now) (l .loop .i) 0) (m .mask .result) (a .span) (omega arith))
+      or-below (a .span) (l .loop .ones) w ∙ ap (λ (b : Bool). b && ltb w (2 ^ a .span)) (l .loop .inv .1)
           ∙ next (a .span) (a .rows .now) (l .loop .i)
           ∙ ap (λ (i : ℕ). rowsFit (a .span) (take i (a .rows .now))) (sym (add-one (l .loop .i))),
     )
@@ -117,12 +132,16 @@ returns-2 c =
     let m = l .before .before in
     let a = m .before .before .before .before .args in
     let done : l .loop .i ≡ min (a .symbols - 1) (length (a .rows .now)) = omega arith in
-    l .loop .inv .1 ∙ ap (λ (i : ℕ). rowsFit (a .span) (take i (a .rows .now))) done
+    let z = sizes-of (a .symbols) (a .span) (a .depth) (sizes (m .before)) in
+    let p = pow-pos (a .span) in
+    let whole : 2 ^ min (a .span) 64 ≡ 2 ^ (a .span) = ap (λ (k : ℕ). 2 ^ k) (omega arith) in
+    below (l .loop .ones) (m .mask .result) (a .span) (omega arith) ∙ l .loop .inv .1
+    ∙ ap (λ (i : ℕ). rowsFit (a .span) (take i (a .rows .now))) done
     ∙ ap (rowsFit (a .span)) (clamped (a .rows .now) (a .symbols - 1))
     ∙ ap (λ (s : Bool). s && rowsFit (a .span) (take (a .symbols - 1) (a .rows .now))) (sym (sizes (m .before)))
 
 pub is-fit-spec : {M : Type 1} → statement M
 is-fit-spec =
     tie.close
-    (tie.spec Inv-loop μ-loop sizes-fit-requires returns mask-requires sub-min min-requires loop-holds mul-fit
-    shared-slice-read-fit add-i loop-less loop-again returns-2)
+    (tie.spec Inv-loop μ-loop sizes-fit-requires returns mask-requires sub-min min-requires loop-holds mul-ones
+    shared-slice-read-ones add-i loop-less loop-again returns-2)
