@@ -165,12 +165,13 @@ struct burst_decoded burst_decode(const uint64_t table[18], uint64_t *words, siz
  * block of infos[i], below 2^n.
  *
  * Returns how many blocks it took, which are the first of the list, and as many entries are filled. That is length or
- * room, whichever is less, unless burst_code would refuse an earlier block: then it is the blocks before the first such.
+ * room, whichever is less, unless burst_code would refuse an earlier block: then it is how many stand before that one.
  * The words are those after as many calls of burst_code, and entries past those filled keep what they held; where the
  * result is 0 nothing is written. The table and the list are only read, and the table's suitability is not tested.
  *
  * A caller that gets back less than length and less than room has, in infos[result], a block that is refused. burst_code
- * of it says by which number, and writes nothing. A caller that got back its room goes on from infos[result].
+ * of it says by which number, and writes nothing. A caller that got back its room, and less than length, goes on from
+ * infos[result].
  */
 size_t burst_code_batch(const uint64_t table[18], uint64_t *words, size_t count, const uint16_t *infos, size_t length,
                         uint32_t *entries, size_t room);

@@ -9,7 +9,7 @@
 --   mixture-so           a list of batches
 --   run-map              what is told of a run's entries, entry by entry
 --   code-one, decode-one the law, of coder and of decoder
---   entryOf, entries-told   the entry of a block taken
+--   entryOf, entries-told, blocks-told, taken-entries   the entry of a block taken, and of one sent
 --   shorter, batch-run, single, mixture, recovery-batches   the theorems
 use mathlib.Core.Path.{_≡_, refl, sym, ap, ap₂, _∙_, subst}
 use mathlib.Core.Logic.{_↔_, _⊎_, inl, inr}
@@ -20,7 +20,8 @@ use native.Mathlib.Decide.{ℕ-discrete}
 use lib.Pow.{pow-mono}
 use lib.ListN.{length, getD, take, length-take, length-map, List·getD-map}
 use Rattle.tables.specs.declared.table.Table.{Table}
-use Rattle.link.specs.declared.code.CodeAnswer.the-variants.{Refused as CodeRefused}
+use Rattle.link.specs.declared.code.CodeAnswer.{CodeAnswer}
+use Rattle.link.specs.declared.code.CodeAnswer.the-variants.{Coded, Refused as CodeRefused}
 use Rattle.link.specs.declared.decode.DecodeAnswer.{DecodeAnswer}
 use Rattle.link.specs.declared.decode.DecodeAnswer.the-variants.{Delivery, NothingYet, Refused as DecodeRefused}
 use Rattle.link.specs.Refusals.{coderFault, decoderFault}
@@ -30,7 +31,7 @@ use Rattle.link.specs.Memory.{delayOf}
 use Rattle.link.specs.Runs.{Call, Sent, Taken, run, ran, sentBy, sentAt, sentOf, noneSent, takenBy, takenOf}
 use Rattle.link.specs.Runs.{noneTaken}
 use Rattle.link.specs.Batch.{Batch, ended, batch, codeEntries, decodeEntry, decodeEntries, codeBatch, decodeBatch}
-use Rattle.link.specs.Batches.{singly, Ends, Handed, filled, after, callsOf, coderBatch, decoderBatch}
+use Rattle.link.specs.Batches.{singly, decodedBy, Ends, Handed, filled, after, callsOf, coderBatch, decoderBatch}
 use Rattle.link.specs.Batches.{SHORTER, BATCH-RUN, SINGLE, MIXTURE, RECOVERY-BATCHES}
 use Rattle.link.proofs.Coder.{codes, code-refuses, coder-taken}
 use Rattle.link.proofs.Decoder.{decodes, decode-refuses}
@@ -323,15 +324,7 @@ single = (
   single-so decodeMemory decodeKept decodeRefused decode-one,
 )
 
-pub mixture : MIXTURE
-mixture s hs = (
-  mixture-so codeMemory codeKept coderBatch
-      (λ s h. let r = batch-run .0 (h .table) (h .room) s (h .blocks) in (r .2, r .3)) s hs,
-  mixture-so decodeMemory decodeKept decoderBatch
-      (λ s h. let r = batch-run .1 (h .table) (h .room) s (h .blocks) in (r .2, r .3)) s hs,
-)
-
--- the entry of a block taken
+-- the entry of a block taken, and of one sent
 abbrev entryOf : Taken → ℕ
 entryOf x = getD (decodeEntries (x .answer)) 0 0
 
@@ -339,6 +332,35 @@ entries-told : (t : Table) (r : ℕ) (a : DecodeAnswer) → decodeEntries a ≡ 
 entries-told t r (Delivery d) = refl
 entries-told t r NothingYet = refl
 entries-told t r (DecodeRefused k) = refl
+
+blocks-told : (t : Table) (b : ℕ) (a : CodeAnswer) → codeEntries a ≡ map (λ (x : Sent). x .block) (sentOf t b a)
+blocks-told t b (Coded c) = refl
+blocks-told t b (CodeRefused k) = refl
+
+taken-entries : (s : List ℕ) (hs : List Handed) → filled decoderBatch s hs ≡ decodedBy s (callsOf decoderBatch s hs)
+    → filled decoderBatch s hs ≡ map entryOf (takenBy s (callsOf decoderBatch s hs))
+taken-entries s hs e =
+    e ∙ run-map entryOf decodeMemory (λ t s r. takenOf t r (decodeAnswer t s r)) decodeKept
+    (λ t s r. entries-told t r (decodeAnswer t s r)) s (callsOf decoderBatch s hs)
+
+pub mixture : MIXTURE
+mixture s hs =
+    let c = mixture-so codeMemory codeKept coderBatch
+    (λ s h. let r = batch-run .0 (h .table) (h .room) s (h .blocks) in (r .2, r .3)) s hs in
+    let d = mixture-so decodeMemory decodeKept decoderBatch
+    (λ s h. let r = batch-run .1 (h .table) (h .room) s (h .blocks) in (r .2, r .3)) s hs in (
+      (
+        c .0,
+        c .1,
+        c .0 ∙ run-map (λ (x : Sent). x .block) codeMemory (λ t s b. sentOf t b (codeAnswer t s b)) codeKept
+            (λ t s b. blocks-told t b (codeAnswer t s b)) s (callsOf coderBatch s hs),
+      ),
+      (
+        d .0,
+        d .1,
+        ap length (taken-entries s hs (d .0)) ∙ length-map (takenBy s (callsOf decoderBatch s hs)) entryOf,
+      ),
+    )
 
 -- what was sent has 16 bits at most
 info-fits : (s : List ℕ) (cs : List Call) (p : ℕ) → p < length (sentBy s cs)
@@ -359,10 +381,8 @@ recovery-batches t coder decoder hs gs f p late h =
     let sent = sentBy coder cs in
     let taken = takenBy decoder ds in
     let all : filled decoderBatch decoder gs ≡ map entryOf taken =
-    mixture decoder gs .1 .0
-    ∙ run-map entryOf decodeMemory (λ t s r. takenOf t r (decodeAnswer t s r)) decodeKept
-    (λ t s r. entries-told t r (decodeAnswer t s r)) decoder ds in
-    let size : length (filled decoderBatch decoder gs) ≡ length taken = ap length all ∙ length-map taken entryOf in
+    taken-entries decoder gs (mixture decoder gs .1 .0) in
+    let size = mixture decoder gs .1 .2 in
     let r = recovery t coder decoder cs ds f p late (omega arith) in
     let enough = f .running .enough in
     let low : sentAt sent (p - delayOf t) .info < 2 ^ 16 = info-fits coder cs (p - delayOf t - 1) (omega arith) in

@@ -6,7 +6,7 @@
 --   batch entries memory room s bs   the single calls of the blocks bs, one after another, while there is room
 --   codeEntries a, decodeEntry m i, decodeEntries a   the entry of a single call's answer; none of a refusal
 --   codeBatch, decodeBatch   the batches of coder and of decoder
---   Fills                 what `fill_coded` and `fill_decoded` promise
+--   Fills                 what `fill_coded` and `fill_decoded` promise, and what C calls
 --   FillsPart             what `code_batch` and `decode_batch` promise
 --   followed, Reached     entries and then those of another batch; where a batch has come to after some of its blocks
 --   ENTRY                 a call that is not refused has one entry: the coded block; the information in its low 16
@@ -18,7 +18,6 @@ use lib.ListN.{length, getD, take, drop}
 use Rattle.tables.specs.declared.table.Table.{Table}
 use Rattle.link.specs.declared.code.CodeAnswer.{CodeAnswer}
 use Rattle.link.specs.declared.code.CodeAnswer.the-variants.{Coded, Refused as CodeRefused}
-use Rattle.link.specs.declared.decode.Mark.{Mark}
 use Rattle.link.specs.declared.decode.DecodeAnswer.{DecodeAnswer}
 use Rattle.link.specs.declared.decode.DecodeAnswer.the-variants.{Delivery, NothingYet, Refused as DecodeRefused}
 use Rattle.link.specs.Refusals.{coderFault, decoderFault}
@@ -33,6 +32,7 @@ pub record Batch : Type 0 where
 abbrev pub ended : List ℕ → Batch
 ended s = record { entries = []; memory = s }
 
+-- a call has at most one entry (`ENTRY`)
 abbrev pub entered : List ℕ → List ℕ → Batch → Batch
 entered [] s rest = ended s
 entered (e ∷ es) s rest = record { entries = e ∷ rest .entries; memory = rest .memory }
@@ -72,13 +72,13 @@ pub record Fills (b : Batch) (out : List ℕ) (taken : ℕ) (after out' : List �
   pub memory : after ≡ b .memory
   pub output : out' ≡ b .entries ++ drop (length (b .entries)) out
 
--- of a call that returns the filled part itself
+-- Of a call that returns the filled part itself. The rest of the output is not said here: a `&mut` that goes into the
+-- result has no last value in a contract. `Fills` says it, of the functions that these call and then only cut.
 pub record FillsPart (b : Batch) (part after : List ℕ) : Type 0 where
   pub entries : part ≡ b .entries
   pub memory : after ≡ b .memory
 
--- What a batch comes to is the entries of the output up to block i, and then what a batch of the blocks that are left
--- comes to; the output past them is as it was. No promise of a public function is made of it.
+-- What a batch comes to is the first i entries of the output, and then what a batch of the blocks that are left comes to; the output past them is as it was. No promise of a public function is made of it.
 abbrev pub followed : List ℕ → Batch → Batch
 followed es b = record { entries = es ++ b .entries; memory = b .memory }
 

@@ -6,7 +6,7 @@
 --   Ends                  where single calls would come to an end: the output full, or the next one refused
 --   SHORTER               a batch takes fewer blocks than it is handed exactly where they do
 --   BATCH-RUN             a batch is the run of the blocks that it took
---   SINGLE                a single call is the batch of its block
+--   SINGLE                entry and memory of a single call are those of the batch of its block
 --   Handed                what a batch is handed
 --   filled, after         the entries of a list of batches, and the memory after them
 --   callsOf               their single calls, those that were taken
@@ -15,7 +15,7 @@
 --   RECOVERY-BATCHES      demand 3 of any mixture of batches and single calls
 use mathlib.Core.Path.{_≡_}
 use mathlib.Core.Logic.{_≢_, _↔_, _⊎_}
-use mathlib.Core.List.{List, [], _∷_, _++_}
+use mathlib.Core.List.{List, [], _∷_, _++_, map}
 use Prim.Native.Nat.{ℕ, _-_, _*_, _/_, _%_, _^_, _≤_, _<_}
 use lib.ListN.{length, getD, take}
 use Rattle.tables.specs.declared.table.Table.{Table}
@@ -40,7 +40,7 @@ codedBy = run codeMemory (λ t s b. codeEntries (codeAnswer t s b))
 abbrev pub decodedBy : List ℕ → List Call → List ℕ
 decodedBy = run decodeMemory (λ t s r. decodeEntries (decodeAnswer t s r))
 
--- Single calls have taken the first k blocks, each of them; "with a block still to take, the output is full or the next
+-- Single calls have taken the first k blocks, each of them, and there was room for these; "with a block still to take, the output is full or the next
 -- single call would be refused".
 pub record Ends (filledBy : List ℕ → List ℕ) (refused : List ℕ → ℕ → Type 0) (room : ℕ) (bs : List ℕ) (k : ℕ)
     : Type 0 where
@@ -109,13 +109,17 @@ callsOf one s [] = []
 callsOf one s (h ∷ hs) =
     singly (h .table) (take (length (one s h .entries)) (h .blocks)) ++ callsOf one (one s h .memory) hs
 
+-- and its entries are the blocks sent, one a block taken
 abbrev pub MIXTURE : Type 0
 MIXTURE =
     (s : List ℕ) (hs : List Handed)
-    → ((filled coderBatch s hs ≡ codedBy s (callsOf coderBatch s hs))
-    × (after coderBatch s hs ≡ coderAfter s (callsOf coderBatch s hs)))
-    × ((filled decoderBatch s hs ≡ decodedBy s (callsOf decoderBatch s hs))
-    × (after decoderBatch s hs ≡ decoderAfter s (callsOf decoderBatch s hs)))
+    →
+    let cs = callsOf coderBatch s hs in
+    let ds = callsOf decoderBatch s hs in
+    ((filled coderBatch s hs ≡ codedBy s cs) × (after coderBatch s hs ≡ coderAfter s cs)
+    × (filled coderBatch s hs ≡ map (λ x. x .block) (sentBy s cs)))
+    × ((filled decoderBatch s hs ≡ decodedBy s ds) × (after decoderBatch s hs ≡ decoderAfter s ds)
+    × (length (filled decoderBatch s hs) ≡ length (takenBy s ds)))
 
 -- `RECOVERY`, read off the entries: entry p, counted from 1, is that of taken block p. A batch ends before a call that
 -- would be refused; a refused single call may stand anywhere, and has no entry (`SINGLE`).

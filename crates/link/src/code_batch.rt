@@ -1,5 +1,5 @@
-// The coder by the batch: what holds of all its blocks is tested once, and the rows are looked up in tables that are
-// made once.
+// The coder by the batch: what holds of all its blocks is tested once, and images are looked up in tables that are made
+// once.
 use crate::code::malformed;
 use crate::code::taken;
 use crate::stream::one_at;
@@ -68,7 +68,7 @@ pub fn fill_coded(
     fill(t, rows, state, infos, out)
 }
 
-// The part of `out` that is filled.
+// The part of `out` that is filled; of the rest `fill_coded` says that it is as it was.
 pub fn code_batch<'a>(
     t: Table,
     state: &mut [u64],

@@ -43,7 +43,7 @@ pub enum DecodeAnswer {
     Refused(u64),
 }
 
-// The word w of a step, and the register.
+// The word w of a step, with the received parity added to its bit 0, and the register.
 pub(crate) struct Joined {
     pub w: u64,
     pub register: u64,

@@ -1,5 +1,6 @@
-// The decoder by the batch: what holds of all its blocks is tested once, a stream's words once, and the rows are looked
-// up in tables that are made once. The basis of the rows is made at the first register that is not 0.
+// The decoder by the batch. 12 and 13 are tested once. Blocks are taken first as long as the register is 0, which needs
+// no basis of the rows; the rest, from another register or a refused block on, is judged by the dual basis. Each of the
+// two makes its tables for images once, and tests a stream's words at its first block.
 use crate::decode::Mark;
 use crate::decode::Verdict;
 use crate::decode::error_words;
@@ -12,7 +13,7 @@ use crate::stream::one_at;
 use span::bits::mask;
 use span::bound::min;
 use span::dual::dual_basis;
-use span::dual::reduce_at_once;
+use span::dual::least_by;
 use span::dual::together;
 use span::eliminate::Least;
 use span::lookup::look_up;
@@ -21,16 +22,11 @@ use tables::table::Table;
 use tables::table::lent_fits;
 ghost use mathlib.Core.Path.{_≡_};
 ghost use mathlib.Core.Bool.{true, cond, _&&_};
-ghost use mathlib.Core.List.{List, []};
-ghost use Prim.Native.Nat.{ℕ, _+_, _-_, _/_, _^_, _≤_, _<_, min};
+ghost use mathlib.Core.List.{[]};
+ghost use Prim.Native.Nat.{_-_, _/_, _^_, _≤_, _<_};
 ghost use lib.Dec.{ltb};
 ghost use lib.ListN.{length};
 ghost use Rattle.span.specs.Word.{_⊕_};
-ghost use Rattle.span.specs.Combination.{Below};
-ghost use Rattle.span.specs.Relation.{leastCoefficients};
-ghost use Rattle.span.specs.Basis.{basis};
-ghost use Rattle.span.specs.Elimination.{basisOf};
-ghost use Rattle.span.specs.Dual.{dual, together};
 ghost use Rattle.tables.specs.Lent.{withRows, lent};
 ghost use Rattle.tables.specs.Table.{table, fit};
 ghost use Rattle.link.specs.Memory.{turnOf, fillOf, delayOf, delayedOf, decoderWords};
@@ -39,8 +35,8 @@ ghost use Rattle.link.specs.Step.{information};
 ghost use Rattle.link.specs.Decoder.{advanced, markNumber};
 ghost use Rattle.link.specs.Batch.{decodeEntry, decodeBatch, Fills, FillsPart, Reached};
 
-// Whether 14 applies to block i of a batch, of n, N and m, once 12 and 13 are settled. A stream is looked at at its
-// first block only: a step that is taken keeps it well-formed.
+// Whether 14 applies to block i of a batch, of n, N and m, once 12 and 13 are settled and the blocks before were taken.
+// A stream is looked at at its first block only: a step that is taken keeps it well-formed.
 fn first_malformed(n: usize, span: usize, depth: usize, i: usize, state: &[u64]) -> bool
     requires { ⌜ (2 ≤ n) × (n ≤ 16) × (2 ≤ span) × (span ≤ 64) × (1 ≤ depth) × (depth ≤ 64)
         × (length (now state) ≡ decoderWords (table n span depth [])) ⌝ }
@@ -50,35 +46,6 @@ fn first_malformed(n: usize, span: usize, depth: usize, i: usize, state: &[u64])
         return malformed(n, span, depth, state);
     }
     false
-}
-
-// What the register is the image of, by the dual basis of the rows. A register that has no one in common with the
-// check words, whose ones together are `ones`, is not reduced.
-fn found_by<'a>(
-    size: usize,
-    vectors: &'a [u64; 32],
-    checks: &'a [u64; 32],
-    coefficients: &'a [u64; 32],
-    ones: u64,
-    x: u64,
-) -> Least
-    ensures { λ r.
-        ⌜ ((ws : List ℕ) → length ws ≤ 32 → Below 64 ws
-        → basis size (now (vectors .entry)) (now (checks .entry)) (now (coefficients .entry)) ≡ dual (basisOf ws)
-        → ones ≡ together (now (checks .entry)) (min size 32)
-        → r ≡ leastCoefficients ws x) ⌝ }
-{
-    if x == 0 {
-        return Least::Found(0);
-    }
-    if x & ones == 0 {
-        return Least::Missing;
-    }
-    let reduced = reduce_at_once(size, vectors, checks, coefficients, x);
-    if reduced.rest == 0 {
-        return Least::Found(reduced.coefficients);
-    }
-    Least::Missing
 }
 
 // The entry of a record: the mark's number above the information.
@@ -151,7 +118,7 @@ fn fill_judged(t: Table, rows: &[u64], state: &mut [u64], blocks: &[u16], out: &
             return i;
         }
         let x = terms(state, t.span, top, look_up(&tables, received));
-        let found = found_by(
+        let found = least_by(
             b.size,
             &b.vectors,
             &b.checks,
@@ -173,8 +140,8 @@ fn fill_judged(t: Table, rows: &[u64], state: &mut [u64], blocks: &[u16], out: &
     i
 }
 
-// The same up to a register that is not 0, or to a block that is refused: the register 0 is the image of 0, and a batch
-// of right blocks makes no basis.
+// The same up to a register that is not 0, or to a block that is refused: the register 0 is the image of 0, so that a
+// batch whose registers are all 0, and of which no block is refused, makes no basis.
 fn fill_clean(t: Table, rows: &[u64], state: &mut [u64], blocks: &[u16], out: &mut [u32]) -> usize
     requires { ⌜ (fit (withRows t (now rows)) ≡ true) × (length (now rows) ≡ 15)
         × (length (now state) ≡ decoderWords (withRows t (now rows))) ⌝ }
@@ -253,7 +220,7 @@ pub fn fill_decoded(
     fill(t, rows, state, blocks, out)
 }
 
-// The part of `out` that is filled.
+// The part of `out` that is filled; of the rest `fill_decoded` says that it is as it was.
 pub fn decode_batch<'a>(
     t: Table,
     state: &mut [u64],

@@ -1,22 +1,25 @@
 -- The laws of reduction at once: by the bilinearity of the parity alone, a step's test of what is left of a word is the
 -- new check word's test of the word itself. Assumes nothing.
 use mathlib.Core.Path.{_≡_, refl, sym, ap, ap₂, _∙_, subst}
-use mathlib.Core.Bool.{Bool, true, false, xor}
+use mathlib.Core.Bool.{Bool, true, false, cond, xor}
 use mathlib.Core.List.{List}
 use Prim.Native.Nat.{ℕ, zero, suc, _≤_, _<_, min}
 use native.Mathlib.Nat.{le-refl}
 use native.Mathlib.Decide.{decLe}
 use native.Mathlib.Omega.{arith}
-use lib.Bits.{bitAnd}
+use borrow.Author.Tests.{eqb-true, eqb-false, ne-eqb}
+use lib.Bits.{bitAnd, and-zero-l}
+use lib.Dec.{eqb}
 use lib.ListN.{length, getD, set, length-set}
 use lib.Seq.{getD-set-same, getD-set-other}
 use Rattle.span.specs.declared.eliminate.Basis.{Basis}
 use Rattle.span.specs.declared.eliminate.Reduced.{Reduced}
+use Rattle.span.specs.declared.eliminate.Least.the-variants.{Found, Missing}
 use Rattle.span.specs.Word.{_⊕_, sel, commonParity}
 use Rattle.span.specs.Basis.{basis, reducedBy, reducedTo, reduction, answer}
 use Rattle.span.specs.Elimination.{basisOf}
 use Rattle.span.specs.Dual.{crossed, dualTo, dualChecks, dual, atOnceTo, atOnce, together}
-use Rattle.span.specs.Dual.{AT-ONCE, DUAL-REDUCES, UNMET}
+use Rattle.span.specs.Dual.{leastBy, AT-ONCE, DUAL-REDUCES, LEAST-BY, UNMET}
 use Rattle.span.proofs.Word.{xor-zero-r, parity-zero-l, parity-comm, parity-xor, parity-none, and-or-l, and-or-r}
 use Rattle.span.proofs.Basis.{reduces}
 use Rattle.span.proofs.Linear.{parity-xor-r}
@@ -118,6 +121,32 @@ unmet-to b x (suc i) e =
 pub unmet : UNMET
 unfolding atOnce
 unmet b x e = unmet-to b x (min (b .size) 32) e
+
+-- a word that is left as it is, and not 0, is no combination
+left-missing : (b : Basis) (x : ℕ) → (x ≡ 0 → ⊥) → bitAnd x (together (b .checks) (min (b .size) 32)) ≡ 0
+    → Missing ≡ answer (atOnce b x)
+unfolding answer
+left-missing b x some e =
+    sym (ap (λ (r : Reduced). cond (eqb (r .rest) 0) (Found (r .coefficients)) Missing) (unmet b x e)
+    ∙ ap (λ (t : Bool). cond t (Found 0) Missing) (ne-eqb x 0 some))
+
+zero-found : (b : Basis) → Found 0 ≡ answer (atOnce b 0)
+unfolding answer
+zero-found b =
+    sym (ap (λ (r : Reduced). cond (eqb (r .rest) 0) (Found (r .coefficients)) Missing)
+    (unmet b 0 (and-zero-l (together (b .checks) (min (b .size) 32)))))
+
+pub least-by : LEAST-BY
+unfolding leastBy
+least-by ws room bound b e x =
+    go (eqb x 0) (eqb (bitAnd x (together (b .checks) (min (b .size) 32))) 0) refl refl
+    ∙ ap (λ (b : Basis). answer (atOnce b x)) e ∙ dual-reduces ws room bound x
+  where
+    go : (p q : Bool) → eqb x 0 ≡ p → eqb (bitAnd x (together (b .checks) (min (b .size) 32))) 0 ≡ q
+        → cond p (Found 0) (cond q Missing (answer (atOnce b x))) ≡ answer (atOnce b x)
+    go true q h k = zero-found b ∙ ap (λ (y : ℕ). answer (atOnce b y)) (sym (eqb-true x 0 h))
+    go false true h k = left-missing b x (eqb-false x 0 h) (eqb-true _ 0 k)
+    go false false h k = refl
 
 -- the stores of the code
 pub dual-stored : (b b′ : Basis) (ds : List ℕ) → b ≡ b′ → ds ≡ dualTo (b .vectors) (b .checks) (min (b .size) 32)

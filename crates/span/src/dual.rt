@@ -4,6 +4,7 @@ use crate::bits::parity;
 use crate::bits::select;
 use crate::bound::min;
 use crate::eliminate::Basis;
+use crate::eliminate::Least;
 use crate::eliminate::Reduced;
 use crate::eliminate::basis_of;
 ghost use mathlib.Core.Path.{_≡_};
@@ -11,9 +12,9 @@ ghost use Prim.Native.Nat.{_≤_, min};
 ghost use Rattle.span.specs.Combination.{counted};
 ghost use Rattle.span.specs.Basis.{basis};
 ghost use Rattle.span.specs.Elimination.{basisOf};
-ghost use Rattle.span.specs.Dual.{crossed, dualTo, dual, together, atOnce};
+ghost use Rattle.span.specs.Dual.{crossed, dualTo, dual, together, atOnce, leastBy};
 
-// A check word, with each of the first `end` new ones added whose vector it meets.
+// A check word, with each of the first `end` new ones added whose vector has an odd count of common ones with it.
 fn dual_check<'a>(vectors: &'a [u64; 32], duals: &'a [u64; 32], check: u64, end: usize) -> u64
     requires { ⌜ end ≤ 32 ⌝ }
     ensures { λ r. ⌜ r ≡ crossed (now (vectors .entry)) (now (duals .entry)) check end ⌝ }
@@ -55,7 +56,7 @@ pub fn dual_basis(words: &[u64], count: usize) -> Basis
 
 // A word reduced by the triples, each of which tests the word itself, with no branch but the loop's; the arrays lent.
 // Any arrays and any size have an answer: a size above 32 counts as 32.
-pub fn reduce_at_once<'a>(
+fn reduce_at_once<'a>(
     size: usize,
     vectors: &'a [u64; 32],
     checks: &'a [u64; 32],
@@ -93,4 +94,30 @@ pub fn together(words: &[u64; 32], count: usize) -> u64
         i += 1;
     }
     ones
+}
+
+// What a dual basis says of a word: its least coefficients, or that it has none. `ones` are those of the check words
+// together: a word that has none of them is not reduced.
+pub fn least_by<'a>(
+    size: usize,
+    vectors: &'a [u64; 32],
+    checks: &'a [u64; 32],
+    coefficients: &'a [u64; 32],
+    ones: u64,
+    x: u64,
+) -> Least
+    ensures { λ r.
+        ⌜ r ≡ leastBy (basis size (now (vectors .entry)) (now (checks .entry)) (now (coefficients .entry))) ones x ⌝ }
+{
+    if x == 0 {
+        return Least::Found(0);
+    }
+    if x & ones == 0 {
+        return Least::Missing;
+    }
+    let reduced = reduce_at_once(size, vectors, checks, coefficients, x);
+    if reduced.rest == 0 {
+        return Least::Found(reduced.coefficients);
+    }
+    Least::Missing
 }

@@ -15,10 +15,10 @@ use Rattle.link.proofs.Entry.{entry-is}
 use lib.Pow.{pow-mono}
 use Rattle.span.specs.declared.eliminate.Least.{Least}
 use Rattle.span.specs.Word.{_⊕_}
-use Rattle.span.specs.Combination.{combination}
-use Rattle.span.specs.Elimination.{basisOf}
-use Rattle.span.specs.Dual.{dual}
+use Rattle.span.specs.Combination.{combination, Below, counted}
+use Rattle.span.specs.Dual.{leastBy}
 use Rattle.span.specs.Lookup.{Lookup}
+use Rattle.span.proofs.Duals.{least-by}
 use Rattle.span.proofs.Lookups.{looked-up}
 use Rattle.span.proofs.Masks.{above-mask}
 use Rattle.tables.specs.Table.{infoRows, rowsOf}
@@ -255,12 +255,12 @@ registered c =
     (c .terms .result .register) (l .before .before .one-at .result) (c .terms .ensures .1)
     (l .before .before .one-at .ensures)
 
-found-by-requires : tie.Need-found-by-requires Inv-loop μ-loop
-found-by-requires c κs = search needs
+least-by-requires : tie.Need-least-by-requires Inv-loop μ-loop
+least-by-requires c κs = search needs
 
 -- the least error, by the dual basis
-explained : (c : tie.After-found-by Inv-loop μ-loop)
-    → c .found-by .result ≡ found (rowsOf (whole (entry (turn (c .before .before .before .before .before)))))
+explained : (c : tie.After-least-by Inv-loop μ-loop)
+    → c .least-by .result ≡ found (rowsOf (whole (entry (turn (c .before .before .before .before .before)))))
     (c .before .before .before .before .before .terms .result .register)
 explained c =
     let l = turn (c .before .before .before .before .before) in
@@ -270,10 +270,15 @@ explained c =
     let w = l .before .before .before .before .before .before .before .before .before .before .before .before
     .error-words in
     let z = size start in
-    c .found-by .ensures (rowsOf (whole start)) (omega arith) (code-below (whole start) (facts start))
-    (b .ensures ∙ ap (λ (ws : List ℕ). dual (basisOf ws))
-    (counted-words (rowsOf (whole start)) (w .result) (start .args .t .symbols) 0 z (w .ensures) (omega arith)))
-    (l .before .before .before .before .before .together .ensures)
+    let R = rowsOf (whole start) in
+    let words = counted (start .args .t .symbols) (w .result) in
+    let same : words ≡ R = counted-words R (w .result) (start .args .t .symbols) 0 z (w .ensures) (omega arith) in
+    let x = c .before .before .before .before .before .terms .result .register in
+    c .least-by .ensures
+    ∙ ap (λ (o : ℕ). leastBy (b .result) o x) (l .before .before .before .before .before .together .ensures)
+    ∙ least-by words (rw same (omega arith)) (subst (Below 64) (sym same) (code-below (whole start) (facts start)))
+    (b .result) (b .ensures) x
+    ∙ ap (λ (ws : List ℕ). found ws x) same
 
 judged-requires : tie.Need-judged-requires Inv-loop μ-loop
 judged-requires c κs =
@@ -335,7 +340,7 @@ memory-next c =
     let x = words c in
     let l = turn x in
     let start = entry l in
-    let f = c .before .before .before .before .before .found-by in
+    let f = c .before .before .before .before .before .least-by in
     let j = c .before .before .before .judged in
     c .before .before .take-block .ensures .1
     ∙ ap (λ (k : ℕ). advanced (start .args .t .span) (start .args .t .depth) (l .loop .state) (x .terms .result .w / 2)
@@ -353,7 +358,7 @@ entry-next c =
     let start = entry l in
     let u = whole start in
     let s = l .loop .state in
-    let f = c .before .before .before .before .before .found-by in
+    let f = c .before .before .before .before .before .least-by in
     let j = c .before .before .before .judged in
     ap (λ (e : ℕ). e ∷ []) (c .before .before .take-block .ensures .0)
     ∙ entry-is u s (block l) (j .result .mark)
@@ -396,6 +401,6 @@ fill-judged-spec =
     (tie.spec Inv-loop μ-loop error-words-requires slice-aggregate-lookup-of lookup-of-requires
     slice-aggregate-dual-basis dual-basis-requires together-requires mask-requires sub-one-at one-at-requires
     min-requires loop-holds mul-received shared-slice-read-received cast-received first-malformed-requires same-length
-    same-length-2 returns same-length-3 same-length-4 returns-2 look-up-requires terms-requires found-by-requires
+    same-length-2 returns same-length-3 same-length-4 returns-2 look-up-requires terms-requires least-by-requires
     judged-requires take-block-requires mul-out slice-write-out add-i loop-less loop-again same-length-5 same-length-6
     returns-3)
