@@ -219,7 +219,7 @@ fn main() {
     }
     report_images();
     if !batch::report_all(&mut random) {
-        println!("a batch of 256 blocks or more is slower than is asked for");
+        println!("a batch of 256 blocks or more with m = 16 is slower than is asked for");
         std::process::exit(1);
     }
 }

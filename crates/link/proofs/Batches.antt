@@ -38,6 +38,7 @@ use Rattle.link.proofs.Decoder.{decodes, decode-refuses}
 use Rattle.link.proofs.Calls.{delivery-taken}
 use Rattle.link.proofs.Batch.{batch-none, batch-full, batch-refused, batch-taken, batch-size}
 use Rattle.link.proofs.Runs.{run-append, sent-place, sent-told, sentEntry, coderBefore}
+use Rattle.link.proofs.Entries.{coded-none, coded-one, decoded-none}
 use Rattle.link.proofs.Entry.{entry-read}
 use Rattle.link.proofs.Recovery.{recovery}
 
@@ -259,10 +260,10 @@ code-one t s b = go (ℕ-discrete (coderFault t s b) 0)
     go : Dec (coderFault t s b ≡ 0) → One (codeEntries (codeAnswer t s b)) (codeRefused t s b) (codeMemory t s b) s
     go (yes e) =
         let z = sym (codes t s b e .0) in
-        inr (codedBlock t s b, ap codeEntries z, λ k. let w : _≡_ {A = ℕ} 0 1 = cc (k .1) in omega arith)
+        inr (codedBlock t s b, coded-one t s b e, λ k. let w : _≡_ {A = ℕ} 0 1 = cc (k .1) in omega arith)
     go (no e) =
         let z = code-refuses t s b (coderFault t s b) refl (omega arith) in
-        inl (ap codeEntries (sym (z .0)), (coderFault t s b, sym (z .0)), sym (z .1))
+        inl (coded-none t s b (coderFault t s b) refl (omega arith), (coderFault t s b, sym (z .0)), sym (z .1))
 
 decode-one : (t : Table) (s : List ℕ) (r : ℕ)
     → One (decodeEntries (decodeAnswer t s r)) (decodeRefused t s r) (decodeMemory t s r) s
@@ -283,7 +284,7 @@ decode-one t s r = go (ℕ-discrete (decoderFault t s r) 0)
         inr (x .0, x .1, λ k. taken (k .0) (k .1))
     go (no e) =
         let z = decode-refuses t s r (decoderFault t s r) refl (omega arith) in
-        inl (ap decodeEntries (sym (z .0)), (decoderFault t s r, sym (z .0)), sym (z .1))
+        inl (decoded-none t s r (decoderFault t s r) refl (omega arith), (decoderFault t s r, sym (z .0)), sym (z .1))
 
 abbrev codeKept : Table → List ℕ → ℕ → List ℕ
 codeKept t s b = codeEntries (codeAnswer t s b)

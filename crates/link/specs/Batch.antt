@@ -78,7 +78,8 @@ pub record FillsPart (b : Batch) (part after : List ℕ) : Type 0 where
   pub entries : part ≡ b .entries
   pub memory : after ≡ b .memory
 
--- What a batch comes to is the first i entries of the output, and then what a batch of the blocks that are left comes to; the output past them is as it was. No promise of a public function is made of it.
+-- What a batch comes to is the first i entries of the output, and then what a batch of the blocks that are left comes
+-- to; the output past them is as it was. No promise of a public function is made of it.
 abbrev pub followed : List ℕ → Batch → Batch
 followed es b = record { entries = es ++ b .entries; memory = b .memory }
 

@@ -40,8 +40,8 @@ codedBy = run codeMemory (λ t s b. codeEntries (codeAnswer t s b))
 abbrev pub decodedBy : List ℕ → List Call → List ℕ
 decodedBy = run decodeMemory (λ t s r. decodeEntries (decodeAnswer t s r))
 
--- Single calls have taken the first k blocks, each of them, and there was room for these; "with a block still to take, the output is full or the next
--- single call would be refused".
+-- Single calls have taken the first k blocks, each of them, and there was room for these; "with a block still to take,
+-- the output is full or the next single call would be refused".
 pub record Ends (filledBy : List ℕ → List ℕ) (refused : List ℕ → ℕ → Type 0) (room : ℕ) (bs : List ℕ) (k : ℕ)
     : Type 0 where
   pub taken : length (filledBy (take k bs)) ≡ k

@@ -1,6 +1,6 @@
 -- The door: all that a user of coder and decoder needs to read, each theorem stated in the file that is named. What the
--- functions promise of one call is `Starts`, `Codes` and `Decodes` (`Start`, `Coder`, `Decoder`), and of a batch `Fills`
--- (`Batch`).
+-- functions promise of one call is `Starts`, `Codes` and `Decodes` (`Start`, `Coder`, `Decoder`), and of a batch
+-- `Fills` (`Batch`).
 --
 --   Link, LINK   the theorems
 use Rattle.link.specs.Calls.{REFUSED-CALLS, TAKEN-CALLS}

@@ -1,10 +1,9 @@
 -- `link::stream::one_at`: a one shifted by less than 64 places stays in the word. Assumes nothing.
 use mathlib.Core.Path.{_∙_}
-use mathlib.Core.Bool.{true}
 use native.Mathlib.Nat.{one-mul}
+use native.Mathlib.Omega.{arith}
 use borrow.Author.Needs.{needs}
-use Rattle.span.specs.Word.{shifted}
-use Rattle.span.proofs.Masks.{bit-shifted}
+use Rattle.span.proofs.Word.{shifted-inside}
 use Rattle.link.proofs.stream.one_at.Statement.{statement}
 use Rattle.link.proofs.stream.one_at.Tie as tie
 
@@ -12,10 +11,11 @@ shift-requires : tie.Need-shift-requires
 shift-requires c κs = search needs
 
 returns : tie.Need-returns
-unfolding shifted
 returns c =
     let here = c .before in
-    c .shift .ensures ∙ bit-shifted true (here .args .place) (here .pre) ∙ one-mul _
+    let place = here .args .place in
+    let room = here .pre in
+    c .shift .ensures ∙ shifted-inside 64 place 1 1 (omega arith) (omega arith) ∙ one-mul _
 
 pub one-at-spec : {M : Type 1} → statement M
 one-at-spec = tie.close (tie.spec shift-requires returns)
