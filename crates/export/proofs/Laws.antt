@@ -11,9 +11,9 @@ use Rattle.tables.specs.declared.table.Table.{Table}
 use Rattle.tables.specs.declared.make.MakeAnswer.{MakeAnswer}
 use Rattle.tables.specs.declared.read.ReadAnswer.{ReadAnswer}
 use Rattle.tables.specs.declared.read.ReadAnswer.the-variants.{Accepted, Refused, Unsuitable}
-use Rattle.tables.specs.Code.{Clashes, Suitable}
+use Rattle.tables.specs.Code.{Suitable}
 use Rattle.tables.specs.Table.{rowsOf, sizesFit, Whole}
-use Rattle.tables.specs.Format.{parse, refused, parsed}
+use Rattle.tables.specs.Format.{refused}
 use Rattle.tables.specs.Reading.{numbers, ReadNumbers}
 use Rattle.tables.specs.Made.{columns, triangleRows, making, madeNumbers}
 use Rattle.tables.proofs.Reading.{refused-range}

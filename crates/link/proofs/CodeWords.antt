@@ -3,11 +3,11 @@
 --   first-words     the array's first n words are the rows
 --   counted-words, sixteen-words   also as a basis and as the tables of a lookup count them
 --   code-below      a fit table's rows have 64 bits at most
-use mathlib.Core.Path.{_≡_, sym, ap, subst, _∙_}
+use mathlib.Core.Path.{_≡_, sym, ap, _∙_}
 use mathlib.Core.List.{List, [], _∷_, _++_}
-use Prim.Native.Nat.{ℕ, suc, _+_, _-_, _≤_, _<_}
+use Prim.Native.Nat.{ℕ, _+_, _-_, _≤_}
 use native.Mathlib.Omega.{arith}
-use lib.ListN.{length, getD, take}
+use lib.ListN.{length, take}
 use lib.Pow.{pow-mono}
 use lib.Seq.{take-take, take-at, take-all}
 use Rattle.span.specs.Combination.{Below, counted}

@@ -23,7 +23,7 @@ use Rattle.span.specs.Word.{_⊕_, odd, sel, digit}
 use Rattle.span.specs.Combination.{combination}
 use Rattle.tables.specs.declared.table.Table.{Table}
 use Rattle.tables.specs.Table.{fit, infoRows}
-use Rattle.tables.specs.Lent.{withRows, lent}
+use Rattle.tables.specs.Lent.{lent}
 use Rattle.link.specs.declared.code.CodeAnswer.{CodeAnswer}
 use Rattle.link.specs.declared.code.CodeAnswer.the-variants.{Coded, Refused}
 use Rattle.link.specs.Coder.{codeAnswer, codeMemory, codeNumbers, Codes, CODED-BELOW, coderJoining, codedBlock}

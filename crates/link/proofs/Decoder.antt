@@ -7,14 +7,14 @@
 --   decoder-length                 the length stays
 --   Verdict, decoder-verdict       what the decoder judges by: raw term, register and the error found
 use mathlib.Core.Path.{_≡_, refl, sym, ap, ap₂, _∙_}
-use mathlib.Core.Bool.{Bool, true, false, cond, not, xor, _||_}
+use mathlib.Core.Bool.{Bool, true, false, cond, not, xor}
 use mathlib.Core.Logic.{_≢_}
 use mathlib.Core.List.{List, [], _∷_, _++_}
 use Prim.Native.Nat.{ℕ, suc, _+_, _-_, _*_, _/_, _%_, _^_, _≤_, _<_}
 use native.Mathlib.Nat.{add-zero, mul-le-mul-right, suc-mul}
 use native.Mathlib.Decide.{decLt}
 use native.Mathlib.Omega.{arith}
-use borrow.Author.Tests.{leb-false, ltb-false, lt-ltb, le-ltb}
+use borrow.Author.Tests.{lt-ltb, le-ltb}
 use lib.Dec.{leb, ltb, eqb}
 use lib.ListN.{length, getD, set, take, drop, length-append, length-set, length-drop, List·getD-append}
 use lib.Seq.{getD-set-same, getD-set-other, length-take-le, getD-append-add, getD-take, getD-drop, getD-at}
@@ -22,14 +22,14 @@ use Rattle.span.specs.declared.eliminate.Least.{Least}
 use Rattle.span.specs.Word.{_⊕_, odd, bit, digit}
 use Rattle.tables.specs.declared.table.Table.{Table}
 use Rattle.tables.specs.Table.{fit, infoRows}
-use Rattle.tables.specs.Lent.{withRows, lent}
+use Rattle.tables.specs.Lent.{lent}
 use Rattle.tables.proofs.Fit.{Fits}
 use Rattle.link.specs.declared.decode.DecodeAnswer.{DecodeAnswer}
 use Rattle.link.specs.declared.decode.DecodeAnswer.the-variants.{Delivery, NothingYet, Refused}
-use Rattle.link.specs.Memory.{joining, nextTurn, turnOf, decoderWords, fillOf, delayOf, pendingOf, syndromeOf}
-use Rattle.link.specs.Memory.{delayedBound, streamAt, fillNext}
+use Rattle.link.specs.Memory.{joining, nextTurn, turnOf, decoderWords, fillOf, delayOf}
+use Rattle.link.specs.Memory.{fillNext}
 use Rattle.link.specs.Step.{rawTerm, found, errorOf, keptOf, markOf}
-use Rattle.link.specs.Refusals.{someAbove, decoderMalformed, decoderFault}
+use Rattle.link.specs.Refusals.{decoderMalformed, decoderFault}
 use Rattle.link.specs.Decoder.{decodeAnswer, decodeMemory, recordNumbers, decodeNumbers, decodeValues, Decodes}
 use Rattle.link.specs.Decoder.{decoderJoining, decoderRegister, decoderFound, partNext, streamReplaced}
 use Rattle.link.specs.Decoder.{decoderNext, delivered, delivery}

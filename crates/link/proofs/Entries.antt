@@ -4,16 +4,16 @@
 --   decoded-none, decoded-one   the decoder's
 --   code-unfit, decode-unfit  with a table or a memory that 12 or 13 refuses, no block has an entry
 use mathlib.Core.Path.{_≡_, sym, ap, _∙_}
-use mathlib.Core.Bool.{Bool, true, false}
+use mathlib.Core.Bool.{true, false}
 use mathlib.Core.List.{List, [], _∷_}
-use Prim.Native.Nat.{ℕ, _^_, _-_, _<_}
+use Prim.Native.Nat.{ℕ, _-_, _<_}
 use native.Mathlib.Omega.{arith}
 use borrow.Author.Tests.{ne-eqb}
 use lib.ListN.{length}
 use Rattle.tables.specs.declared.table.Table.{Table}
 use Rattle.tables.specs.Table.{fit}
 use Rattle.link.specs.Memory.{coderWords, decoderWords}
-use Rattle.link.specs.Refusals.{coderMalformed, decoderMalformed, coderFault, decoderFault}
+use Rattle.link.specs.Refusals.{coderFault, decoderFault}
 use Rattle.link.specs.Coder.{codeAnswer, codedBlock}
 use Rattle.link.specs.Decoder.{decodeAnswer, delivery}
 use Rattle.link.specs.Batch.{codeEntries, decodeEntries}

@@ -1,17 +1,14 @@
 -- The examples T1 to T12, computed. That a small table is suitable is one test over all shifts and blocks. Assumes
 -- nothing.
-use mathlib.Core.Path.{_≡_, refl, sym, ap, _∙_}
-use mathlib.Core.Bool.{Bool, true, xor, not, _&&_}
-use mathlib.Core.List.{List, [], _∷_}
-use Prim.Native.Nat.{ℕ, suc, _-_, _^_}
-use native.Mathlib.Omega.{arith}
-use borrow.Author.Tests.{leb-true, ltb-true, eqb-true, eqb-false, not-true}
-use lib.Dec.{leb, ltb, eqb}
-use lib.ListN.{length, replicate}
+use mathlib.Core.Path.{refl}
+use mathlib.Core.Bool.{xor}
+use mathlib.Core.List.{[], _∷_}
+use Prim.Native.Nat.{_-_}
+use lib.ListN.{replicate}
 use Rattle.span.specs.Word.{_⊕_, odd, bit, shifted}
 use Rattle.span.specs.Combination.{combination}
 use Rattle.span.specs.Relation.{leastFrom, leastCoefficients}
-use Rattle.tables.specs.Code.{image, shiftedImage, Clashes, Suitable}
+use Rattle.tables.specs.Code.{image, shiftedImage}
 use Rattle.tables.specs.Table.{table, sizesFit, rowsFit, fit}
 use Rattle.tables.specs.Refusal.{firstOf}
 use Rattle.tables.specs.Format.{size, word, allGiven, unavailable, fault, place, sized, rowed, after, parseFrom, parse}

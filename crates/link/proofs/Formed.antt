@@ -1,14 +1,14 @@
 -- Well-formed memories stay well-formed: a step writes the words of its stream, each below its bound, and no other.
 -- Assumes nothing.
 use mathlib.Core.Path.{_≡_, refl, sym, ap, _∙_, subst}
-use mathlib.Core.Bool.{Bool, true, false, cond, not, xor, _||_}
+use mathlib.Core.Bool.{Bool, true, false, cond, not, xor}
 use mathlib.Core.Logic.{_≢_, _↔_, _⊎_, inl, inr}
 use mathlib.Core.List.{List, [], _∷_, _++_}
 use Prim.Native.Nat.{ℕ, suc, _+_, _-_, _/_, _%_, _^_, _≤_, _<_, zero-le}
 use native.Mathlib.Nat.{add-zero, add-assoc, mod-lt}
 use native.Mathlib.Decide.{decLt}
 use native.Mathlib.Omega.{arith}
-use borrow.Author.Tests.{eq-eqb, eqb-true, eqb-false, ltb-true, ltb-false, leb-false, lt-leb, le-ltb}
+use borrow.Author.Tests.{eq-eqb, eqb-true, eqb-false, ltb-true}
 use lib.Dec.{leb, ltb, eqb}
 use lib.ListN.{length, getD, set, length-replicate}
 use lib.Seq.{getD-set-same, getD-set-other}
@@ -21,9 +21,9 @@ use Rattle.tables.specs.declared.table.Table.{Table}
 use Rattle.tables.specs.Table.{SameTable, fit, infoRows}
 use Rattle.tables.proofs.Fit.{fit-facts}
 use Rattle.link.specs.Memory.{joining, nextTurn, started, coderWords, turnOf, decoderWords, pendingAt, fillOf}
-use Rattle.link.specs.Memory.{delayOf, streamAt, pendingOf, syndromeOf, delayedOf, delayedBound}
+use Rattle.link.specs.Memory.{delayOf, streamAt}
 use Rattle.link.specs.Step.{found}
-use Rattle.link.specs.Refusals.{stepFault, someAbove, coderMalformed, decoderMalformed, coderFault, decoderFault}
+use Rattle.link.specs.Refusals.{stepFault, coderMalformed, decoderMalformed, coderFault, decoderFault}
 use Rattle.link.specs.Coder.{codedBlock, coderNext, codeAnswer, codeMemory}
 use Rattle.link.specs.Formed.{CoderFormed, DecoderFormed, NeverMalformed, FORMED-EXACTLY, FORMED-STEPS}
 use Rattle.link.specs.Formed.{STARTED-FORMED, FORMED-KEPT, FORMED-THROUGHOUT}

@@ -2,19 +2,19 @@
 --
 --   Going, going-start   where a loop has come to: the blocks taken, the streams seen, and the memory's length
 --   Turn                 a turn: the loop so far, a fit table, and a block that is there
---   turn-malformed, turn-large   the block is refused
---   turn-passed          no refusal applies
+--   turn-declined        the block is refused
+--   turn-taken           no refusal applies
 --   turn-next            its step is taken
 --   come-all             the same of a batch that is known to have come so far
 --   decode-size          a batch has no more entries than room
 --   going-all            no block or no room is left
 use mathlib.Core.Path.{_≡_, refl, sym, ap, subst, _∙_}
-use mathlib.Core.Bool.{Bool, true, false, cond, _&&_}
+use mathlib.Core.Bool.{Bool, true, false, cond, _&&_, _||_}
 use mathlib.Core.List.{List, [], _∷_}
 use Prim.Native.Nat.{ℕ, suc, _+_, _^_, _≤_, _<_, min}
 use native.Mathlib.Decide.{decLt}
 use native.Mathlib.Omega.{arith}
-use borrow.Author.Tests.{lt-ltb, le-ltb}
+use borrow.Author.Tests.{lt-ltb}
 use lib.Dec.{leb, ltb}
 use lib.ListN.{length, getD, set}
 use Rattle.tables.specs.declared.table.Table.{Table}
@@ -24,7 +24,7 @@ use Rattle.link.specs.Memory.{decoderWords}
 use Rattle.link.specs.Refusals.{decoderMalformed, decoderFault}
 use Rattle.link.specs.Decoder.{decodeAnswer, decodeMemory, decoderNext, delivery}
 use Rattle.link.specs.Batch.{batch, decodeEntries, decodeBatch, Fills, Reached}
-use Rattle.link.proofs.Refusals.{step-settled}
+use Rattle.link.proofs.Refusals.{step-settled, or-none}
 use Rattle.link.proofs.Malformed.{decoder-fine}
 use Rattle.link.proofs.Decoder.{decodes, decoder-length}
 use Rattle.link.proofs.Batch.{batch-size}
@@ -69,17 +69,6 @@ module _ (u : Table) (before bs out : List ℕ) where
           reached-refused entries (decodeMemory u) before bs out i s out' (g .reached) left
           (decoded-none u s r k e some)
 
-      -- 14, where a stream is looked at
-      pub turn-malformed : (ltb i (u .depth) && decoderMalformed u s) ≡ true
-          → Fills (decodeBatch u (length out) before bs) out i s out'
-      turn-malformed e =
-          refused 14 (settled true (leb (2 ^ u .symbols) r) (both (ltb i (u .depth)) (decoderMalformed u s) e) refl)
-          (omega arith)
-        where
-          both : (p q : Bool) → (p && q) ≡ true → q ≡ true
-          both true q h = h
-          both false q h = let z : _≡_ {A = ℕ} 0 1 = cc in absurd (omega arith)
-
       -- a stream that is not looked at was seen
       fine : (ltb i (u .depth) && decoderMalformed u s) ≡ false → decoderMalformed u s ≡ false
       fine e = go (decLt i (u .depth))
@@ -90,12 +79,22 @@ module _ (u : Table) (before bs out : List ℕ) where
               let z = fit-facts u f in
               decoder-fine u s (seen-now u s i (z .m-from) (omega arith) (g .seen))
 
-      module _ (e : (ltb i (u .depth) && decoderMalformed u s) ≡ false) where
-        pub turn-large : leb (2 ^ u .symbols) r ≡ true → Fills (decodeBatch u (length out) before bs) out i s out'
-        turn-large h = refused 15 (settled false true (fine e) h) (omega arith)
+      -- both tests as the code has them: `most` is the largest block
+      module _ (most : ℕ) (is : ltb most r ≡ leb (2 ^ u .symbols) r) where
+        pub turn-declined : (ltb i (u .depth) && decoderMalformed u s) || ltb most r ≡ true
+            → Fills (decodeBatch u (length out) before bs) out i s out'
+        turn-declined e = go (ltb i (u .depth)) (decoderMalformed u s) (ltb most r) refl refl refl e
+          where
+            go : (p q l : Bool) → ltb i (u .depth) ≡ p → decoderMalformed u s ≡ q → ltb most r ≡ l
+                → (p && q) || l ≡ true → Fills (decodeBatch u (length out) before bs) out i s out'
+            go p true l h k m z = refused 14 (settled true (leb (2 ^ u .symbols) r) k refl) (omega arith)
+            go true false l h k m z = refused 15 (settled false true k (sym is ∙ m ∙ z)) (omega arith)
+            go false false l h k m z = refused 15 (settled false true k (sym is ∙ m ∙ z)) (omega arith)
 
-        pub turn-passed : leb (2 ^ u .symbols) r ≡ false → decoderFault u s r ≡ 0
-        turn-passed h = settled false false (fine e) h
+        pub turn-taken : (ltb i (u .depth) && decoderMalformed u s) || ltb most r ≡ false → decoderFault u s r ≡ 0
+        turn-taken e =
+            let t = or-none (ltb i (u .depth) && decoderMalformed u s) (ltb most r) e in
+            settled false false (fine (t .0)) (sym is ∙ t .1)
 
       pub turn-next : i < length out → decoderFault u s r ≡ 0 → (after : List ℕ) → after ≡ decoderNext u s r
           → (e : ℕ) → e ∷ [] ≡ decodeEntries (delivery u s r) → Going (i + 1) after (set out' i e)

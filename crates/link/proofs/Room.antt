@@ -5,22 +5,16 @@
 --   turn-room    the turn's part lies inside
 --   terms-room, keep-room   what the functions of a step ask for
 --   oldest-lt    the oldest delayed block is below its bound
-use mathlib.Core.Path.{_≡_, refl, sym, subst}
-use mathlib.Core.Bool.{false}
+use mathlib.Core.Path.{_≡_}
 use mathlib.Core.List.{List}
-use Prim.Native.Nat.{ℕ, zero, suc, _+_, _-_, _^_, _≤_, _<_}
+use Prim.Native.Nat.{ℕ, _+_, _-_, _^_, _≤_, _<_}
 use native.Mathlib.Nat.{mul-le-mul-right, suc-mul}
-use native.Mathlib.Decide.{ℕ-discrete}
 use native.Mathlib.Omega.{arith}
-use borrow.Author.Tests.{leb-false, lt-leb}
-use lib.Dec.{leb}
-use lib.ListN.{length, getD}
+use lib.ListN.{length}
 use lib.Pow.{pow-mono}
 use Rattle.tables.specs.declared.table.Table.{Table}
 use Rattle.link.specs.Memory.{turnOf, decoderWords, delayOf, streamAt, syndromeOf, delayedOf, delayedBound}
-use Rattle.link.specs.Refusals.{someAbove}
 use Rattle.link.proofs.Decoder.{DecoderTaken}
-use Rattle.link.proofs.Refusals.{or-none, none-or}
 
 pub fit-room : (t : Table) → t .span ≤ 64 → t .depth ≤ 64 → (decoderWords t ≤ 4162) × (delayOf t ≤ 4096)
 fit-room t N-to m-to =

@@ -5,7 +5,7 @@
 --   Seen, seen-start     none is seen before the first block
 --   seen-now             after m blocks the turn's stream is
 --   seen-next            from one block to the next
-use mathlib.Core.Path.{_≡_, refl, subst, sym}
+use mathlib.Core.Path.{_≡_, subst}
 use mathlib.Core.Logic.{_≢_, _⊎_, inl, inr}
 use mathlib.Core.List.{List}
 use Prim.Native.Nat.{ℕ, suc, _+_, _≤_, _<_}

@@ -5,19 +5,18 @@
 --   found-is      what is found there
 --   memory-is     the memory after the step
 --   info-is, mark-is   information and mark of the record
-use mathlib.Core.Path.{_≡_, sym, ap, ap₂, _∙_}
+use mathlib.Core.Path.{_≡_, ap, ap₂, _∙_}
 use mathlib.Core.Bool.{Bool}
-use mathlib.Core.List.{List, [], _∷_, _++_}
-use Prim.Native.Nat.{ℕ, _+_, _-_, _*_, _/_, _^_, _≤_}
-use lib.ListN.{length, set, take, drop}
+use mathlib.Core.List.{List}
+use Prim.Native.Nat.{ℕ, _+_, _-_, _/_, _^_, _≤_}
+use lib.ListN.{length}
 use lib.Seq.{length-take-le}
 use Rattle.span.specs.declared.eliminate.Least.{Least}
-use Rattle.span.specs.Word.{_⊕_, odd, sel, digit}
+use Rattle.span.specs.Word.{_⊕_, odd, sel}
 use Rattle.span.specs.Combination.{combination}
 use Rattle.tables.specs.declared.table.Table.{Table}
 use Rattle.tables.specs.Table.{rowsOf, infoRows}
-use Rattle.link.specs.declared.decode.Mark.{Mark}
-use Rattle.link.specs.Memory.{turnOf, pendingOf, syndromeOf, delayedOf, fillNext, fillOf, nextTurn, streamAt}
+use Rattle.link.specs.Memory.{turnOf, pendingOf, syndromeOf, delayedOf}
 use Rattle.link.specs.Step.{information, rawTerm, found, errorOf, keptOf, markOf}
 use Rattle.link.specs.Decoder.{decoderJoining, decoderRegister, decoderFound, partNext, decoderNext, delivered}
 use Rattle.link.specs.Decoder.{advanced}

@@ -21,7 +21,7 @@ use span::lookup::lookup_of;
 use tables::table::Table;
 use tables::table::lent_fits;
 ghost use mathlib.Core.Path.{_≡_};
-ghost use mathlib.Core.Bool.{true, cond, _&&_};
+ghost use mathlib.Core.Bool.{true, cond, _&&_, _||_};
 ghost use mathlib.Core.List.{[]};
 ghost use Prim.Native.Nat.{_-_, _/_, _^_, _≤_, _<_};
 ghost use lib.Dec.{ltb};
@@ -46,6 +46,27 @@ fn first_malformed(n: usize, span: usize, depth: usize, i: usize, state: &[u64])
         return malformed(n, span, depth, state);
     }
     false
+}
+
+// Whether 14 or 15 applies to block i, so that a batch ends before it: `most` is the largest block.
+fn declines(
+    n: usize,
+    span: usize,
+    depth: usize,
+    i: usize,
+    most: u64,
+    state: &[u64],
+    received: u64,
+) -> bool
+    requires { ⌜ (2 ≤ n) × (n ≤ 16) × (2 ≤ span) × (span ≤ 64) × (1 ≤ depth) × (depth ≤ 64)
+        × (length (now state) ≡ decoderWords (table n span depth [])) ⌝ }
+    ensures { λ r.
+        ⌜ r ≡ (ltb i depth && decoderMalformed (table n span depth []) (now (state .entry))) || ltb most received ⌝ }
+{
+    if first_malformed(n, span, depth, i, state) {
+        return true;
+    }
+    most < received
 }
 
 // The entry of a record: the mark's number above the information.
@@ -111,10 +132,7 @@ fn fill_judged(t: Table, rows: &[u64], state: &mut [u64], blocks: &[u16], out: &
     let mut i = 0;
     while i < end {
         let received = blocks[i] as u64;
-        if first_malformed(t.symbols, t.span, t.depth, i, state) {
-            return i;
-        }
-        if most < received {
+        if declines(t.symbols, t.span, t.depth, i, most, state, received) {
             return i;
         }
         let x = terms(state, t.span, top, look_up(&tables, received));
@@ -158,10 +176,7 @@ fn fill_clean(t: Table, rows: &[u64], state: &mut [u64], blocks: &[u16], out: &m
     let mut i = 0;
     while i < end {
         let received = blocks[i] as u64;
-        if first_malformed(t.symbols, t.span, t.depth, i, state) {
-            return i;
-        }
-        if most < received {
+        if declines(t.symbols, t.span, t.depth, i, most, state, received) {
             return i;
         }
         let x = terms(state, t.span, top, look_up(&tables, received));

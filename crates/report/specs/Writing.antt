@@ -8,7 +8,7 @@
 --   putEnd out at bs        the position after it: where there is no room, it stays
 --   Longest, LONGEST        no line is longer
 use mathlib.Core.Path.{_≡_}
-use mathlib.Core.Bool.{Bool, true, false, cond}
+use mathlib.Core.Bool.{Bool, cond}
 use mathlib.Core.List.{List, _++_}
 use Prim.Native.Nat.{ℕ, _+_, _^_, _≤_, _<_}
 use lib.Dec.{leb}

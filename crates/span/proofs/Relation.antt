@@ -1,7 +1,7 @@
 -- What the search finds is the least there is, and the least is one. Assumes nothing.
 use mathlib.Core.Path.{_≡_, refl, sym, ap, _∙_, subst}
 use mathlib.Core.Bool.{Bool, true, false, cond, false≢true}
-use mathlib.Core.Logic.{_↔_, _⊎_, inl, inr}
+use mathlib.Core.Logic.{_⊎_, inl, inr}
 use mathlib.Core.List.{List, [], _∷_, _++_}
 use Prim.Native.Nat.{ℕ, zero, suc, _+_, _-_, _^_, _≤_, _<_, zero-le}
 use native.Mathlib.Nat.{le-refl, le-trans, le-of-lt, le-of-suc-le-suc, lt-of-lt-of-le, lt-of-not-le, le-antisymm}
@@ -18,7 +18,7 @@ use lib.Seq.{take-suc, length-take-le}
 use Rattle.span.specs.declared.eliminate.Least.{Least}
 use Rattle.span.specs.declared.eliminate.Least.the-variants.{Found, Missing}
 use Rattle.span.specs.Word.{_⊕_}
-use Rattle.span.specs.Combination.{combination, Member, Relation, Independent}
+use Rattle.span.specs.Combination.{combination, Member, Relation}
 use Rattle.span.specs.Relation.{leastFrom, leastRelation, leastCoefficients, raised, IsLeast}
 use Rattle.span.specs.Laws.{LEAST-RELATION, LEAST-COEFFICIENTS, LEAST-UNIQUE, LEAST-RAISED, MEMBERSHIP}
 use Rattle.span.specs.Laws.{INDEPENDENCE}

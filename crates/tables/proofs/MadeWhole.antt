@@ -3,13 +3,13 @@
 --   making-room   every table that making returns holds 15 rows
 --   made-whole    a made table is fit, and its other rows are 0
 use mathlib.Core.Path.{_≡_, refl, ap, _∙_}
-use mathlib.Core.Bool.{Bool, true, false, cond}
+use mathlib.Core.Bool.{Bool, true, false}
 use mathlib.Core.List.{_++_}
 use Prim.Native.Nat.{ℕ, suc, _+_, _-_, _≤_}
 use native.Mathlib.Omega.{arith}
 use lib.ListN.{length, getD, replicate, length-append, length-replicate}
 use lib.Seq.{getD-append-add}
-use Rattle.tables.specs.Table.{zeroTable, sizesFit}
+use Rattle.tables.specs.Table.{sizesFit}
 use Rattle.tables.proofs.Fit.{sizes-of, zeros-at}
 use Rattle.tables.specs.Made.{madeRows, madeTable, columns, making}
 use Rattle.tables.specs.Triangle.{MADE-WHOLE}

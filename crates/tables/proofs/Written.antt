@@ -10,7 +10,7 @@ use native.Mathlib.Omega.{arith}
 use borrow.Author.Tests.{ltb-true, ltb-false, eq-eqb, ne-eqb, lt-ltb, le-ltb, le-leb, lt-leb}
 use lib.Dec.{leb, ltb, eqb}
 use lib.ListN.{length, getD, take, drop, length-take}
-use lib.Pow.{pow-pos, pow-mono}
+use lib.Pow.{pow-mono}
 use lib.Seq.{getD-take, drop-cons, getD-drop, getD-set-same, getD-set-other, ext-getD}
 use Rattle.tables.specs.declared.table.Table.{Table}
 use Rattle.tables.specs.declared.read.Progress.{Progress}
@@ -18,7 +18,7 @@ use Rattle.tables.specs.Table.{table, sizesFit, rowsFit, fit, Whole}
 use Rattle.tables.specs.Format.{kind, size, word, rowWord, allGiven, unavailable, fault, sized, rowed, begun}
 use Rattle.tables.specs.Format.{after, parsed, parseFrom, parse}
 use Rattle.tables.specs.Written.{bytesOf, sizesRecord, rowRecords, times, Written, PARSES-EXACTLY}
-use Rattle.tables.proofs.Fit.{and-left, and-right, sizes-of, fit-facts}
+use Rattle.tables.proofs.Fit.{and-left, sizes-of, fit-facts}
 use Rattle.tables.proofs.Format.{Sound, sizes, row, end, fault-sound, available, given-none, parse-next}
 use Rattle.tables.proofs.Format.{parse-done, fault-row, fault-end, fault-sizes, size-sizes, size-row}
 use Rattle.tables.proofs.Progress.{Good, Step, done, on, never, never-refused, same-or-other, good-bounds}

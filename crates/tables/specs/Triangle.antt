@@ -11,16 +11,16 @@
 --   UNIQUE        a triangle all of whose sizes are suitable is ours
 --   another, NOT-UNIQUE   a triangle that is not ours whose size 5 is suitable: `UNIQUE` needs the smaller sizes
 use mathlib.Core.Path.{_≡_}
-use mathlib.Core.Bool.{true, false}
+use mathlib.Core.Bool.{true}
 use mathlib.Core.Logic.{_≢_, _↔_}
 use mathlib.Core.List.{List, [], _∷_, _++_}
 use Prim.Native.Nat.{ℕ, suc, _+_, _-_, _*_, _^_, _≤_, _<_}
 use lib.ListN.{length, getD, take}
 use Rattle.span.specs.Word.{bit, digit}
 use Rattle.tables.specs.Code.{Suitable}
-use Rattle.tables.specs.Table.{table, zeroTable, rowsOf, sizesFit, fit, Whole}
+use Rattle.tables.specs.Table.{table, rowsOf, fit, Whole}
 use Rattle.tables.specs.declared.make.MakeAnswer.the-variants.{Made}
-use Rattle.tables.specs.Made.{columns, madeRow, triangleRows, Triangle, making, madeNumbers}
+use Rattle.tables.specs.Made.{columns, madeRow, triangleRows, Triangle, making}
 
 -- In `NESTED-ROWS` and `FILLING` the smaller table has n = suc (length cs) symbols, and the new column a is column
 -- n + 1.

@@ -5,7 +5,7 @@ use Prim.Native.Nat.{_-_, _^_}
 use native.Mathlib.Omega.{arith}
 use borrow.Author.Needs.{needs}
 use borrow.Author.Tests.{lt-ltb, le-ltb, not-true, not-false}
-use lib.Dec.{leb, ltb}
+use lib.Dec.{ltb}
 use Rattle.span.proofs.Masks.{above-mask}
 use Rattle.tables.specs.Table.{fit}
 use Rattle.tables.specs.Lent.{lent}

@@ -2,13 +2,13 @@
 use mathlib.Core.Path.{_≡_, sym, ap, subst, _∙_}
 use mathlib.Core.Bool.{true}
 use mathlib.Core.List.{List, []}
-use Prim.Native.Nat.{ℕ, _+_}
+use Prim.Native.Nat.{ℕ}
 use native.Mathlib.Omega.{arith}
 use borrow.Author.Needs.{needs}
 use borrow.Author.Tests.{not-true, not-false}
 use lib.ListN.{length}
 use Rattle.tables.specs.declared.table.Table.{Table}
-use Rattle.tables.specs.Lent.{withRows, lent}
+use Rattle.tables.specs.Lent.{lent}
 use Rattle.tables.specs.Table.{fit}
 use Rattle.tables.proofs.Lent.{fit-lent, lent-facts, fit-fifteen}
 use Rattle.link.specs.Memory.{coderWords}

@@ -1,5 +1,5 @@
 -- `link::decode::decode_lent`: a refusal, or a step that is taken, which has fifteen rows. Assumes nothing.
-use mathlib.Core.Path.{_≡_, sym, ap, _∙_}
+use mathlib.Core.Path.{sym, ap, _∙_}
 use native.Mathlib.Omega.{arith}
 use borrow.Author.Needs.{needs}
 use Rattle.tables.specs.declared.table.Table.{Table}

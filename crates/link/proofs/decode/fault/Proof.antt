@@ -5,11 +5,11 @@ use Prim.Native.Nat.{_-_, _^_}
 use native.Mathlib.Omega.{arith}
 use borrow.Author.Needs.{needs}
 use borrow.Author.Tests.{lt-ltb, le-ltb, not-true, not-false}
-use lib.Dec.{leb, ltb}
+use lib.Dec.{ltb}
 use Rattle.span.proofs.Masks.{above-mask}
 use Rattle.tables.specs.Table.{fit}
 use Rattle.tables.specs.Lent.{withRows, lent}
-use Rattle.tables.proofs.Lent.{fit-lent, LentFits, lent-facts}
+use Rattle.tables.proofs.Lent.{LentFits, lent-facts}
 use Rattle.link.specs.Memory.{decoderWords}
 use Rattle.link.specs.Refusals.{decoderMalformed, decoderFault}
 use Rattle.link.proofs.Refusals.{number-12, number-13, number-14, number-15}

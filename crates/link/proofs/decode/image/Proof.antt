@@ -1,14 +1,14 @@
 -- `link::decode::image`: the parity symbol is the one bit above the information, and its row is 1. Assumes nothing.
-use mathlib.Core.Path.{_≡_, sym, ap, ap₂, subst, _∙_}
+use mathlib.Core.Path.{_≡_, sym, ap, subst, _∙_}
 use mathlib.Core.List.{List, [], _∷_, _++_}
-use Prim.Native.Nat.{ℕ, suc, _+_, _-_, _/_, _%_, _^_, _≤_, _<_}
+use Prim.Native.Nat.{ℕ, suc, _+_, _-_, _/_, _^_, _≤_, _<_}
 use native.Mathlib.Nat.{mod-eq-of-lt}
 use native.Mathlib.Omega.{arith}
 use borrow.Author.Needs.{needs}
 use lib.Pow.{shr-lt}
 use lib.ListN.{length, take}
 use lib.Seq.{length-take-le}
-use Rattle.span.specs.Word.{_⊕_, odd, sel, digit, bit}
+use Rattle.span.specs.Word.{_⊕_, sel, digit, bit}
 use Rattle.span.specs.Combination.{combination}
 use Rattle.span.proofs.Word.{xor-code, bit-odd, odd-mod}
 use Rattle.span.proofs.Combination.{combination-last}

@@ -1,15 +1,15 @@
 -- `link::decode::keep`: the turn's part as it comes back; around it nothing changes but fill and turn. Assumes nothing.
 use mathlib.Core.Path.{_≡_, sym, ap, ap₂, _∙_}
 use mathlib.Core.List.{List, [], _∷_, _++_}
-use Prim.Native.Nat.{ℕ, _+_, _-_, _/_, _≤_, _<_}
+use Prim.Native.Nat.{ℕ, _+_, _-_, _/_, _≤_}
 use native.Mathlib.Nat.{add-zero}
 use native.Mathlib.Omega.{arith}
 use borrow.Author.Needs.{needs}
-use borrow.Rule.Slice.PartMut.{midOf, putMid, mid-len}
+use borrow.Rule.Slice.PartMut.{midOf, putMid}
 use lib.ListN.{length, getD, set, take, drop, length-set}
 use Rattle.tables.specs.declared.table.Table.{Table}
 use Rattle.tables.specs.Table.{table}
-use Rattle.link.specs.Memory.{turnOf, streamAt, delayedOf, decoderWords, delayOf, fillOf, fillNext, nextTurn}
+use Rattle.link.specs.Memory.{turnOf, streamAt, delayedOf, delayOf, fillOf, fillNext, nextTurn}
 use Rattle.link.specs.Decoder.{advanced}
 use Rattle.link.proofs.Parts.{mid-word, mid-drop, put-part}
 use Rattle.link.proofs.Room.{fit-room, turn-room}

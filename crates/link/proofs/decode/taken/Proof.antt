@@ -1,15 +1,14 @@
 -- `link::decode::taken`: the four lines in the words of the turn's stream (`StepWords`). Assumes nothing.
 use mathlib.Core.Path.{_≡_, sym, ap, ap₂, subst, _∙_}
-use Prim.Native.Nat.{ℕ, _+_, _-_, _/_, _^_, _≤_, _<_}
+use Prim.Native.Nat.{ℕ, _-_, _/_, _^_, _≤_, _<_}
 use native.Mathlib.Omega.{arith}
 use borrow.Author.Needs.{needs}
 use borrow.Author.Tests.{lt-ltb, le-ltb}
 use lib.Bits.{bitXor}
 use lib.Dec.{ltb}
-use lib.ListN.{length, getD}
-use lib.Pow.{pow-mono}
+use lib.ListN.{length}
 use Rattle.span.specs.declared.eliminate.Least.{Least}
-use Rattle.span.specs.Word.{_⊕_, odd, sel}
+use Rattle.span.specs.Word.{_⊕_}
 use Rattle.span.specs.Combination.{combination}
 use Rattle.span.proofs.Word.{xor-code}
 use Rattle.tables.specs.declared.table.Table.{Table}
@@ -19,7 +18,7 @@ use Rattle.tables.proofs.Fit.{code-length}
 use Rattle.link.specs.declared.decode.Mark.{Mark}
 use Rattle.link.specs.declared.decode.DecodeAnswer.the-variants.{Delivery, NothingYet}
 use Rattle.link.specs.Memory.{turnOf, fillOf, delayOf, pendingOf, syndromeOf}
-use Rattle.link.specs.Step.{information, found, errorOf, keptOf, markOf}
+use Rattle.link.specs.Step.{information, errorOf}
 use Rattle.link.specs.Decoder.{advanced, decoderRegister, decoderNext, delivered, delivery}
 use Rattle.link.proofs.Refusals.{picked, passed}
 use Rattle.link.proofs.Decoder.{DecoderTaken, decoder-taken}

@@ -1,7 +1,5 @@
 -- `link::decode_batch::decode_batch`: the first of the output, as many as were counted. Assumes nothing.
 use mathlib.Core.Path.{_≡_, subst}
-use mathlib.Core.List.{List}
-use Prim.Native.Nat.{ℕ}
 use borrow.Author.Needs.{needs}
 use lib.ListN.{length, take}
 use Rattle.tables.specs.declared.table.Table.{Table}

@@ -1,18 +1,15 @@
 -- `link::decode_batch::fill_clean`: block by block (`Going`), as long as the register is 0. Assumes nothing.
-use mathlib.Core.Path.{_≡_, refl, sym, ap, ap₂, subst, _∙_}
-use mathlib.Core.Bool.{Bool, true, false, cond}
+use mathlib.Core.Path.{_≡_, sym, ap, subst, _∙_}
 use mathlib.Core.List.{List, [], _∷_}
-use Prim.Native.Nat.{ℕ, _+_, _-_, _*_, _/_, _^_, _≤_, _<_}
+use Prim.Native.Nat.{ℕ, _-_, _*_, _/_, _^_, _≤_, _<_}
 use native.Mathlib.Omega.{arith}
 use borrow.Author.Needs.{needs, scaled-fits}
-use borrow.Author.Tests.{lt-ltb, le-ltb}
 use lib.Dec.{leb, ltb}
-use lib.ListN.{length, getD, set, take}
+use lib.ListN.{length, getD}
 use Rattle.tables.specs.declared.table.Table.{Table}
 use Rattle.tables.specs.Lent.{withRows}
-use Rattle.link.proofs.Going.{Going, going-start, turn-passed, turn-next}
+use Rattle.link.proofs.Going.{Going, going-start, turn-taken, turn-next}
 use Rattle.link.proofs.Entry.{entry-is}
-use lib.Pow.{pow-mono}
 use Rattle.span.specs.declared.eliminate.Least.the-variants.{Found}
 use Rattle.span.specs.Word.{_⊕_}
 use Rattle.span.specs.Combination.{combination}
@@ -24,7 +21,7 @@ use Rattle.tables.proofs.Fit.{Fits, fit-facts, code-length}
 use Rattle.link.specs.Memory.{turnOf, pendingOf, syndromeOf, delayedOf}
 use Rattle.link.specs.Batch.{decodeEntries, decodeBatch, Reached}
 use Rattle.link.specs.Refusals.{decoderFault}
-use Rattle.link.specs.Step.{information, found, errorOf}
+use Rattle.link.specs.Step.{information, found}
 use Rattle.link.specs.Decoder.{decoderRegister, decoderNext, delivery, advanced}
 use Rattle.link.proofs.Decoder.{DecoderTaken, decoder-taken}
 use Rattle.link.proofs.Error.{zero-found}
@@ -104,8 +101,8 @@ cast-received : tie.Need-cast-received Inv-loop μ-loop
 cast-received c =
     record { fits = omega (arith, c .shared-slice-known3 .given (c .before .before .loop .i)) }
 
-first-malformed-requires : tie.Need-first-malformed-requires Inv-loop μ-loop
-first-malformed-requires c κs =
+declines-requires : tie.Need-declines-requires Inv-loop μ-loop
+declines-requires c κs =
     let l = c .before .before .before in
     let z = facts (entry l) in
     (z .n-from, z .n-to, z .N-from, z .N-to, z .m-from, z .m-to, l .loop .inv .size ∙ entry l .pre .2)
@@ -144,34 +141,23 @@ same-length-2 c = search needs
 returns : tie.Need-returns Inv-loop μ-loop
 returns c = come (c .before .before .before .before .before)
 
-same-length-3 : tie.Need-same-length-3 Inv-loop μ-loop
-same-length-3 c = search needs
-
-same-length-4 : tie.Need-same-length-4 Inv-loop μ-loop
-same-length-4 c = search needs
-
-returns-2 : tie.Need-returns-2 Inv-loop μ-loop
-returns-2 c = come (c .before .before .before .before .before .before)
-
 -- no refusal applies
-none : (c : tie.Else2 Inv-loop μ-loop)
-    → let l = c .before .before .before .before .before .before in
+none : (c : tie.Else1 Inv-loop μ-loop)
+    → let l = c .before .before .before .before .before in
     decoderFault (whole (entry l)) (l .loop .state) (block l) ≡ 0
 none c =
-    let l = c .before .before .before .before .before .before in
+    let l = c .before .before .before .before .before in
     let start = entry l in
     let a = start .args in
-    turn-passed (whole start) (a .state .now) (a .blocks .now) (a .out .now) (l .loop .i) (l .loop .state)
-    (l .loop .out) (l .loop .inv) (start .pre .0) (start .pre .2) (inside
-    (c .before .before .before .before .before) .0)
-    (sym (c .before .before .first-malformed .ensures) ∙ c .before .if1 .left)
-    (sym (tested l) ∙ le-ltb _ _ (c .if2 .left))
+    turn-taken (whole start) (a .state .now) (a .blocks .now) (a .out .now) (l .loop .i) (l .loop .state)
+    (l .loop .out) (l .loop .inv) (start .pre .0) (start .pre .2) (inside (c .before .before .before .before) .0)
+    (l .before .before .before .before .mask .result) (tested l) (sym (c .before .declines .ensures) ∙ c .if1 .left)
 
-tests : (c : tie.Else2 Inv-loop μ-loop)
-    → let l = c .before .before .before .before .before .before in
+tests : (c : tie.Else1 Inv-loop μ-loop)
+    → let l = c .before .before .before .before .before in
     DecoderTaken (whole (entry l)) (l .loop .state) (block l)
 tests c =
-    let l = c .before .before .before .before .before .before in
+    let l = c .before .before .before .before .before in
     decoder-taken (whole (entry l)) (l .loop .state) (block l) (none c)
 
 look-up-requires : tie.Need-look-up-requires Inv-loop μ-loop
@@ -179,7 +165,7 @@ look-up-requires c κs = search needs
 
 terms-requires : tie.Need-terms-requires Inv-loop μ-loop
 terms-requires c κs =
-    let l = c .before .before .before .before .before .before .before .before .before in
+    let l = c .before .before .before .before .before .before .before .before in
     let s = l .loop .state in
     let u = whole (entry l) in
     let r = terms-room u s (block l) (tests (c .before .before .before)) in
@@ -193,7 +179,7 @@ terms-requires c κs =
 
 -- the turn from its words, and the words
 abbrev turn : tie.After-terms Inv-loop μ-loop → tie.At-loop Inv-loop μ-loop
-turn c = c .before .before .before .before .before .before .before .before .before .before
+turn c = c .before .before .before .before .before .before .before .before .before
 
 -- the tables are those of the rows
 looked : (c : tie.At-loop Inv-loop μ-loop) → Lookup (rowsOf (whole (entry c)))
@@ -229,14 +215,14 @@ registered c =
     (c .terms .result .register) (l .before .before .one-at .result) (c .terms .ensures .1)
     (l .before .before .one-at .ensures)
 
-same-length-5 : tie.Need-same-length-5 Inv-loop μ-loop
-same-length-5 c = search needs
+same-length-3 : tie.Need-same-length-3 Inv-loop μ-loop
+same-length-3 c = search needs
 
-same-length-6 : tie.Need-same-length-6 Inv-loop μ-loop
-same-length-6 c = search needs
+same-length-4 : tie.Need-same-length-4 Inv-loop μ-loop
+same-length-4 c = search needs
 
-returns-3 : tie.Need-returns-3 Inv-loop μ-loop
-returns-3 c = come (c .before .before .before .before .before .before .before .before .before .before .before .before)
+returns-2 : tie.Need-returns-2 Inv-loop μ-loop
+returns-2 c = come (c .before .before .before .before .before .before .before .before .before .before .before)
 
 judged-requires : tie.Need-judged-requires Inv-loop μ-loop
 judged-requires c κs = search needs
@@ -250,13 +236,20 @@ take-block-requires c κs =
     let n = k .sizes .n-from in
     (r .0, r .1, r .2, r .3, omega arith, k .sizes .n-to, r .4, oldest-lt (whole (entry l)) s (block l) k)
 
+-- points that the end of a turn looks back to
+abbrev words : tie.After-slice-known3 Inv-loop μ-loop → tie.After-terms Inv-loop μ-loop
+words c = c .before .before .before .before .before .before .before
+
+abbrev looped : tie.After-slice-known3 Inv-loop μ-loop → tie.In-loop Inv-loop μ-loop
+looped c = words c .before .before .before .before .before .before .before .before
+
+abbrev passed : tie.After-slice-known3 Inv-loop μ-loop → tie.Else1 Inv-loop μ-loop
+passed c = words c .before .before .before .before
+
 mul-out : tie.Need-mul-out Inv-loop μ-loop
 mul-out c =
-    let l = c .before .before .before .before .before .before .before .before .before .before .before .before .before
-    .before .before .before .before in
-    scaled-fits (l .loop .i) (length (entry l .args .out .now)) 4 (inside
-    (c .before .before .before .before .before .before .before .before .before .before .before .before .before .before
-    .before .before) .1) (taken-bytes (entry l))
+    let l = turn (words c) in
+    scaled-fits (l .loop .i) (length (entry l .args .out .now)) 4 (inside (looped c) .1) (taken-bytes (entry l))
 
 slice-write-out : tie.Need-slice-write-out Inv-loop μ-loop
 slice-write-out c = search needs
@@ -267,16 +260,12 @@ add-i c = search needs
 loop-less : tie.Need-loop-less Inv-loop μ-loop
 loop-less c = search needs
 
--- points that the end of a turn looks back to
-abbrev words : tie.After-slice-known3 Inv-loop μ-loop → tie.After-terms Inv-loop μ-loop
-words c = c .before .before .before .before .before .before .before
-
 -- the register 0 is the image of 0
 explained : (c : tie.After-slice-known3 Inv-loop μ-loop)
     → Found 0 ≡ found (rowsOf (whole (entry (turn (words c))))) (words c .terms .result .register)
 explained c =
     let R = rowsOf (whole (entry (turn (words c)))) in
-    sym (ap (found R) (c .before .before .before .before .before .if3 .left) ∙ zero-found R)
+    sym (ap (found R) (c .before .before .before .before .before .if2 .left) ∙ zero-found R)
 
 memory-next : (c : tie.After-slice-known3 Inv-loop μ-loop)
     → let l = turn (words c) in
@@ -318,28 +307,26 @@ loop-again c =
     let l = turn (words c) in
     let start = entry l in
     let a = start .args in
-    let i = inside (c .before .before .before .before .before .before .before .before .before .before .before .before
-    .before .before .before .before) in
+    let i = inside (looped c) in
     turn-next (whole start) (a .state .now) (a .blocks .now) (a .out .now) (l .loop .i) (l .loop .state) (l .loop .out)
-    (l .loop .inv) (start .pre .0) (start .pre .2) (i .0) (i .1) (none
-    (c .before .before .before .before .before .before .before .before .before .before .before))
+    (l .loop .inv) (start .pre .0) (start .pre .2) (i .0) (i .1) (none (passed c))
     (c .before .before .take-block .last .0)
     (memory-next c) (c .before .before .take-block .result) (entry-next c)
 
-same-length-7 : tie.Need-same-length-7 Inv-loop μ-loop
-same-length-7 c = search needs
+same-length-5 : tie.Need-same-length-5 Inv-loop μ-loop
+same-length-5 c = search needs
 
-same-length-8 : tie.Need-same-length-8 Inv-loop μ-loop
-same-length-8 c = search needs
+same-length-6 : tie.Need-same-length-6 Inv-loop μ-loop
+same-length-6 c = search needs
 
-returns-4 : tie.Need-returns-4 Inv-loop μ-loop
-returns-4 c = come (c .before)
+returns-3 : tie.Need-returns-3 Inv-loop μ-loop
+returns-3 c = come (c .before)
 
 pub fill-clean-spec : {M : Type 1} → statement M
 fill-clean-spec =
     tie.close
     (tie.spec Inv-loop μ-loop error-words-requires slice-aggregate-lookup-of lookup-of-requires mask-requires sub-one-at
-    one-at-requires min-requires loop-holds mul-received shared-slice-read-received cast-received
-    first-malformed-requires same-length same-length-2 returns same-length-3 same-length-4 returns-2 look-up-requires
-    terms-requires same-length-5 same-length-6 returns-3 judged-requires take-block-requires mul-out slice-write-out
-    add-i loop-less loop-again same-length-7 same-length-8 returns-4)
+    one-at-requires min-requires loop-holds mul-received shared-slice-read-received cast-received declines-requires
+    same-length same-length-2 returns look-up-requires terms-requires same-length-3 same-length-4 returns-2
+    judged-requires take-block-requires mul-out slice-write-out add-i loop-less loop-again same-length-5 same-length-6
+    returns-3)

@@ -1,18 +1,15 @@
 -- `link::decode_batch::fill_judged`: block by block (`Going`), in the words of a step (`StepWords`). Assumes nothing.
-use mathlib.Core.Path.{_≡_, refl, sym, ap, ap₂, subst, _∙_}
-use mathlib.Core.Bool.{Bool, true, false, cond}
+use mathlib.Core.Path.{_≡_, sym, ap, subst, _∙_}
 use mathlib.Core.List.{List, [], _∷_}
-use Prim.Native.Nat.{ℕ, _+_, _-_, _*_, _/_, _^_, _≤_, _<_}
+use Prim.Native.Nat.{ℕ, _-_, _*_, _/_, _^_, _≤_, _<_}
 use native.Mathlib.Omega.{arith}
 use borrow.Author.Needs.{needs, scaled-fits}
-use borrow.Author.Tests.{lt-ltb, le-ltb}
 use lib.Dec.{leb, ltb}
-use lib.ListN.{length, getD, set, take}
+use lib.ListN.{length, getD}
 use Rattle.tables.specs.declared.table.Table.{Table}
 use Rattle.tables.specs.Lent.{withRows}
-use Rattle.link.proofs.Going.{Going, going-start, going-all, turn-malformed, turn-large, turn-passed, turn-next}
+use Rattle.link.proofs.Going.{Going, going-start, going-all, turn-declined, turn-taken, turn-next}
 use Rattle.link.proofs.Entry.{entry-is}
-use lib.Pow.{pow-mono}
 use Rattle.span.specs.declared.eliminate.Least.{Least}
 use Rattle.span.specs.Word.{_⊕_}
 use Rattle.span.specs.Combination.{combination, Below, counted}
@@ -127,8 +124,8 @@ cast-received : tie.Need-cast-received Inv-loop μ-loop
 cast-received c =
     record { fits = omega (arith, c .shared-slice-known3 .given (c .before .before .loop .i)) }
 
-first-malformed-requires : tie.Need-first-malformed-requires Inv-loop μ-loop
-first-malformed-requires c κs =
+declines-requires : tie.Need-declines-requires Inv-loop μ-loop
+declines-requires c κs =
     let l = c .before .before .before in
     let z = facts (entry l) in
     (z .n-from, z .n-to, z .N-from, z .N-to, z .m-from, z .m-to, l .loop .inv .size ∙ entry l .pre .2)
@@ -154,46 +151,27 @@ returns c =
     let l = c .before .before .before .before .before in
     let start = entry l in
     let a = start .args in
-    turn-malformed (whole start) (a .state .now) (a .blocks .now) (a .out .now) (l .loop .i) (l .loop .state)
+    turn-declined (whole start) (a .state .now) (a .blocks .now) (a .out .now) (l .loop .i) (l .loop .state)
     (l .loop .out) (l .loop .inv) (start .pre .0) (start .pre .2) (inside (c .before .before .before .before) .0)
-    (sym (c .before .first-malformed .ensures) ∙ c .if1 .taken)
-
-same-length-3 : tie.Need-same-length-3 Inv-loop μ-loop
-same-length-3 c = search needs
-
-same-length-4 : tie.Need-same-length-4 Inv-loop μ-loop
-same-length-4 c = search needs
-
-returns-2 : tie.Need-returns-2 Inv-loop μ-loop
-returns-2 c =
-    let l = c .before .before .before .before .before .before in
-    let start = entry l in
-    let a = start .args in
-    turn-large (whole start) (a .state .now) (a .blocks .now) (a .out .now) (l .loop .i) (l .loop .state)
-    (l .loop .out) (l .loop .inv) (start .pre .0) (start .pre .2) (inside
-    (c .before .before .before .before .before) .0)
-    (sym (c .before .before .first-malformed .ensures) ∙ c .before .if1 .left)
-    (sym (tested l) ∙ lt-ltb _ _ (c .if2 .taken))
+    (l .before .before .before .before .mask .result) (tested l) (sym (c .before .declines .ensures) ∙ c .if1 .taken)
 
 -- no refusal applies
-none : (c : tie.Else2 Inv-loop μ-loop)
-    → let l = c .before .before .before .before .before .before in
+none : (c : tie.Else1 Inv-loop μ-loop)
+    → let l = c .before .before .before .before .before in
     decoderFault (whole (entry l)) (l .loop .state) (block l) ≡ 0
 none c =
-    let l = c .before .before .before .before .before .before in
+    let l = c .before .before .before .before .before in
     let start = entry l in
     let a = start .args in
-    turn-passed (whole start) (a .state .now) (a .blocks .now) (a .out .now) (l .loop .i) (l .loop .state)
-    (l .loop .out) (l .loop .inv) (start .pre .0) (start .pre .2) (inside
-    (c .before .before .before .before .before) .0)
-    (sym (c .before .before .first-malformed .ensures) ∙ c .before .if1 .left)
-    (sym (tested l) ∙ le-ltb _ _ (c .if2 .left))
+    turn-taken (whole start) (a .state .now) (a .blocks .now) (a .out .now) (l .loop .i) (l .loop .state)
+    (l .loop .out) (l .loop .inv) (start .pre .0) (start .pre .2) (inside (c .before .before .before .before) .0)
+    (l .before .before .before .before .mask .result) (tested l) (sym (c .before .declines .ensures) ∙ c .if1 .left)
 
-tests : (c : tie.Else2 Inv-loop μ-loop)
-    → let l = c .before .before .before .before .before .before in
+tests : (c : tie.Else1 Inv-loop μ-loop)
+    → let l = c .before .before .before .before .before in
     DecoderTaken (whole (entry l)) (l .loop .state) (block l)
 tests c =
-    let l = c .before .before .before .before .before .before in
+    let l = c .before .before .before .before .before in
     decoder-taken (whole (entry l)) (l .loop .state) (block l) (none c)
 
 look-up-requires : tie.Need-look-up-requires Inv-loop μ-loop
@@ -201,7 +179,7 @@ look-up-requires c κs = search needs
 
 terms-requires : tie.Need-terms-requires Inv-loop μ-loop
 terms-requires c κs =
-    let l = c .before .before .before .before .before .before .before .before .before in
+    let l = c .before .before .before .before .before .before .before .before in
     let s = l .loop .state in
     let u = whole (entry l) in
     let r = terms-room u s (block l) (tests (c .before .before .before)) in
@@ -215,7 +193,7 @@ terms-requires c κs =
 
 -- the turn from its words, and the words
 abbrev turn : tie.After-terms Inv-loop μ-loop → tie.At-loop Inv-loop μ-loop
-turn c = c .before .before .before .before .before .before .before .before .before .before
+turn c = c .before .before .before .before .before .before .before .before .before
 
 -- the tables are those of the rows
 looked : (c : tie.At-loop Inv-loop μ-loop) → Lookup (rowsOf (whole (entry c)))
@@ -302,9 +280,9 @@ abbrev words : tie.After-slice-known3 Inv-loop μ-loop → tie.After-terms Inv-l
 words c = c .before .before .before .before .before .before .before .before .before .before
 
 abbrev looped : tie.After-slice-known3 Inv-loop μ-loop → tie.In-loop Inv-loop μ-loop
-looped c = words c .before .before .before .before .before .before .before .before .before
+looped c = words c .before .before .before .before .before .before .before .before
 
-abbrev passed : tie.After-slice-known3 Inv-loop μ-loop → tie.Else2 Inv-loop μ-loop
+abbrev passed : tie.After-slice-known3 Inv-loop μ-loop → tie.Else1 Inv-loop μ-loop
 passed c = words c .before .before .before .before
 
 -- the entry's place
@@ -381,14 +359,14 @@ loop-again c =
     (c .before .before .take-block .last .0)
     (memory-next c) (c .before .before .take-block .result) (entry-next c)
 
-same-length-5 : tie.Need-same-length-5 Inv-loop μ-loop
-same-length-5 c = search needs
+same-length-3 : tie.Need-same-length-3 Inv-loop μ-loop
+same-length-3 c = search needs
 
-same-length-6 : tie.Need-same-length-6 Inv-loop μ-loop
-same-length-6 c = search needs
+same-length-4 : tie.Need-same-length-4 Inv-loop μ-loop
+same-length-4 c = search needs
 
-returns-3 : tie.Need-returns-3 Inv-loop μ-loop
-returns-3 c =
+returns-2 : tie.Need-returns-2 Inv-loop μ-loop
+returns-2 c =
     let l = c .before in
     let start = entry l in
     let a = start .args in
@@ -400,7 +378,6 @@ fill-judged-spec =
     tie.close
     (tie.spec Inv-loop μ-loop error-words-requires slice-aggregate-lookup-of lookup-of-requires
     slice-aggregate-dual-basis dual-basis-requires together-requires mask-requires sub-one-at one-at-requires
-    min-requires loop-holds mul-received shared-slice-read-received cast-received first-malformed-requires same-length
-    same-length-2 returns same-length-3 same-length-4 returns-2 look-up-requires terms-requires least-by-requires
-    judged-requires take-block-requires mul-out slice-write-out add-i loop-less loop-again same-length-5 same-length-6
-    returns-3)
+    min-requires loop-holds mul-received shared-slice-read-received cast-received declines-requires same-length
+    same-length-2 returns look-up-requires terms-requires least-by-requires judged-requires take-block-requires mul-out
+    slice-write-out add-i loop-less loop-again same-length-3 same-length-4 returns-2)

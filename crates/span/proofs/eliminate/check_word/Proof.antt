@@ -1,5 +1,5 @@
 -- `span::eliminate::check_word`: a single one, at the pivot. Assumes nothing.
-use mathlib.Core.Path.{_≡_, ap, _∙_}
+use mathlib.Core.Path.{ap, _∙_}
 use Prim.Native.Nat.{ℕ, _^_}
 use borrow.Author.Needs.{needs}
 use Rattle.span.proofs.eliminate.check_word.Statement.{statement}
