@@ -5,10 +5,12 @@
 --   found-is      what is found there
 --   memory-is     the memory after the step
 --   info-is, mark-is   information and mark of the record
+--   step-words    entry and memory of a step of a batch, by what `judged` and `take_block` promise
 use mathlib.Core.Path.{_≡_, ap, ap₂, _∙_}
-use mathlib.Core.Bool.{Bool}
-use mathlib.Core.List.{List}
+use mathlib.Core.Bool.{Bool, cond}
+use mathlib.Core.List.{List, [], _∷_}
 use Prim.Native.Nat.{ℕ, _+_, _-_, _/_, _^_, _≤_}
+use lib.Dec.{ltb}
 use lib.ListN.{length}
 use lib.Seq.{length-take-le}
 use Rattle.span.specs.declared.eliminate.Least.{Least}
@@ -16,12 +18,15 @@ use Rattle.span.specs.Word.{_⊕_, odd, sel}
 use Rattle.span.specs.Combination.{combination}
 use Rattle.tables.specs.declared.table.Table.{Table}
 use Rattle.tables.specs.Table.{rowsOf, infoRows}
-use Rattle.link.specs.Memory.{turnOf, pendingOf, syndromeOf, delayedOf}
+use Rattle.link.specs.declared.decode.Mark.{Mark}
+use Rattle.link.specs.Memory.{turnOf, fillOf, delayOf, pendingOf, syndromeOf, delayedOf}
 use Rattle.link.specs.Step.{information, rawTerm, found, errorOf, keptOf, markOf}
 use Rattle.link.specs.Decoder.{decoderJoining, decoderRegister, decoderFound, partNext, decoderNext, delivered}
-use Rattle.link.specs.Decoder.{advanced}
+use Rattle.link.specs.Decoder.{advanced, delivery, markNumber}
+use Rattle.link.specs.Batch.{decodeEntry, decodeEntries}
 use Rattle.link.proofs.Coder.{sel-digit}
 use Rattle.link.proofs.Step.{joined-half, joined-odd}
+use Rattle.link.proofs.Entry.{entry-is}
 
 module _ (t : Table) (s : List ℕ) (r w : ℕ) (room : t .symbols - 1 ≤ length (t .rows))
     (e : w ≡ pendingOf t s (turnOf s) ⊕ combination (rowsOf t) r) where
@@ -63,3 +68,18 @@ module _ (t : Table) (s : List ℕ) (r w : ℕ) (room : t .symbols - 1 ≤ lengt
     pub mark-is : markOf f x ≡ delivered t s r .mark
     unfolding delivered decoderFound decoderRegister
     mark-is = ap₂ markOf found-is is
+
+    pub step-words : (error kept : ℕ) (mark : Mark)
+        → (error ≡ errorOf f) × ((kept ≡ keptOf f x) × (mark ≡ markOf f x)) → (entry : ℕ) (after : List ℕ)
+        → (entry ≡ cond (ltb (fillOf s) (delayOf t)) (decodeEntry 0 0)
+        (decodeEntry (markNumber mark) (delayedOf t s (turnOf s) 0 ⊕ information (t .symbols) error)))
+        × (after ≡ advanced (t .span) (t .depth) s (w / 2) kept (information (t .symbols) r))
+        → (after ≡ decoderNext t s r) × (entry ∷ [] ≡ decodeEntries (delivery t s r))
+    step-words error kept mark v entry after h = (
+      h .1
+          ∙ ap (λ (k : ℕ). advanced (t .span) (t .depth) s (w / 2) k (information (t .symbols) r)) (v .1 .0)
+          ∙ memory-is,
+      ap (λ (y : ℕ). y ∷ []) (h .0)
+          ∙ entry-is t s r mark (delayedOf t s (turnOf s) 0 ⊕ information (t .symbols) error) (v .1 .1 ∙ mark-is)
+          (ap (λ (y : ℕ). delayedOf t s (turnOf s) 0 ⊕ information (t .symbols) y) (v .0) ∙ info-is),
+    )

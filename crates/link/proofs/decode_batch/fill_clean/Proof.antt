@@ -1,7 +1,7 @@
 -- `link::decode_batch::fill_clean`: block by block (`Going`), as long as the register is 0. Assumes nothing.
 use mathlib.Core.Path.{_≡_, sym, ap, subst, _∙_}
 use mathlib.Core.List.{List, [], _∷_}
-use Prim.Native.Nat.{ℕ, _-_, _*_, _/_, _^_, _≤_, _<_}
+use Prim.Native.Nat.{ℕ, _-_, _*_, _^_, _≤_, _<_}
 use native.Mathlib.Omega.{arith}
 use borrow.Author.Needs.{needs, scaled-fits}
 use lib.Dec.{leb, ltb}
@@ -9,7 +9,6 @@ use lib.ListN.{length, getD}
 use Rattle.tables.specs.declared.table.Table.{Table}
 use Rattle.tables.specs.Lent.{withRows}
 use Rattle.link.proofs.Going.{Going, going-start, turn-taken, turn-next}
-use Rattle.link.proofs.Entry.{entry-is}
 use Rattle.span.specs.declared.eliminate.Least.the-variants.{Found}
 use Rattle.span.specs.Word.{_⊕_}
 use Rattle.span.specs.Combination.{combination}
@@ -18,16 +17,16 @@ use Rattle.span.proofs.Lookups.{looked-up}
 use Rattle.span.proofs.Masks.{above-mask}
 use Rattle.tables.specs.Table.{infoRows, rowsOf}
 use Rattle.tables.proofs.Fit.{Fits, fit-facts, code-length}
-use Rattle.link.specs.Memory.{turnOf, pendingOf, syndromeOf, delayedOf}
+use Rattle.link.specs.Memory.{turnOf, pendingOf, syndromeOf}
 use Rattle.link.specs.Batch.{decodeEntries, decodeBatch, Reached}
 use Rattle.link.specs.Refusals.{decoderFault}
-use Rattle.link.specs.Step.{information, found}
-use Rattle.link.specs.Decoder.{decoderRegister, decoderNext, delivery, advanced}
+use Rattle.link.specs.Step.{found}
+use Rattle.link.specs.Decoder.{decoderRegister, decoderNext, delivery}
 use Rattle.link.proofs.Decoder.{DecoderTaken, decoder-taken}
 use Rattle.link.proofs.Error.{zero-found}
 use Rattle.link.proofs.CodeWords.{sixteen-words}
 use Rattle.link.proofs.Room.{terms-room, keep-room, oldest-lt}
-use Rattle.link.proofs.StepWords.{register-is, memory-is, info-is, mark-is}
+use Rattle.link.proofs.StepWords.{register-is, step-words}
 use Rattle.link.proofs.decode_batch.fill_clean.Statement.{statement}
 use Rattle.link.proofs.decode_batch.fill_clean.Tie as tie
 
@@ -267,40 +266,20 @@ explained c =
     let R = rowsOf (whole (entry (turn (words c)))) in
     sym (ap (found R) (c .before .before .before .before .before .if2 .left) ∙ zero-found R)
 
-memory-next : (c : tie.After-slice-known3 Inv-loop μ-loop)
+-- the step's entry and memory
+stepped : (c : tie.After-slice-known3 Inv-loop μ-loop)
     → let l = turn (words c) in
-    c .before .before .take-block .last .0 ≡ decoderNext (whole (entry l)) (l .loop .state) (block l)
-memory-next c =
+    (c .before .before .take-block .last .0 ≡ decoderNext (whole (entry l)) (l .loop .state) (block l))
+    × (c .before .before .take-block .result ∷ []
+    ≡ decodeEntries (delivery (whole (entry l)) (l .loop .state) (block l)))
+stepped c =
     let x = words c in
     let l = turn x in
-    let start = entry l in
     let j = c .before .before .before .judged in
-    c .before .before .take-block .ensures .1
-    ∙ ap (λ (k : ℕ). advanced (start .args .t .span) (start .args .t .depth) (l .loop .state) (x .terms .result .w / 2)
-    k
-    (information (start .args .t .symbols) (block l))) (j .ensures .1 .0)
-    ∙ memory-is (whole start) (l .loop .state) (block l) (x .terms .result .w) (width start) (joined x)
-    (x .terms .result .register) (registered x) (Found 0) (explained c)
-
-entry-next : (c : tie.After-slice-known3 Inv-loop μ-loop)
-    → let l = turn (words c) in
-    c .before .before .take-block .result ∷ [] ≡ decodeEntries (delivery (whole (entry l)) (l .loop .state) (block l))
-entry-next c =
-    let x = words c in
-    let l = turn x in
-    let start = entry l in
-    let u = whole start in
-    let s = l .loop .state in
-    let j = c .before .before .before .judged in
-    ap (λ (e : ℕ). e ∷ []) (c .before .before .take-block .ensures .0)
-    ∙ entry-is u s (block l) (j .result .mark)
-    (delayedOf u s (turnOf s) 0 ⊕ information (start .args .t .symbols) (j .result .error))
-    (j .ensures .1 .1 ∙ mark-is u s (block l) (x .terms .result .w) (width start) (joined x)
-    (x .terms .result .register)
-    (registered x) (Found 0) (explained c))
-    (ap (λ (e : ℕ). delayedOf u s (turnOf s) 0 ⊕ information (start .args .t .symbols) e) (j .ensures .0)
-    ∙ info-is u s (block l) (x .terms .result .w) (width start) (joined x) (x .terms .result .register) (registered x)
-    (Found 0) (explained c))
+    let b = c .before .before .take-block in
+    step-words (whole (entry l)) (l .loop .state) (block l) (x .terms .result .w) (width (entry l)) (joined x)
+    (x .terms .result .register) (registered x) (Found 0) (explained c) (j .result .error) (j .result .kept) (j .result .mark)
+    (j .ensures) (b .result) (b .last .0) (b .ensures)
 
 loop-again : tie.Need-loop-again Inv-loop μ-loop
 loop-again c =
@@ -311,7 +290,7 @@ loop-again c =
     turn-next (whole start) (a .state .now) (a .blocks .now) (a .out .now) (l .loop .i) (l .loop .state) (l .loop .out)
     (l .loop .inv) (start .pre .0) (start .pre .2) (i .0) (i .1) (none (passed c))
     (c .before .before .take-block .last .0)
-    (memory-next c) (c .before .before .take-block .result) (entry-next c)
+    (stepped c .0) (c .before .before .take-block .result) (stepped c .1)
 
 same-length-5 : tie.Need-same-length-5 Inv-loop μ-loop
 same-length-5 c = search needs

@@ -1,7 +1,7 @@
 -- `link::decode_batch::fill_judged`: block by block (`Going`), in the words of a step (`StepWords`). Assumes nothing.
 use mathlib.Core.Path.{_≡_, sym, ap, subst, _∙_}
 use mathlib.Core.List.{List, [], _∷_}
-use Prim.Native.Nat.{ℕ, _-_, _*_, _/_, _^_, _≤_, _<_}
+use Prim.Native.Nat.{ℕ, _-_, _*_, _^_, _≤_, _<_}
 use native.Mathlib.Omega.{arith}
 use borrow.Author.Needs.{needs, scaled-fits}
 use lib.Dec.{leb, ltb}
@@ -9,7 +9,6 @@ use lib.ListN.{length, getD}
 use Rattle.tables.specs.declared.table.Table.{Table}
 use Rattle.tables.specs.Lent.{withRows}
 use Rattle.link.proofs.Going.{Going, going-start, going-all, turn-declined, turn-taken, turn-next}
-use Rattle.link.proofs.Entry.{entry-is}
 use Rattle.span.specs.declared.eliminate.Least.{Least}
 use Rattle.span.specs.Word.{_⊕_}
 use Rattle.span.specs.Combination.{combination, Below, counted}
@@ -20,16 +19,16 @@ use Rattle.span.proofs.Lookups.{looked-up}
 use Rattle.span.proofs.Masks.{above-mask}
 use Rattle.tables.specs.Table.{infoRows, rowsOf}
 use Rattle.tables.proofs.Fit.{Fits, fit-facts, code-length}
-use Rattle.link.specs.Memory.{turnOf, pendingOf, syndromeOf, delayedOf}
+use Rattle.link.specs.Memory.{turnOf, pendingOf, syndromeOf}
 use Rattle.link.specs.Batch.{decodeEntries}
 use Rattle.link.specs.Refusals.{decoderFault}
-use Rattle.link.specs.Step.{information, found, errorOf}
-use Rattle.link.specs.Decoder.{decoderRegister, decoderNext, delivery, advanced}
+use Rattle.link.specs.Step.{found, errorOf}
+use Rattle.link.specs.Decoder.{decoderRegister, decoderNext, delivery}
 use Rattle.link.proofs.Decoder.{DecoderTaken, decoder-taken}
 use Rattle.link.proofs.Error.{error-lt}
 use Rattle.link.proofs.CodeWords.{counted-words, sixteen-words, code-below}
 use Rattle.link.proofs.Room.{terms-room, keep-room, oldest-lt}
-use Rattle.link.proofs.StepWords.{register-is, memory-is, info-is, mark-is}
+use Rattle.link.proofs.StepWords.{register-is, step-words}
 use Rattle.link.proofs.decode_batch.fill_judged.Statement.{statement}
 use Rattle.link.proofs.decode_batch.fill_judged.Tie as tie
 
@@ -311,42 +310,21 @@ add-i c =
 loop-less : tie.Need-loop-less Inv-loop μ-loop
 loop-less c = search needs
 
-memory-next : (c : tie.After-slice-known3 Inv-loop μ-loop)
+-- the step's entry and memory
+stepped : (c : tie.After-slice-known3 Inv-loop μ-loop)
     → let l = turn (words c) in
-    c .before .before .take-block .last .0 ≡ decoderNext (whole (entry l)) (l .loop .state) (block l)
-memory-next c =
+    (c .before .before .take-block .last .0 ≡ decoderNext (whole (entry l)) (l .loop .state) (block l))
+    × (c .before .before .take-block .result ∷ []
+    ≡ decodeEntries (delivery (whole (entry l)) (l .loop .state) (block l)))
+stepped c =
     let x = words c in
     let l = turn x in
-    let start = entry l in
     let f = c .before .before .before .before .before .least-by in
     let j = c .before .before .before .judged in
-    c .before .before .take-block .ensures .1
-    ∙ ap (λ (k : ℕ). advanced (start .args .t .span) (start .args .t .depth) (l .loop .state) (x .terms .result .w / 2)
-    k
-    (information (start .args .t .symbols) (block l))) (j .ensures .1 .0)
-    ∙ memory-is (whole start) (l .loop .state) (block l) (x .terms .result .w) (width start) (joined x)
-    (x .terms .result .register) (registered x) (f .result) (explained (c .before .before .before .before .before))
-
-entry-next : (c : tie.After-slice-known3 Inv-loop μ-loop)
-    → let l = turn (words c) in
-    c .before .before .take-block .result ∷ [] ≡ decodeEntries (delivery (whole (entry l)) (l .loop .state) (block l))
-entry-next c =
-    let x = words c in
-    let l = turn x in
-    let start = entry l in
-    let u = whole start in
-    let s = l .loop .state in
-    let f = c .before .before .before .before .before .least-by in
-    let j = c .before .before .before .judged in
-    ap (λ (e : ℕ). e ∷ []) (c .before .before .take-block .ensures .0)
-    ∙ entry-is u s (block l) (j .result .mark)
-    (delayedOf u s (turnOf s) 0 ⊕ information (start .args .t .symbols) (j .result .error))
-    (j .ensures .1 .1 ∙ mark-is u s (block l) (x .terms .result .w) (width start) (joined x)
-    (x .terms .result .register)
-    (registered x) (f .result) (explained (c .before .before .before .before .before)))
-    (ap (λ (e : ℕ). delayedOf u s (turnOf s) 0 ⊕ information (start .args .t .symbols) e) (j .ensures .0)
-    ∙ info-is u s (block l) (x .terms .result .w) (width start) (joined x) (x .terms .result .register) (registered x)
-    (f .result) (explained (c .before .before .before .before .before)))
+    let b = c .before .before .take-block in
+    step-words (whole (entry l)) (l .loop .state) (block l) (x .terms .result .w) (width (entry l)) (joined x)
+    (x .terms .result .register) (registered x) (f .result) (explained (c .before .before .before .before .before)) (j .result .error) (j .result .kept) (j .result .mark)
+    (j .ensures) (b .result) (b .last .0) (b .ensures)
 
 loop-again : tie.Need-loop-again Inv-loop μ-loop
 loop-again c =
@@ -357,7 +335,7 @@ loop-again c =
     turn-next (whole start) (a .state .now) (a .blocks .now) (a .out .now) (l .loop .i) (l .loop .state) (l .loop .out)
     (l .loop .inv) (start .pre .0) (start .pre .2) (i .0) (i .1) (none (passed c))
     (c .before .before .take-block .last .0)
-    (memory-next c) (c .before .before .take-block .result) (entry-next c)
+    (stepped c .0) (c .before .before .take-block .result) (stepped c .1)
 
 same-length-3 : tie.Need-same-length-3 Inv-loop μ-loop
 same-length-3 c = search needs
