@@ -1,16 +1,19 @@
 -- The rows of the code as a batch has them: the first n of an array of words. Assumes nothing.
 --
 --   first-words     the array's first n words are the rows
---   counted-words, sixteen-words   also as a basis and as the tables of a lookup count them
+--   counted-words   also as a basis counts them
+--   image-by        an image by the tables of a lookup of the first n words
 --   code-below      a fit table's rows have 64 bits at most
-use mathlib.Core.Path.{_≡_, sym, ap, _∙_}
+use mathlib.Core.Path.{_≡_, sym, ap, subst, _∙_}
 use mathlib.Core.List.{List, [], _∷_, _++_}
 use Prim.Native.Nat.{ℕ, _+_, _-_, _≤_}
 use native.Mathlib.Omega.{arith}
 use lib.ListN.{length, take}
 use lib.Pow.{pow-mono}
 use lib.Seq.{take-take, take-at, take-all}
-use Rattle.span.specs.Combination.{Below, counted}
+use Rattle.span.specs.Combination.{Below, combination, counted}
+use Rattle.span.specs.Lookup.{Lookup, lookedUp}
+use Rattle.span.proofs.Lookups.{looked-up}
 use Rattle.tables.specs.declared.table.Table.{Table}
 use Rattle.tables.specs.Table.{rowsOf, infoRows}
 use Rattle.tables.proofs.Fit.{Fits}
@@ -24,8 +27,11 @@ module _ (R words : List ℕ) (n x : ℕ) (size : length R ≡ n) (e : take (n +
   pub counted-words : n ≤ 32 → counted n words ≡ R
   counted-words h = ap (take 32) first-words ∙ take-all 32 R (omega arith)
 
-  pub sixteen-words : n ≤ 16 → take 16 (take n words) ≡ R
-  sixteen-words h = ap (take 16) first-words ∙ take-all 16 R (omega arith)
+pub image-by : (R words : List ℕ) (n : ℕ) → take n words ≡ R → length R ≤ 16
+    → (tables : List ℕ) → Lookup (take 16 (take n words)) tables → (r : ℕ) → lookedUp tables r ≡ combination R r
+image-by R words n e h tables l r =
+    looked-up R tables r h
+    (subst (λ (ws : List ℕ). Lookup ws tables) (ap (take 16) e ∙ take-all 16 R h) l)
 
 pub code-below : (t : Table) → Fits (t .symbols) (t .span) (t .depth) (infoRows t) → Below 64 (rowsOf t)
 code-below t z i h =

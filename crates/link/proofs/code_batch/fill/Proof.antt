@@ -7,11 +7,10 @@ use native.Mathlib.Omega.{arith}
 use borrow.Author.Needs.{needs}
 use borrow.Author.Tests.{lt-ltb, le-ltb}
 use lib.Dec.{leb, ltb}
-use lib.ListN.{length, getD, set, take}
+use lib.ListN.{length, getD, set}
 use lib.Pow.{pow-mono}
 use Rattle.span.specs.Combination.{combination}
-use lib.Seq.{take-all, length-take-le}
-use Rattle.span.proofs.Lookups.{looked-up}
+use lib.Seq.{length-take-le}
 use Rattle.span.proofs.Masks.{above-mask}
 use Rattle.tables.specs.declared.table.Table.{Table}
 use Rattle.tables.specs.Lent.{withRows}
@@ -24,6 +23,7 @@ use Rattle.link.proofs.Coder.{CoderTaken, coder-taken, coder-length, co
 use Rattle.link.proofs.Coder.{memory-in-numbers}
 use Rattle.link.specs.Batch.{Batch, batch, codeEntries, codeBatch, Fills, Reached}
 use Rattle.link.proofs.Refusals.{step-settled}
+use Rattle.link.proofs.CodeWords.{image-by}
 use Rattle.link.proofs.Entries.{coded-none, coded-one}
 use Rattle.link.proofs.Reached.{reached-start, reached-next, reached-refused, reached-all}
 use Rattle.link.proofs.code_batch.fill.Statement.{statement}
@@ -210,13 +210,11 @@ image-is c =
     let a = start .args in
     let w = a .t .symbols - 1 in
     let n = facts start .n-to in
-    let h : w ≤ 15 = omega arith in
     let long = length-take-le w (a .rows .now) (let z = start .pre .1 in omega arith) in
-    let all = take-all 16 (take w (a .rows .now)) (omega arith) in
+    let tables = l .before .before .before .before .lookup-of in
     c .before .before .before .before .look-up .ensures
-    ∙ looked-up (take 16 (take w (a .rows .now))) _ (block l) (rw all (omega arith))
-    (l .before .before .before .before .lookup-of .ensures)
-    ∙ ap (λ (ws : List ℕ). combination ws (block l)) all
+    ∙ image-by (infoRows (whole start)) (a .rows .now) w refl (omega arith) (tables .result) (tables .ensures)
+    (block l)
 
 block-is : (c : tie.After-slice-known3 Inv-loop μ-loop)
     → let l = turn c in

@@ -1,6 +1,6 @@
 -- `link::decode_batch::fill_clean`: block by block (`Going`), as long as the register is 0. Assumes nothing.
 use mathlib.Core.Path.{_≡_, sym, ap, subst, _∙_}
-use mathlib.Core.List.{List, [], _∷_}
+use mathlib.Core.List.{[], _∷_}
 use Prim.Native.Nat.{ℕ, _-_, _*_, _^_, _≤_, _<_}
 use native.Mathlib.Omega.{arith}
 use borrow.Author.Needs.{needs, scaled-fits}
@@ -12,8 +12,6 @@ use Rattle.link.proofs.Going.{Going, going-start, turn-taken, turn-next
 use Rattle.span.specs.declared.eliminate.Least.the-variants.{Found}
 use Rattle.span.specs.Word.{_⊕_}
 use Rattle.span.specs.Combination.{combination}
-use Rattle.span.specs.Lookup.{Lookup}
-use Rattle.span.proofs.Lookups.{looked-up}
 use Rattle.span.proofs.Masks.{above-mask}
 use Rattle.tables.specs.Table.{infoRows, rowsOf}
 use Rattle.tables.proofs.Fit.{Fits, fit-facts, code-length}
@@ -24,7 +22,7 @@ use Rattle.link.specs.Step.{found}
 use Rattle.link.specs.Decoder.{decoderRegister, decoderNext, delivery}
 use Rattle.link.proofs.Decoder.{DecoderTaken, decoder-taken}
 use Rattle.link.proofs.Error.{zero-found}
-use Rattle.link.proofs.CodeWords.{sixteen-words}
+use Rattle.link.proofs.CodeWords.{first-words, image-by}
 use Rattle.link.proofs.Room.{terms-room, keep-room, oldest-lt}
 use Rattle.link.proofs.StepWords.{register-is, step-words}
 use Rattle.link.proofs.decode_batch.fill_clean.Statement.{statement}
@@ -180,29 +178,23 @@ terms-requires c κs =
 abbrev turn : tie.After-terms Inv-loop μ-loop → tie.At-loop Inv-loop μ-loop
 turn c = c .before .before .before .before .before .before .before .before .before
 
--- the tables are those of the rows
-looked : (c : tie.At-loop Inv-loop μ-loop) → Lookup (rowsOf (whole (entry c)))
-    (c .before .before .before .before .before .lookup-of .result)
-looked c =
-    let start = entry c in
-    let w = c .before .before .before .before .before .before .before .error-words in
-    subst (λ (ws : List ℕ). Lookup ws (c .before .before .before .before .before .lookup-of .result))
-    (sixteen-words (rowsOf (whole start)) (w .result) (start .args .t .symbols) 0 (size start) (w .ensures)
-    (facts start .n-to)) (c .before .before .before .before .before .lookup-of .ensures)
-
+-- w, by the tables of the rows
 joined : (c : tie.After-terms Inv-loop μ-loop)
     → let l = turn c in
     let s = l .loop .state in
     c .terms .result .w ≡ pendingOf (whole (entry l)) s (turnOf s) ⊕ combination (rowsOf (whole (entry l))) (block l)
 joined c =
     let l = turn c in
-    let start = entry l in
+    let u = whole (entry l) in
     let s = l .loop .state in
+    let ws = l .before .before .before .before .before .before .before .error-words in
+    let tables = l .before .before .before .before .before .lookup-of in
+    let z = size (entry l) in
+    let n = facts (entry l) .n-to in
     c .terms .ensures .0
-    ∙ ap (λ (x : ℕ). pendingOf (whole start) s (turnOf s) ⊕ x)
-    (c .before .look-up .ensures
-    ∙ looked-up (rowsOf (whole start)) (l .before .before .before .before .before .lookup-of .result) (block l)
-    (let z = size start in let n = facts start .n-to in omega arith) (looked l))
+    ∙ ap (λ (x : ℕ). pendingOf u s (turnOf s) ⊕ x) (c .before .look-up .ensures
+    ∙ image-by (rowsOf u) (ws .result) (u .symbols) (first-words (rowsOf u) (ws .result) (u .symbols) 0 z (ws .ensures))
+    (omega arith) (tables .result) (tables .ensures) (block l))
 
 registered : (c : tie.After-terms Inv-loop μ-loop)
     → let l = turn c in
