@@ -201,8 +201,9 @@ joined c =
     let l = turn c in
     let u = whole (entry l) in
     let s = l .loop .state in
-    let ws = l .before .before .before .before .before .before .before .before .before .before .before .before .error-words in
-    let tables = l .before .before .before .before .before .before .before .before .before .before .lookup-of in
+    let made = l .before .before .before .before .before .before .before .before .before .before in
+    let ws = made .before .before .error-words in
+    let tables = made .lookup-of in
     let z = size (entry l) in
     let n = facts (entry l) .n-to in
     c .terms .ensures .0
@@ -311,8 +312,8 @@ stepped c =
     let j = c .before .before .before .judged in
     let b = c .before .before .take-block in
     step-words (whole (entry l)) (l .loop .state) (block l) (x .terms .result .w) (width (entry l)) (joined x)
-    (x .terms .result .register) (registered x) (f .result) (explained (c .before .before .before .before .before)) (j .result .error) (j .result .kept) (j .result .mark)
-    (j .ensures) (b .result) (b .last .0) (b .ensures)
+    (x .terms .result .register) (registered x) (f .result) (explained (c .before .before .before .before .before))
+    (j .result .error) (j .result .kept) (j .result .mark) (j .ensures) (b .result) (b .last .0) (b .ensures)
 
 loop-again : tie.Need-loop-again Inv-loop μ-loop
 loop-again c =
