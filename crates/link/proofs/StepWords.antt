@@ -5,7 +5,7 @@
 --   found-is      what is found there
 --   memory-is     the memory after the step
 --   info-is, mark-is   information and mark of the record
---   step-words    entry and memory of a step of a batch, by what `judged` and `take_block` promise
+--   step-words    entry and memory of a step of a batch, by what `terms`, `judged` and `take_block` promise
 use mathlib.Core.Path.{_≡_, ap, ap₂, _∙_}
 use mathlib.Core.Bool.{Bool, cond}
 use mathlib.Core.List.{List, [], _∷_}
@@ -69,17 +69,20 @@ module _ (t : Table) (s : List ℕ) (r w : ℕ) (room : t .symbols - 1 ≤ lengt
     unfolding delivered decoderFound decoderRegister
     mark-is = ap₂ markOf found-is is
 
-    pub step-words : (error kept : ℕ) (mark : Mark)
-        → (error ≡ errorOf f) × ((kept ≡ keptOf f x) × (mark ≡ markOf f x)) → (entry : ℕ) (after : List ℕ)
-        → (entry ≡ cond (ltb (fillOf s) (delayOf t)) (decodeEntry 0 0)
-        (decodeEntry (markNumber mark) (delayedOf t s (turnOf s) 0 ⊕ information (t .symbols) error)))
-        × (after ≡ advanced (t .span) (t .depth) s (w / 2) kept (information (t .symbols) r))
-        → (after ≡ decoderNext t s r) × (entry ∷ [] ≡ decodeEntries (delivery t s r))
-    step-words error kept mark v entry after h = (
-      h .1
-          ∙ ap (λ (k : ℕ). advanced (t .span) (t .depth) s (w / 2) k (information (t .symbols) r)) (v .1 .0)
-          ∙ memory-is,
-      ap (λ (y : ℕ). y ∷ []) (h .0)
-          ∙ entry-is t s r mark (delayedOf t s (turnOf s) 0 ⊕ information (t .symbols) error) (v .1 .1 ∙ mark-is)
-          (ap (λ (y : ℕ). delayedOf t s (turnOf s) 0 ⊕ information (t .symbols) y) (v .0) ∙ info-is),
-    )
+  pub step-words : (x top : ℕ) → x ≡ syndromeOf t s (turnOf s) + sel (odd w) top → top ≡ 2 ^ (t .span - 1)
+      → (f : Least) → f ≡ found (rowsOf t) x → (error kept : ℕ) (mark : Mark)
+      → (error ≡ errorOf f) × ((kept ≡ keptOf f x) × (mark ≡ markOf f x)) → (entry : ℕ) (after : List ℕ)
+      → (entry ≡ cond (ltb (fillOf s) (delayOf t)) (decodeEntry 0 0)
+      (decodeEntry (markNumber mark) (delayedOf t s (turnOf s) 0 ⊕ information (t .symbols) error)))
+      × (after ≡ advanced (t .span) (t .depth) s (w / 2) kept (information (t .symbols) r))
+      → (after ≡ decoderNext t s r) × (entry ∷ [] ≡ decodeEntries (delivery t s r))
+  step-words x top k m f g error kept mark v entry after h =
+      let is = register-is x top k m in (
+        h .1
+            ∙ ap (λ (y : ℕ). advanced (t .span) (t .depth) s (w / 2) y (information (t .symbols) r)) (v .1 .0)
+            ∙ memory-is x is f g,
+        ap (λ (y : ℕ). y ∷ []) (h .0)
+            ∙ entry-is t s r mark (delayedOf t s (turnOf s) 0 ⊕ information (t .symbols) error)
+            (v .1 .1 ∙ mark-is x is f g)
+            (ap (λ (y : ℕ). delayedOf t s (turnOf s) 0 ⊕ information (t .symbols) y) (v .0) ∙ info-is x is f g),
+      )

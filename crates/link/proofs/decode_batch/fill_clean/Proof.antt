@@ -19,12 +19,12 @@ use Rattle.link.specs.Memory.{turnOf, pendingOf, syndromeOf}
 use Rattle.link.specs.Batch.{decodeEntries, decodeBatch, Reached}
 use Rattle.link.specs.Refusals.{decoderFault}
 use Rattle.link.specs.Step.{found}
-use Rattle.link.specs.Decoder.{decoderRegister, decoderNext, delivery}
-use Rattle.link.proofs.Decoder.{DecoderTaken, decoder-taken}
+use Rattle.link.specs.Decoder.{decoderNext, delivery}
+use Rattle.link.proofs.Decoder.{decoder-taken}
 use Rattle.link.proofs.Error.{zero-found}
 use Rattle.link.proofs.CodeWords.{first-words, image-by}
 use Rattle.link.proofs.Room.{terms-room, keep-room, oldest-lt}
-use Rattle.link.proofs.StepWords.{register-is, step-words}
+use Rattle.link.proofs.StepWords.{step-words}
 use Rattle.link.proofs.decode_batch.fill_clean.Statement.{statement}
 use Rattle.link.proofs.decode_batch.fill_clean.Tie as tie
 
@@ -150,13 +150,6 @@ none c =
     (l .loop .out) (l .loop .inv) (start .pre .0) (start .pre .2) (inside (c .before .before .before .before) .0)
     (l .before .before .before .before .mask .result) (tested l) (sym (c .before .declines .ensures) ∙ c .if1 .left)
 
-tests : (c : tie.Else1 Inv-loop μ-loop)
-    → let l = c .before .before .before .before .before in
-    DecoderTaken (whole (entry l)) (l .loop .state) (block l)
-tests c =
-    let l = c .before .before .before .before .before in
-    decoder-taken (whole (entry l)) (l .loop .state) (block l) (none c)
-
 look-up-requires : tie.Need-look-up-requires Inv-loop μ-loop
 look-up-requires c κs = search needs
 
@@ -165,7 +158,7 @@ terms-requires c κs =
     let l = c .before .before .before .before .before .before .before .before in
     let s = l .loop .state in
     let u = whole (entry l) in
-    let r = terms-room u s (block l) (tests (c .before .before .before)) in
+    let r = terms-room u s (block l) (decoder-taken u s (block l) (none (c .before .before .before))) in
     let e = sym (l .before .before .one-at .ensures) in (
       r .0,
       r .1,
@@ -196,16 +189,6 @@ joined c =
     ∙ image-by (rowsOf u) (ws .result) (u .symbols) (first-words (rowsOf u) (ws .result) (u .symbols) 0 z (ws .ensures))
     (omega arith) (tables .result) (tables .ensures) (block l))
 
-registered : (c : tie.After-terms Inv-loop μ-loop)
-    → let l = turn c in
-    c .terms .result .register ≡ decoderRegister (whole (entry l)) (l .loop .state) (block l)
-registered c =
-    let l = turn c in
-    let start = entry l in
-    register-is (whole start) (l .loop .state) (block l) (c .terms .result .w) (width start) (joined c)
-    (c .terms .result .register) (l .before .before .one-at .result) (c .terms .ensures .1)
-    (l .before .before .one-at .ensures)
-
 same-length-3 : tie.Need-same-length-3 Inv-loop μ-loop
 same-length-3 c = search needs
 
@@ -222,7 +205,8 @@ take-block-requires : tie.Need-take-block-requires Inv-loop μ-loop
 take-block-requires c κs =
     let l = turn (c .before .before .before .before) in
     let s = l .loop .state in
-    let k = tests (c .before .before .before .before .before .before .before .before) in
+    let k = decoder-taken (whole (entry l)) s (block l)
+    (none (c .before .before .before .before .before .before .before .before)) in
     let r = keep-room (whole (entry l)) s (block l) k in
     let n = k .sizes .n-from in
     (r .0, r .1, r .2, r .3, omega arith, k .sizes .n-to, r .4, oldest-lt (whole (entry l)) s (block l) k)
@@ -267,11 +251,12 @@ stepped : (c : tie.After-slice-known3 Inv-loop μ-loop)
 stepped c =
     let x = words c in
     let l = turn x in
+    let o = l .before .before .one-at in
     let j = c .before .before .before .judged in
     let b = c .before .before .take-block in
     step-words (whole (entry l)) (l .loop .state) (block l) (x .terms .result .w) (width (entry l)) (joined x)
-    (x .terms .result .register) (registered x) (Found 0) (explained c) (j .result .error) (j .result .kept) (j .result .mark)
-    (j .ensures) (b .result) (b .last .0) (b .ensures)
+    (x .terms .result .register) (o .result) (x .terms .ensures .1) (o .ensures) (Found 0) (explained c)
+    (j .result .error) (j .result .kept) (j .result .mark) (j .ensures) (b .result) (b .last .0) (b .ensures)
 
 loop-again : tie.Need-loop-again Inv-loop μ-loop
 loop-again c =
