@@ -1,13 +1,13 @@
 -- What a fit table's sizes and rows are, as facts. Assumes nothing.
-use mathlib.Core.Path.{_≡_, refl, ap₂, _∙_}
+use mathlib.Core.Path.{_≡_, refl, ap, ap₂, _∙_}
 use mathlib.Core.Bool.{Bool, true, false, _&&_, false≢true}
-use mathlib.Core.List.{List, [], _∷_}
+use mathlib.Core.List.{List, [], _∷_, _++_}
 use Prim.Native.Nat.{ℕ, zero, suc, _+_, _-_, _^_, _≤_}
 use native.Mathlib.Omega.{arith}
 use borrow.Author.Tests.{le-leb, lt-ltb, leb-true, ltb-true}
 use lib.Dec.{leb, ltb}
 use lib.ListN.{length, getD, take, replicate, length-append}
-use lib.Seq.{length-take-le}
+use lib.Seq.{length-take-le, getD-append-add}
 use Rattle.span.specs.Combination.{Below}
 use Rattle.tables.specs.declared.table.Table.{Table}
 use Rattle.tables.specs.Table.{table, infoRows, codeRows, sizesFit, rowsFit, fit}
@@ -112,3 +112,11 @@ pub zeros-at : (c i : ℕ) → _≡_ {A = ℕ} (getD (replicate c 0) i 0) 0
 zeros-at zero i = refl
 zeros-at (suc c) zero = refl
 zeros-at (suc c) (suc i) = zeros-at c i
+
+-- rows with zeros after them are 0 past their end
+pub padded-zero : (rows : List ℕ) (c i : ℕ) → length rows ≤ i → getD (rows ++ replicate c 0) i 0 ≡ 0
+padded-zero rows c i h =
+    let e : i ≡ length rows + (i - length rows) = omega arith in
+    ap (λ (k : ℕ). getD (rows ++ replicate c 0) k 0) e
+    ∙ getD-append-add rows (replicate c 0) (i - length rows) 0
+    ∙ zeros-at c (i - length rows)

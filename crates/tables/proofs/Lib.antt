@@ -9,6 +9,10 @@ pub mod Format
 mod Progress
 pub mod Reading
 pub mod Written
+mod Stores
+mod Trimmed
+mod Sorted
+pub mod Writing
 pub mod Parsed
 pub mod Triangle
 pub mod Filling

@@ -2,15 +2,13 @@
 --
 --   making-room   every table that making returns holds 15 rows
 --   made-whole    a made table is fit, and its other rows are 0
-use mathlib.Core.Path.{_≡_, refl, ap, _∙_}
+use mathlib.Core.Path.{_≡_, refl, _∙_}
 use mathlib.Core.Bool.{Bool, true, false}
-use mathlib.Core.List.{_++_}
-use Prim.Native.Nat.{ℕ, suc, _+_, _-_, _≤_}
+use Prim.Native.Nat.{ℕ, suc, _-_, _≤_}
 use native.Mathlib.Omega.{arith}
 use lib.ListN.{length, getD, replicate, length-append, length-replicate}
-use lib.Seq.{getD-append-add}
 use Rattle.tables.specs.Table.{sizesFit}
-use Rattle.tables.proofs.Fit.{sizes-of, zeros-at}
+use Rattle.tables.proofs.Fit.{sizes-of, zeros-at, padded-zero}
 use Rattle.tables.specs.Made.{madeRows, madeTable, columns, making}
 use Rattle.tables.specs.Triangle.{MADE-WHOLE}
 use Rattle.tables.proofs.Triangle.{made-length}
@@ -39,11 +37,8 @@ making-room n m = go (sizesFit n 2 m) refl
 made-blank : (n m i : ℕ) → 1 ≤ n → n ≤ suc i → getD (madeTable n m .rows) i 0 ≡ 0
 unfolding madeTable
 made-blank n m i from h =
-    let rows = madeRows columns n (n - 1) in
     let size = made-length columns n (n - 1) in
-    let e : i ≡ length rows + (i - (n - 1)) = omega arith in
-    ap (λ (k : ℕ). getD (rows ++ replicate (16 - n) 0) k 0) e
-    ∙ getD-append-add rows (replicate (16 - n) 0) (i - (n - 1)) 0 ∙ zeros-at (16 - n) (i - (n - 1))
+    padded-zero (madeRows columns n (n - 1)) (16 - n) i (omega arith)
 
 making-blank : (n m i : ℕ) → making n m .table .symbols ≤ suc i → getD (making n m .table .rows) i 0 ≡ 0
 unfolding making madeTable

@@ -380,7 +380,7 @@ record Agrees (g : Progress) (t : Table) : Type 0 where
   keeps : (g .table .symbols ≡ t .symbols) × (g .table .span ≡ t .span) × (g .table .depth ≡ t .depth)
   rows : (i : ℕ) → getD (g .given) i false ≡ true → getD (t .rows) i 0 ≡ getD (g .table .rows) i 0
 
-same-table : (a b : Table) → a .symbols ≡ b .symbols → a .span ≡ b .span → a .depth ≡ b .depth
+pub same-table : (a b : Table) → a .symbols ≡ b .symbols → a .span ≡ b .span → a .depth ≡ b .depth
     → a .rows ≡ b .rows → a ≡ b
 same-table a b p q r s =
     let e : table (a .symbols) (a .span) (a .depth) (a .rows) ≡ table (b .symbols) (b .span) (b .depth) (b .rows) =
@@ -541,7 +541,7 @@ module _ (t : Table) (w : Whole t) (rest : List ℕ) where
   unfolding sized
   begun-agrees = record { keeps = (refl, refl, refl); rows = λ i q. never (sym (none-given 15 i) ∙ q) }
 
-written-parsed : (bytes : List ℕ) (t : Table) → Written bytes t → parse bytes ≡ parsed t
+pub written-parsed : (bytes : List ℕ) (t : Table) → Written bytes t → parse bytes ≡ parsed t
 unfolding parse
 written-parsed bytes t w =
     let rest = rowRecords t (w .order) ++ (0 ∷ []) in

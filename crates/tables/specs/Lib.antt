@@ -8,5 +8,6 @@ pub mod Laws
 pub mod Format
 pub mod Reading
 pub mod Written
+pub mod Writing
 pub mod Made
 pub mod Triangle

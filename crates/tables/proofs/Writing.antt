@@ -1,0 +1,209 @@
+-- What is written reads back, tells tables apart, and is the file that was read with its rows sorted. Assumes nothing.
+use mathlib.Core.Path.{_≡_, refl, sym, ap, subst, _∙_}
+use mathlib.Core.Bool.{Bool, true, false, cond, false≢true}
+use mathlib.Core.List.{List, [], _∷_, _++_, map, flatMap}
+use Prim.Native.Nat.{ℕ, zero, suc, _+_, _-_, _*_, _≤_, _<_}
+use native.Mathlib.Omega.{arith}
+use borrow.Author.Tests.{le-ltb}
+use lib.Dec.{ltb}
+use lib.ListN.{length, getD, take, drop, length-append}
+use lib.Seq.{take-at, drop-append-add, drop-append-seam}
+use Rattle.tables.specs.declared.table.Table.{Table}
+use Rattle.tables.specs.declared.judge.Judgement.{Judgement}
+use Rattle.tables.specs.declared.judge.Judgement.the-variants.{Unfit, Clash, Sound}
+use Rattle.tables.specs.declared.read.ReadAnswer.the-variants.{Accepted}
+use Rattle.tables.specs.declared.write.WriteAnswer.{WriteAnswer}
+use Rattle.tables.specs.declared.write.WriteAnswer.the-variants.{Written as WrittenBytes, Refused, Unsuitable}
+use Rattle.tables.specs.Code.{Suitable}
+use Rattle.tables.specs.Table.{infoRows, rowsOf, fit, SameTable}
+use Rattle.tables.specs.Judging.{Judges}
+use Rattle.tables.specs.Format.{parsed, parse}
+use Rattle.tables.specs.Reading.{reading}
+use Rattle.tables.specs.Written.{bytesOf, sizesRecord, rowRecord, rowRecords, EachOnce}
+use Rattle.tables.specs.Writing.{ascending, written, writtenLength, writeNumbers, writeResult, Writes, rowNumber}
+use Rattle.tables.specs.Writing.{sorted, rowRecordsOf, sortedFile, READS-BACK, SAME-BYTES, FILE-SORTED}
+use Rattle.tables.proofs.Fit.{fit-facts}
+use Rattle.tables.proofs.Reading.{accepted-suitable, suitable-accepted}
+use Rattle.tables.proofs.Written.{written-parsed, parses-exactly}
+use Rattle.tables.proofs.Stores.{records-length, ascending-length, written-length}
+use Rattle.tables.proofs.Trimmed.{trimmed, trimmed-same, trimmed-whole, same-row, whole-same}
+use Rattle.tables.proofs.Sorted.{sortedNumbers, sorted-map, sorted-length, each-once, sorted-once}
+
+-- ---- tables that are the same have the same bytes
+
+records-same : (u t : Table) (n j c : ℕ) → 1 ≤ j → j + c ≤ n
+    → ((i : ℕ) → suc i < n → getD (u .rows) i 0 ≡ getD (t .rows) i 0)
+    → rowRecords u (ascending j c) ≡ rowRecords t (ascending j c)
+unfolding ascending rowRecords
+records-same u t n j zero from to f = refl
+records-same u t n j (suc c) from to f =
+    rw (f (j - 1) (omega arith), records-same u t n (suc j) c (omega arith) (omega arith) f)
+
+written-same : (u t : Table) → 1 ≤ t .symbols → SameTable u t → written u ≡ written t
+unfolding written
+written-same u t h s =
+    let rows : rowRecords u (ascending 1 (u .symbols - 1)) ≡ rowRecords t (ascending 1 (t .symbols - 1)) =
+    ap (λ (k : ℕ). rowRecords u (ascending 1 (k - 1))) (s .symbols)
+    ∙ records-same u t (t .symbols) 1 (t .symbols - 1) (omega arith) (omega arith) (same-row u t s) in
+    rw (rows, s .symbols, s .span, s .depth)
+
+-- ---- reading them
+
+written-parses : (t : Table) → fit t ≡ true → length (t .rows) ≡ 15 → parse (written t) ≡ parsed (trimmed t)
+unfolding written
+written-parses t f room =
+    let z = fit-facts t f in
+    written-parsed (written t) (trimmed t) (record {
+      whole = trimmed-whole t f room;
+      order = ascending 1 (t .symbols - 1);
+      each-once = each-once (t .symbols) (omega arith);
+      same = sym (written-same (trimmed t) t (omega arith) (trimmed-same t f room));
+    })
+
+-- a count of bytes is the answer of a fit and suitable table only
+record Stored (t : Table) (before : List ℕ) (c : ℕ) (after : List ℕ) : Type 0 where
+  fits : fit t ≡ true
+  suits : Suitable (t .span) (rowsOf t)
+  count : c ≡ writtenLength t
+  bytes : take c after ≡ written t
+
+stored : (t : Table) (before after : List ℕ) (c : ℕ) → Writes t before (WrittenBytes c) after → Stored t before c after
+stored t before after c w = go (w .judgement) (w .right) (w .answer)
+  where
+    counted : (b : Bool) → 0 ∷ c ∷ [] ≡ cond b (16 ∷ []) (0 ∷ writtenLength t ∷ []) → c ≡ writtenLength t
+    counted true e = absurd (omega (arith, ap length e))
+    counted false e = ap (λ (l : List ℕ). getD l 1 0) e
+
+    go : (j : Judgement) → Judges t j → writeNumbers (WrittenBytes c) ≡ writeResult t (length before) j
+        → Stored t before c after
+    go Unfit r e = absurd (omega (arith, ap length e))
+    go (Clash l e0 e1) r e = absurd (omega (arith, ap length e))
+    go Sound r e =
+        let n : c ≡ writtenLength t = counted (ltb (length before) (writtenLength t)) e in
+        let z = fit-facts t (r .0) in
+        record {
+          fits = r .0;
+          suits = r .1;
+          count = n;
+          bytes = ap (take c) (w .buffer)
+              ∙ take-at (written t) (drop c before) c (written-length t (omega arith) ∙ sym n);
+        }
+
+pub reads-back : READS-BACK
+reads-back t before after c r room w q =
+    let s = stored t before after c w in
+    let whole = trimmed-whole t (s .fits) room in
+    let same = trimmed-same t (s .fits) room in
+    let rows : rowsOf (trimmed t) ≡ rowsOf t = ap (λ (l : List ℕ). l ++ (1 ∷ [])) (same .rows) in
+    let back : r ≡ reading Accepted (trimmed t) =
+    suitable-accepted (take c after) (trimmed t) r q (ap parse (s .bytes) ∙ written-parses t (s .fits) room)
+    (subst (λ (l : List ℕ). Suitable (t .span) l) (sym rows) (s .suits)) in
+    rw back (refl, whole, same, λ v. whole-same (trimmed t) t whole v same)
+
+-- ---- tables by their bytes
+
+parsed-same : (t u : Table) → parsed t ≡ parsed u → t ≡ u
+parsed-same t u e = cc
+
+pub same-bytes : SAME-BYTES
+same-bytes t u f g a b = (
+  λ s. let z = fit-facts u g in written-same t u (omega arith) s,
+  λ e. back (
+      parsed-same (trimmed t) (trimmed u) (sym (written-parses t f a) ∙ ap parse e ∙ written-parses u g b)
+      ),
+)
+  where
+    back : trimmed t ≡ trimmed u → SameTable t u
+    back e =
+        let n : t .symbols ≡ u .symbols = ap (λ (v : Table). v .symbols) e in
+        record {
+          symbols = n;
+          span = ap (λ (v : Table). v .span) e;
+          depth = ap (λ (v : Table). v .depth) e;
+          rows =
+              ap (λ (k : ℕ). take (k - 1) (t .rows)) (sym n)
+              ∙ sym (trimmed-same t f a .rows)
+              ∙ ap infoRows e
+              ∙ trimmed-same u g b .rows;
+        }
+
+-- ---- an accepted file
+
+records-split : (t : Table) (js rest : List ℕ)
+    → rowRecordsOf (length js) (rowRecords t js ++ rest) ≡ map (rowRecord t) js
+unfolding rowRecords rowRecordsOf bytesOf
+records-split t [] rest = refl
+records-split t (j ∷ js) rest = ap (λ (l : List (List ℕ)). rowRecord t j ∷ l) (records-split t js rest)
+
+records-joined : (t : Table) (js : List ℕ) → flatMap (λ r. r) (map (rowRecord t) js) ≡ rowRecords t js
+unfolding flatMap rowRecords
+records-joined t [] = refl
+records-joined t (j ∷ js) = ap (λ (l : List ℕ). rowRecord t j ++ l) (records-joined t js)
+
+abbrev file : Table → List ℕ → List ℕ
+file t js = sizesRecord t ++ (rowRecords t js ++ (0 ∷ []))
+
+module _ (t : Table) (js : List ℕ) (h : 1 ≤ t .symbols) (each : EachOnce (t .symbols) js) where
+  order-length : length js ≡ t .symbols - 1
+  order-length =
+      sym (sorted-length (λ k. k) js) ∙ ap length (sorted-once (t .symbols) js h each)
+      ∙ ascending-length 1 (t .symbols - 1)
+
+  rows-sorted : flatMap (λ r. r) (sorted rowNumber (rowRecordsOf (t .symbols - 1) (rowRecords t js ++ (0 ∷ []))))
+      ≡ rowRecords t (ascending 1 (t .symbols - 1))
+  rows-sorted =
+      let split : rowRecordsOf (t .symbols - 1) (rowRecords t js ++ (0 ∷ [])) ≡ map (rowRecord t) js =
+      ap (λ (c : ℕ). rowRecordsOf c (rowRecords t js ++ (0 ∷ []))) (sym order-length) ∙ records-split t js (0 ∷ []) in
+      ap (λ (rs : List (List ℕ)). flatMap (λ r. r) (sorted rowNumber rs)) split
+      ∙ ap (flatMap (λ r. r)) (sorted-map rowNumber (rowRecord t) js)
+      ∙ records-joined t (sortedNumbers js)
+      ∙ ap (rowRecords t) (sorted-once (t .symbols) js h each)
+
+  file-length : length (file t js) ≡ writtenLength t
+  file-length =
+      let n = records-length t js in
+      let m = order-length in
+      let e = length-append (rowRecords t js) (0 ∷ []) in
+      omega arith
+
+  after-rows : drop (4 + 10 * (t .symbols - 1)) (file t js) ≡ 0 ∷ []
+  after-rows =
+      let n = records-length t js in
+      let m = order-length in
+      let e : 4 + 10 * (t .symbols - 1) ≡ 4 + length (rowRecords t js) = omega arith in
+      ap (λ (k : ℕ). drop k (file t js)) e ∙ drop-append-add (sizesRecord t) (rowRecords t js ++ (0 ∷ [])) (length (rowRecords t js))
+      ∙ drop-append-seam (rowRecords t js) (0 ∷ [])
+
+  file-written : sortedFile (file t js) ≡ written t
+  unfolding written
+  file-written = rw (rows-sorted, after-rows)
+
+-- with room, a fit and suitable table is written
+accepted-written : (t : Table) (before after : List ℕ) (a : WriteAnswer) → fit t ≡ true → Suitable (t .span) (rowsOf t)
+    → writtenLength t ≤ length before → Writes t before a after → a ≡ WrittenBytes (writtenLength t)
+accepted-written t before after a f suits room w = go (w .judgement) (w .right) (w .answer)
+  where
+    count : (b : WriteAnswer) → writeNumbers b ≡ 0 ∷ writtenLength t ∷ [] → b ≡ WrittenBytes (writtenLength t)
+    count (WrittenBytes c) e = ap WrittenBytes (ap (λ (l : List ℕ). getD l 1 0) e)
+    count (Refused k) e = absurd (omega (arith, ap length e))
+    count (Unsuitable l e0 e1) e = absurd (omega (arith, ap length e))
+
+    go : (j : Judgement) → Judges t j → writeNumbers a ≡ writeResult t (length before) j
+        → a ≡ WrittenBytes (writtenLength t)
+    go Unfit r e = absurd (false≢true (sym r ∙ f))
+    go (Clash l e0 e1) r e = absurd (suits l e0 e1 (r .1))
+    go Sound r e = count a (e ∙ rw (le-ltb (length before) (writtenLength t) room))
+
+pub file-sorted : FILE-SORTED
+file-sorted bytes r before after a b q acc room w =
+    let t = r .table in
+    let x = accepted-suitable bytes r q acc in
+    let v = parses-exactly bytes t b .0 (x .0) in
+    let z = fit-facts t (x .1) in
+    let many : 1 ≤ t .symbols = omega arith in
+    let sort : sortedFile bytes ≡ written t =
+    ap sortedFile (v .same) ∙ file-written t (v .order) many (v .each-once) in
+    let size : length bytes ≡ writtenLength t = ap length (v .same) ∙ file-length t (v .order) many (v .each-once) in
+    let count : a ≡ WrittenBytes (length bytes) =
+    accepted-written t before after a (x .1) (x .2) (omega arith) w ∙ ap WrittenBytes (sym size) in
+    (count, w .buffer ∙ rw (count, sort))

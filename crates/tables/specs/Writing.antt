@@ -1,0 +1,119 @@
+-- 02, CR 2, "Tables written back": the bytes of a table with its rows ascending, what writing answers, and what it
+-- leaves of the lent buffer.
+--
+--   ascending j c       the c numbers from j on
+--   written t           the bytes of t: sizes, rows ascending, end
+--   writtenLength t     their number, 10n − 5
+--   writeNumbers a      02's number of an answer and its values: 0 and the count of bytes written, or a refusal's
+--   writeResult t room j   the same by the judgement j of t and the length of the buffer
+--   writeBuffer a t before   what the answer a leaves of the buffer
+--   Writes t before a after   what `write` promises
+--   rowNumber, inserted, sorted   row records by their numbers, ascending
+--   rowRecordsOf c s    the first c row records of s
+--   sortedFile bytes    a file with its rows sorted
+--   WRITTEN-LENGTH      the bytes are 10n − 5
+--   READS-BACK          what was written is accepted, and says the table
+--   SAME-BYTES          tables are equal exactly if their bytes are
+--   FILE-SORTED         writing an accepted file gives that file with its rows sorted
+use mathlib.Core.Path.{_≡_}
+use mathlib.Core.Logic.{_↔_}
+use mathlib.Core.Bool.{true, cond}
+use mathlib.Core.List.{List, [], _∷_, _++_, flatMap}
+use Prim.Native.Nat.{ℕ, zero, suc, _+_, _-_, _*_, _≤_, _<_}
+use lib.Dec.{leb, ltb}
+use lib.ListN.{length, getD, take, drop}
+use Rattle.tables.specs.declared.table.Table.{Table}
+use Rattle.tables.specs.declared.judge.Judgement.{Judgement}
+use Rattle.tables.specs.declared.judge.Judgement.the-variants.{Unfit, Clash, Sound}
+use Rattle.tables.specs.declared.read.ReadAnswer.the-variants.{Accepted}
+use Rattle.tables.specs.declared.read.Reading.{Reading}
+use Rattle.tables.specs.declared.write.WriteAnswer.{WriteAnswer}
+use Rattle.tables.specs.declared.write.WriteAnswer.the-variants.{Written, Refused, Unsuitable}
+use Rattle.tables.specs.Table.{fit, Whole, SameTable}
+use Rattle.tables.specs.Judging.{Judges}
+use Rattle.tables.specs.Reading.{Read}
+use Rattle.tables.specs.Written.{sizesRecord, rowRecords}
+
+unfoldable pub ascending : ℕ → ℕ → List ℕ
+ascending j zero = []
+ascending j (suc c) = j ∷ ascending (suc j) c
+
+-- "A writer puts it into a lent buffer: sizes, rows ascending, end, which is 10n − 5 bytes."
+unfoldable pub written : Table → List ℕ
+written t = sizesRecord t ++ (rowRecords t (ascending 1 (t .symbols - 1)) ++ (0 ∷ []))
+
+abbrev pub writtenLength : Table → ℕ
+writtenLength t = 10 * t .symbols - 5
+
+abbrev pub writeNumbers : WriteAnswer → List ℕ
+writeNumbers (Written c) = 0 ∷ c ∷ []
+writeNumbers (Refused k) = k ∷ []
+writeNumbers (Unsuitable l e0 e1) = 10 ∷ l ∷ e0 ∷ e1 ∷ []
+
+-- "Answers: first 12 as for a step, then 10, then 16, the buffer is shorter than 10n − 5." The judgement is 12, 10 with
+-- its triple, or neither.
+abbrev pub writeResult : Table → ℕ → Judgement → List ℕ
+writeResult t room Unfit = 12 ∷ []
+writeResult t room (Clash l e0 e1) = 10 ∷ l ∷ e0 ∷ e1 ∷ []
+writeResult t room Sound = cond (ltb room (writtenLength t)) (16 ∷ []) (0 ∷ writtenLength t ∷ [])
+
+-- "Bytes past the written ones stay." A refusal writes nothing.
+abbrev pub writeBuffer : WriteAnswer → Table → List ℕ → List ℕ
+writeBuffer (Written c) t before = written t ++ drop c before
+writeBuffer (Refused k) t before = before
+writeBuffer (Unsuitable l e0 e1) t before = before
+
+-- as in reading, only the triple of 10 is left free, and with it the judgement: all else is decided
+pub record Writes (t : Table) (before : List ℕ) (a : WriteAnswer) (after : List ℕ) : Type 0 where
+  pub judgement : Judgement
+  pub right : Judges t judgement
+  pub answer : writeNumbers a ≡ writeResult t (length before) judgement
+  pub buffer : after ≡ writeBuffer a t before
+
+-- of every table of at least one symbol
+abbrev pub WRITTEN-LENGTH : Type 0
+WRITTEN-LENGTH = (t : Table) → 1 ≤ t .symbols → length (written t) ≡ writtenLength t
+
+-- "Reading what was written returns the table." Rows past n − 1 are not written, and are 0 in what reading returns: a
+-- table that has them 0, as one that was read or made, comes back as it was. A table by value has fifteen rows.
+abbrev pub READS-BACK : Type 0
+READS-BACK =
+    (t : Table) (before after : List ℕ) (c : ℕ) (r : Reading) → length (t .rows) ≡ 15
+    → Writes t before (Written c) after → Read (take c after) r
+    → (r .answer ≡ Accepted) × Whole (r .table) × SameTable (r .table) t × (Whole t → r .table ≡ t)
+
+-- "Two accepted tables, compared by n, N, m and rows 1 to n − 1, are equal exactly if their written bytes are." They
+-- need only be fit, as accepted ones are.
+abbrev pub SAME-BYTES : Type 0
+SAME-BYTES =
+    (t u : Table) → fit t ≡ true → fit u ≡ true → length (t .rows) ≡ 15 → length (u .rows) ≡ 15
+    → SameTable t u ↔ (written t ≡ written u)
+
+-- the byte after the kind
+abbrev pub rowNumber : List ℕ → ℕ
+rowNumber r = getD r 1 0
+
+unfoldable pub inserted : {A : Type 0} → (A → ℕ) → A → List A → List A
+inserted key r [] = r ∷ []
+inserted key r (q ∷ qs) = cond (leb (key r) (key q)) (r ∷ q ∷ qs) (q ∷ inserted key r qs)
+
+unfoldable pub sorted : {A : Type 0} → (A → ℕ) → List A → List A
+sorted key [] = []
+sorted key (r ∷ rs) = inserted key r (sorted key rs)
+
+unfoldable pub rowRecordsOf : ℕ → List ℕ → List (List ℕ)
+rowRecordsOf zero s = []
+rowRecordsOf (suc c) s = take 10 s ∷ rowRecordsOf c (drop 10 s)
+
+-- the sizes record of four bytes, whose second is n; the n − 1 row records, sorted; and what follows them
+abbrev pub sortedFile : List ℕ → List ℕ
+sortedFile bytes =
+    let rows = getD bytes 1 0 - 1 in
+    take 4 bytes ++ (flatMap (λ r. r) (sorted rowNumber (rowRecordsOf rows (drop 4 bytes))) ++ drop (4 + 10 * rows) bytes)
+
+-- "Writing an accepted file returns that file with its rows sorted."
+abbrev pub FILE-SORTED : Type 0
+FILE-SORTED =
+    (bytes : List ℕ) (r : Reading) (before after : List ℕ) (a : WriteAnswer) → ((i : ℕ) → getD bytes i 0 < 256)
+    → Read bytes r → r .answer ≡ Accepted → length bytes ≤ length before → Writes (r .table) before a after
+    → (a ≡ Written (length bytes)) × (after ≡ sortedFile bytes ++ drop (length bytes) before)
