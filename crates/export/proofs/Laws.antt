@@ -1,23 +1,32 @@
 -- What the numbers tell a caller. Assumes nothing.
-use mathlib.Core.Path.{_≡_, refl, sym, ap, _∙_}
+use mathlib.Core.Path.{_≡_, refl, sym, ap, subst, _∙_}
 use mathlib.Core.Bool.{Bool, true, false, cond}
 use mathlib.Core.Logic.{_≢_}
 use mathlib.Core.List.{List, [], _∷_}
 use Prim.Native.Nat.{ℕ, _-_, _*_, _<_}
 use native.Mathlib.Decide.{ℕ-discrete}
 use native.Mathlib.Omega.{arith}
-use lib.ListN.{getD, take}
+use borrow.Author.Tests.{ltb-true, ltb-false}
+use lib.Dec.{ltb}
+use lib.ListN.{length, getD, take}
 use Rattle.tables.specs.declared.table.Table.{Table}
 use Rattle.tables.specs.declared.make.MakeAnswer.{MakeAnswer}
 use Rattle.tables.specs.declared.read.ReadAnswer.{ReadAnswer}
 use Rattle.tables.specs.declared.read.ReadAnswer.the-variants.{Accepted, Refused, Unsuitable}
+use Rattle.tables.specs.declared.judge.Judgement.{Judgement}
+use Rattle.tables.specs.declared.judge.Judgement.the-variants.{Unfit, Clash, Sound}
+use Rattle.tables.specs.declared.write.WriteAnswer.{WriteAnswer}
+use Rattle.tables.specs.declared.write.WriteAnswer.the-variants as write
 use Rattle.tables.specs.Code.{Suitable}
-use Rattle.tables.specs.Table.{rowsOf, sizesFit, Whole}
+use Rattle.tables.specs.Table.{rowsOf, sizesFit, fit, Whole}
 use Rattle.tables.specs.Format.{refused}
 use Rattle.tables.specs.Reading.{numbers, ReadNumbers}
+use Rattle.tables.specs.Judging.{Judges}
+use Rattle.tables.specs.Writing.{writtenLength, writeNumbers, writeResult, writeBuffer}
 use Rattle.tables.specs.Made.{columns, triangleRows, making, madeNumbers}
 use Rattle.tables.proofs.Reading.{refused-range}
 use Rattle.tables.proofs.Written.{parses-exactly}
+use Rattle.tables.proofs.Writing.{same-answer}
 use Rattle.tables.proofs.Made.{made, is-made, not-made}
 use Rattle.tables.proofs.MadeWhole.{made-whole}
 use Rattle.link.specs.Refusals.{startFault, coderFault, decoderFault, callNumbers}
@@ -31,8 +40,8 @@ use Rattle.export.specs.declared.coded.BurstCoded.{BurstCoded}
 use Rattle.export.specs.declared.decoded.BurstDecoded.{BurstDecoded}
 use Rattle.export.specs.Numbers.{numbersOf, givenBack}
 use Rattle.export.proofs.Numbers.{given-back}
-use Rattle.export.specs.Answers.{numberOf, readingOf, codedOf, decodedOf}
-use Rattle.export.specs.Laws.{ReadTold, READ-TOLD, MADE-TOLD, START-TOLD, CODE-TOLD, DECODE-TOLD}
+use Rattle.export.specs.Answers.{numberOf, readingOf, writtenOf, codedOf, decodedOf}
+use Rattle.export.specs.Laws.{ReadTold, READ-TOLD, WriteTold, WRITE-TOLD, MADE-TOLD, START-TOLD, CODE-TOLD, DECODE-TOLD}
 
 read-so : (bytes : List ℕ) → ((i : ℕ) → getD bytes i 0 < 256) → (a : ReadAnswer) (u : Table) (before : List ℕ)
     → ReadNumbers bytes (numbers a) u
@@ -62,6 +71,55 @@ pub read-told : READ-TOLD
 read-told bytes r before after low reads =
     let told = read-so bytes low (reads .reading .answer) (reads .reading .table) before (reads .right) in
     rw (reads .table, reads .answer) told
+
+-- the answer that the judgement and the length of the bytes decide
+module _ (t : Table) (before : List ℕ) where
+  abbrev Told : WriteAnswer → Type 0
+  Told a = (after : List ℕ) → after ≡ writeBuffer a t before → WriteTold t before (writtenOf (writeNumbers a)) after
+
+  sound-told : fit t ≡ true → Suitable (t .span) (rowsOf t) → (a : WriteAnswer) (b : Bool)
+      → ltb (length before) (writtenLength t) ≡ b → writeNumbers a ≡ cond b (16 ∷ []) (0 ∷ writtenLength t ∷ [])
+      → Told a
+  sound-told f s a true q e =
+      let short = ltb-true (length before) (writtenLength t) q in
+      subst Told (sym (same-answer a (write.Refused 16) e)) (λ after m. record {
+        done = λ z. absurd (omega arith);
+        left = λ z. m;
+        unfit = λ z. absurd (omega arith);
+        clashes = λ z. absurd (omega arith);
+        short = λ x y z. (f, s, short, refl);
+      })
+  sound-told f s a false q e =
+      let room = ltb-false (length before) (writtenLength t) q in
+      subst Told (sym (same-answer a (write.Written (writtenLength t)) e)) (λ after m. record {
+        done = λ z. (f, s, room, m, refl);
+        left = λ z. absurd (z refl);
+        unfit = λ z. absurd (omega arith);
+        clashes = λ z. absurd (omega arith);
+        short = λ x y z. absurd (x refl);
+      })
+
+  write-so : (a : WriteAnswer) (j : Judgement) → Judges t j → writeNumbers a ≡ writeResult t (length before) j → Told a
+  write-so a Unfit s e = subst Told (sym (same-answer a (write.Refused 12) e)) (λ after m. record {
+    done = λ z. absurd (omega arith);
+    left = λ z. m;
+    unfit = λ z. (s, refl);
+    clashes = λ z. absurd (omega arith);
+    short = λ x y z. absurd (y refl);
+  })
+  write-so a (Clash l e0 e1) s e = subst Told (sym (same-answer a (write.Unsuitable l e0 e1) e)) (λ after m. record {
+    done = λ z. absurd (omega arith);
+    left = λ z. m;
+    unfit = λ z. absurd (omega arith);
+    clashes = λ z. (s .0, s .1, refl);
+    short = λ x y z. absurd (z refl);
+  })
+  write-so a Sound s e = sound-told (s .0) (s .1) a (ltb (length before) (writtenLength t)) refl e
+
+pub write-told : WRITE-TOLD
+write-told t before r after h =
+    let w = h .right in
+    rw (h .answer) (write-so t before (h .written) (w .judgement) (w .right) (w .answer) after (w .buffer))
 
 pub made-told : MADE-TOLD
 made-told n m before r after told = go (sizesFit n 2 m) refl

@@ -1,10 +1,11 @@
--- The struct of numbers of an answer, made of 01's numbers, which the crates below name: `numbers`, `madeNumbers` and
--- `callNumbers`. What does not apply is 0.
+-- The struct of numbers of an answer, made of the papers' numbers, which the crates below name: `numbers`,
+-- `writeNumbers`, `madeNumbers` and `callNumbers`. What does not apply is 0.
 --
 --   numberOf ns       the refusal's number, or 0
 --   codedOf ns        of a coder's step: number, block
 --   decodedOf ns      of a decoder's step: number, information, the mark's number, e or 0
 --   readingOf ns      of reading: number; the place of refusals 1 to 9; l, e0 and e1 of 10
+--   writtenOf ns      of writing: number; how many bytes were written; l, e0 and e1 of 10
 --   MARK-RANGE        a mark's number is at most 4
 use mathlib.Core.List.{List, [], _∷_}
 use Prim.Native.Nat.{ℕ, _≤_}
@@ -12,6 +13,7 @@ use lib.ListN.{getD}
 use Rattle.link.specs.declared.decode.DecodeAnswer.{DecodeAnswer}
 use Rattle.link.specs.Decoder.{decodeNumbers}
 use Rattle.export.specs.declared.reading.BurstReading.{BurstReading}
+use Rattle.export.specs.declared.written.BurstWritten.{BurstWritten}
 use Rattle.export.specs.declared.coded.BurstCoded.{BurstCoded}
 use Rattle.export.specs.declared.decoded.BurstDecoded.{BurstDecoded}
 
@@ -32,6 +34,14 @@ readingOf (k ∷ []) = record { refused = k; place = 0; l = 0; e0 = 0; e1 = 0 }
 readingOf (k ∷ p ∷ []) = record { refused = k; place = p; l = 0; e0 = 0; e1 = 0 }
 readingOf (k ∷ l ∷ e0 ∷ []) = record { refused = k; place = 0; l = l; e0 = e0; e1 = 0 }
 readingOf (k ∷ l ∷ e0 ∷ e1 ∷ ns) = record { refused = k; place = 0; l = l; e0 = e0; e1 = e1 }
+
+-- the same with the count of bytes for the place: 0 and a count, 10 and the triple, or the number of another refusal
+abbrev pub writtenOf : List ℕ → BurstWritten
+writtenOf [] = record { refused = 0; length = 0; l = 0; e0 = 0; e1 = 0 }
+writtenOf (k ∷ []) = record { refused = k; length = 0; l = 0; e0 = 0; e1 = 0 }
+writtenOf (k ∷ c ∷ []) = record { refused = k; length = c; l = 0; e0 = 0; e1 = 0 }
+writtenOf (k ∷ l ∷ e0 ∷ []) = record { refused = k; length = 0; l = l; e0 = e0; e1 = 0 }
+writtenOf (k ∷ l ∷ e0 ∷ e1 ∷ ns) = record { refused = k; length = 0; l = l; e0 = e0; e1 = e1 }
 
 -- 0 to 4, as CR 1 of 02 numbers them; the numbers of refusals have `REFUSED-CALLS`
 abbrev pub MARK-RANGE : Type 0

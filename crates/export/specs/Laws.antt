@@ -3,6 +3,9 @@
 --   READ-TOLD     reading: number 0 says that the bytes say a suitable table, which is given back; any other, that no
 --                 number was written, and the place, or the triple, is the refusal's
 --   ReadTold      what a reading tells
+--   WRITE-TOLD    writing: number 0 says that the table is fit and suitable, and its bytes were written; any other, that
+--                 nothing was written, and the first of 12, 10 and 16 that applies
+--   WriteTold     what a writing tells
 --   MADE-TOLD     making: number 0 says that n and m are in range, and our suitable table is given back; any other is
 --                 11, and no number was written
 --   START-TOLD    a start: number 0 says that every word is 0; any other is the first of 12 and 13 that applies, and no
@@ -10,26 +13,28 @@
 --   CODE-TOLD, DECODE-TOLD   a step: number 0 comes with the values of the step, any other, the first of 12 to 15 that
 --                 applies, with zeros, and then no word was written
 use mathlib.Core.Path.{_≡_}
-use mathlib.Core.Bool.{cond}
+use mathlib.Core.Bool.{true, false, cond}
 use mathlib.Core.Logic.{_≢_}
-use mathlib.Core.List.{List, [], _∷_}
-use Prim.Native.Nat.{ℕ, _-_, _*_, _<_}
-use lib.ListN.{getD, take}
+use mathlib.Core.List.{List, [], _∷_, _++_}
+use Prim.Native.Nat.{ℕ, _-_, _*_, _≤_, _<_}
+use lib.ListN.{length, getD, take, drop}
 use Rattle.tables.specs.declared.table.Table.{Table}
 use Rattle.tables.specs.Code.{Clashes, Suitable}
-use Rattle.tables.specs.Table.{rowsOf, sizesFit, Whole}
+use Rattle.tables.specs.Table.{rowsOf, sizesFit, fit, Whole}
 use Rattle.tables.specs.Format.{parse, refused, parsed}
+use Rattle.tables.specs.Writing.{written, writtenLength}
 use Rattle.tables.specs.Made.{columns, triangleRows, making}
 use Rattle.link.specs.Memory.{started}
 use Rattle.link.specs.Refusals.{startFault, coderFault, decoderFault}
 use Rattle.link.specs.Coder.{codedBlock, coderNext}
 use Rattle.link.specs.Decoder.{decodeValues, decoderNext}
 use Rattle.export.specs.declared.reading.BurstReading.{BurstReading}
+use Rattle.export.specs.declared.written.BurstWritten.{BurstWritten}
 use Rattle.export.specs.declared.coded.BurstCoded.{BurstCoded}
 use Rattle.export.specs.declared.decoded.BurstDecoded.{BurstDecoded}
 use Rattle.export.specs.Numbers.{numbersOf}
-use Rattle.export.specs.Answers.{readingOf, codedOf, decodedOf}
-use Rattle.export.specs.Promises.{Reads, MakesTable, StartsBy, CodesBy, DecodesBy}
+use Rattle.export.specs.Answers.{readingOf, writtenOf, codedOf, decodedOf}
+use Rattle.export.specs.Promises.{Reads, WritesBy, MakesTable, StartsBy, CodesBy, DecodesBy}
 
 -- what reading answers, r, and what it leaves of the numbers lent for the table; `Whole`: the table is fit, and its
 -- rows past n − 1 are 0
@@ -50,6 +55,24 @@ READ-TOLD =
     (bytes : List ℕ) (r : BurstReading) (before after : List ℕ) → ((i : ℕ) → getD bytes i 0 < 256)
     → Reads bytes r before after
     → ReadTold bytes r before after
+
+-- what writing answers, r, and what it leaves of the lent bytes
+pub record WriteTold (t : Table) (before : List ℕ) (r : BurstWritten) (after : List ℕ) : Type 0 where
+  pub done : r .refused ≡ 0
+      → (fit t ≡ true) × Suitable (t .span) (rowsOf t) × (writtenLength t ≤ length before)
+      × (after ≡ written t ++ drop (writtenLength t) before) × (r ≡ writtenOf (0 ∷ writtenLength t ∷ []))
+  pub left : r .refused ≢ 0 → after ≡ before
+  pub unfit : r .refused ≡ 12 → (fit t ≡ false) × (r ≡ writtenOf (12 ∷ []))
+  pub clashes : r .refused ≡ 10
+      → (fit t ≡ true) × Clashes (t .span) (rowsOf t) (r .l) (r .e0) (r .e1)
+      × (r ≡ writtenOf (10 ∷ r .l ∷ r .e0 ∷ r .e1 ∷ []))
+  pub short : r .refused ≢ 0 → r .refused ≢ 12 → r .refused ≢ 10
+      → (fit t ≡ true) × Suitable (t .span) (rowsOf t) × (length before < writtenLength t) × (r ≡ writtenOf (16 ∷ []))
+
+abbrev pub WRITE-TOLD : Type 0
+WRITE-TOLD =
+    (t : Table) (before : List ℕ) (r : BurstWritten) (after : List ℕ) → WritesBy t before r after
+    → WriteTold t before r after
 
 abbrev pub MADE-TOLD : Type 0
 MADE-TOLD =

@@ -2,6 +2,7 @@
 -- every lent word.
 --
 --   Reads bytes r before after   `burst_read`: it answers r, and leaves `after` of the numbers lent for the table
+--   WritesBy t before r after   `burst_write`, on the lent bytes
 --   MakesTable n m before r after   `burst_make`
 --   StartsBy t words before r after   `burst_start_coder` and `burst_start_decoder`
 --   CodesBy t before info r after   `burst_code`
@@ -12,16 +13,19 @@ use Prim.Native.Nat.{ℕ}
 use Rattle.tables.specs.declared.table.Table.{Table}
 use Rattle.tables.specs.declared.read.Reading.{Reading}
 use Rattle.tables.specs.Reading.{numbers, Read}
+use Rattle.tables.specs.declared.write.WriteAnswer.{WriteAnswer}
+use Rattle.tables.specs.Writing.{writeNumbers, Writes}
 use Rattle.tables.specs.Made.{making, madeNumbers}
 use Rattle.link.specs.Refusals.{startFault, coderFault, decoderFault, callNumbers}
 use Rattle.link.specs.Start.{startMemory}
 use Rattle.link.specs.Coder.{codedBlock, codeMemory}
 use Rattle.link.specs.Decoder.{decodeValues, decodeMemory}
 use Rattle.export.specs.declared.reading.BurstReading.{BurstReading}
+use Rattle.export.specs.declared.written.BurstWritten.{BurstWritten}
 use Rattle.export.specs.declared.coded.BurstCoded.{BurstCoded}
 use Rattle.export.specs.declared.decoded.BurstDecoded.{BurstDecoded}
 use Rattle.export.specs.Numbers.{givenBack}
-use Rattle.export.specs.Answers.{numberOf, readingOf, codedOf, decodedOf}
+use Rattle.export.specs.Answers.{numberOf, readingOf, writtenOf, codedOf, decodedOf}
 
 -- "Only the triple of refusal 10 is left free": there is a reading that is right of the bytes (`Read`), and these are
 -- its numbers and, if it is no refusal, its table's
@@ -30,6 +34,13 @@ pub record Reads (bytes : List ℕ) (r : BurstReading) (before after : List ℕ)
   pub right : Read bytes reading
   pub answer : r ≡ readingOf (numbers (reading .answer))
   pub table : after ≡ givenBack (r .refused) (reading .table) before
+
+-- the same of writing: there is an answer that is right of the table and the lent bytes (`Writes`), and these are its
+-- numbers
+pub record WritesBy (t : Table) (before : List ℕ) (r : BurstWritten) (after : List ℕ) : Type 0 where
+  pub written : WriteAnswer
+  pub right : Writes t before written after
+  pub answer : r ≡ writtenOf (writeNumbers written)
 
 pub record MakesTable (n m : ℕ) (before : List ℕ) (r : ℕ) (after : List ℕ) : Type 0 where
   pub number : r ≡ numberOf (madeNumbers (making n m .answer))

@@ -11,3 +11,5 @@ mod reading;
 pub mod start;
 mod starting;
 mod table;
+pub mod write;
+mod written;

@@ -29,6 +29,23 @@ use Rattle.tables.proofs.Stores.{records-length, ascending-length, writ
 use Rattle.tables.proofs.Trimmed.{trimmed, trimmed-same, trimmed-whole, same-row, whole-same}
 use Rattle.tables.proofs.Sorted.{sortedNumbers, sorted-map, sorted-length, each-once, sorted-once}
 
+-- ---- an answer by its numbers
+
+pub same-answer : (a b : WriteAnswer) → writeNumbers a ≡ writeNumbers b → a ≡ b
+same-answer (WrittenBytes c) (WrittenBytes d) e = ap WrittenBytes (ap (λ (l : List ℕ). getD l 1 0) e)
+same-answer (WrittenBytes c) (Refused k) e = absurd (omega (arith, ap length e))
+same-answer (WrittenBytes c) (Unsuitable l e0 e1) e = absurd (omega (arith, ap length e))
+same-answer (Refused k) (WrittenBytes c) e = absurd (omega (arith, ap length e))
+same-answer (Refused k) (Refused i) e = ap Refused (ap (λ (l : List ℕ). getD l 0 0) e)
+same-answer (Refused k) (Unsuitable l e0 e1) e = absurd (omega (arith, ap length e))
+same-answer (Unsuitable l e0 e1) (WrittenBytes c) e = absurd (omega (arith, ap length e))
+same-answer (Unsuitable l e0 e1) (Refused k) e = absurd (omega (arith, ap length e))
+same-answer (Unsuitable l e0 e1) (Unsuitable k d0 d1) e =
+    let p : l ≡ k = ap (λ (l : List ℕ). getD l 1 0) e in
+    let q : e0 ≡ d0 = ap (λ (l : List ℕ). getD l 2 0) e in
+    let r : e1 ≡ d1 = ap (λ (l : List ℕ). getD l 3 0) e in
+    rw (p, q, r)
+
 -- ---- tables that are the same have the same bytes
 
 records-same : (u t : Table) (n j c : ℕ) → 1 ≤ j → j + c ≤ n
@@ -183,16 +200,12 @@ accepted-written : (t : Table) (before after : List ℕ) (a : WriteAnswer) → f
     → writtenLength t ≤ length before → Writes t before a after → a ≡ WrittenBytes (writtenLength t)
 accepted-written t before after a f suits room w = go (w .judgement) (w .right) (w .answer)
   where
-    count : (b : WriteAnswer) → writeNumbers b ≡ 0 ∷ writtenLength t ∷ [] → b ≡ WrittenBytes (writtenLength t)
-    count (WrittenBytes c) e = ap WrittenBytes (ap (λ (l : List ℕ). getD l 1 0) e)
-    count (Refused k) e = absurd (omega (arith, ap length e))
-    count (Unsuitable l e0 e1) e = absurd (omega (arith, ap length e))
-
     go : (j : Judgement) → Judges t j → writeNumbers a ≡ writeResult t (length before) j
         → a ≡ WrittenBytes (writtenLength t)
     go Unfit r e = absurd (false≢true (sym r ∙ f))
     go (Clash l e0 e1) r e = absurd (suits l e0 e1 (r .1))
-    go Sound r e = count a (e ∙ rw (le-ltb (length before) (writtenLength t) room))
+    go Sound r e =
+        same-answer a (WrittenBytes (writtenLength t)) (e ∙ rw (le-ltb (length before) (writtenLength t) room))
 
 pub file-sorted : FILE-SORTED
 file-sorted bytes r before after a b q acc room w =
