@@ -61,6 +61,8 @@
  *         is 2^(N-1) or more or a delayed block 2^(n-1) or more (never so once started, and stepped with one table;
  *         such a memory is to be started again)
  *     15  a step: the block is 2^(n-1) or more (information) or 2^n or more (received)
+ *   writing a table: 12, then 10 (l, e0 and e1 show it), then
+ *     16  the lent bytes are fewer than 10n - 5
  *
  * A call that refuses writes nothing that it is lent, so a sequence goes on as if the call had not come.
  */
@@ -81,6 +83,15 @@ struct burst_reading {
     uint64_t l;       /* of refusal 10: a shift, 1 to N - 1, */
     uint64_t e0;      /* an error block, below 2^n and not 0, */
     uint64_t e1;      /* and an error block, below 2^n and perhaps 0, whose image shifted by l is that of e0 */
+};
+
+/* What writing a table says. What does not apply is 0. */
+struct burst_written {
+    uint64_t refused; /* 0: written; else 12, 10 or 16 */
+    uint64_t length;  /* how many bytes were written: 10n - 5, at most 155 */
+    uint64_t l;       /* of refusal 10: a shift and two error blocks, as in struct burst_reading */
+    uint64_t e0;
+    uint64_t e1;
 };
 
 /* What a coder's step says. */
@@ -106,6 +117,19 @@ struct burst_decoded {
  * they were. The bytes are only read.
  */
 struct burst_reading burst_read(const uint8_t *bytes, size_t length, uint64_t table[18]);
+
+/*
+ * Writes a table into the lent bytes, of which there are room: the records that burst_read reads, sizes first, rows 1 to
+ * n - 1 in this order, end last, which is 10n - 5 bytes. 155 are enough for any table.
+ *
+ * Written, burst_read of the first 10n - 5 bytes accepts them, and gives the same n, N, m and rows 1 to n - 1. Tables
+ * that differ in one of these have different bytes, and tables that do not have the same. The bytes of a table that was
+ * read are those of its file with the rows sorted. Bytes past the first 10n - 5 stay as they were.
+ *
+ * Refused, 12, 10 or 16, no byte is written: nothing that burst_read would refuse is ever written. The table is only
+ * read. Its suitability is tested, which is most of what the call costs.
+ */
+struct burst_written burst_write(const uint64_t table[18], uint8_t *bytes, size_t room);
 
 /*
  * Makes the table of Berlekamp and Preparata for n symbols, with N = 2n and depth m. It is suitable.

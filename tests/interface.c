@@ -1,6 +1,6 @@
 /*
  * The C interface, called: 01's examples T1 to T6, T8 for n = 5, and T9 to T12, and each refusal's number with what it leaves unwritten;
- * T10 to T12 by the batch too, and each way that a batch ends.
+ * T10 to T12 by the batch too, and each way that a batch ends; T1 and T8 written.
  * Prints one line a call. What it prints is held to interface.stdout; that the functions do this on every input is proved.
  */
 #include <inttypes.h>
@@ -72,6 +72,49 @@ static void unsuitable(void)
                ? "the triple shows it"
                : "the triple does not show it");
     numbers(table, 18);
+}
+
+/* The bytes are two more than the room, and are printed all, those that were not written as a dash. */
+static void writing(const char *what, size_t room)
+{
+    uint8_t bytes[64];
+    struct burst_written w;
+    size_t i;
+    memset(bytes, 0xff, sizeof bytes);
+    w = burst_write(table, bytes, room);
+    printf("write %s, room %d: %" PRIu64 " length %" PRIu64 " triple %" PRIu64 " %" PRIu64 " %" PRIu64 "; bytes", what, (int)room, w.refused, w.length,
+           w.l, w.e0, w.e1);
+    for (i = 0; i < room + 2; i++) {
+        if (bytes[i] == 0xff) {
+            printf(" -");
+        } else {
+            printf(" %d", bytes[i]);
+        }
+    }
+    printf("\n");
+}
+
+/* With the table Z: the order of 12, 10 and 16, too. */
+static void writings(void)
+{
+    static const uint64_t z[18] = {2, 4, 1, 10};
+    writing("Z", 15);
+    writing("Z", 17);
+    writing("Z", 14);
+    writing("Z", 0);
+    table[4] = UINT64_MAX; /* row 2, which a table of two symbols has not */
+    writing("Z and a row more", 15);
+    table[3] = 2;
+    writing("T6, unsuitable", 15);
+    writing("T6, unsuitable", 0);
+    table[3] = 16;
+    writing("a row of five bits", 15);
+    writing("a row of five bits", 0);
+    table[0] = UINT64_MAX;
+    writing("no such symbols", 15);
+    burst_make(5, 2, table);
+    writing("T8", 46);
+    memcpy(table, z, sizeof table);
 }
 
 static void make(uint64_t n, uint64_t m)
@@ -207,6 +250,7 @@ int main(void)
     make(16, 64);
 
     reading("T1, Z", z, sizeof z - 1);
+    writings();
     start_coder(2);
     for (i = 0; i < 5; i++) {
         code(2, t10[i]);

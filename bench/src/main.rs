@@ -1,7 +1,7 @@
 //! Prints what a call takes in nanoseconds, the proved codec and the one written for speed in the same run, and their ratio: medians of
 //! several rounds, the ratio's too, answers and memories compared throughout. Then how much longer the images of all error blocks of 16
-//! symbols take with a span of 64 than with one of 4. Last, batches against single calls; the exit status is 1 if they are slower than is
-//! asked for.
+//! symbols take with a span of 64 than with one of 4, and what writing a table costs beside judging it. Last, batches against single calls;
+//! the exit status is 1 if they are slower than is asked for.
 
 mod batch;
 mod fast;
@@ -12,6 +12,15 @@ use std::time::Instant;
 struct Reading {
     refused: u64,
     place: u64,
+    l: u64,
+    e0: u64,
+    e1: u64,
+}
+
+#[repr(C)]
+struct Written {
+    refused: u64,
+    length: u64,
     l: u64,
     e0: u64,
     e1: u64,
@@ -33,6 +42,7 @@ struct Decoded {
 
 extern "C" {
     fn burst_read(bytes: *const u8, length: usize, table: *mut u64) -> Reading;
+    fn burst_write(table: *const u64, bytes: *mut u8, room: usize) -> Written;
     fn burst_code(table: *const u64, words: *mut u64, count: usize, info: u16) -> Coded;
     fn burst_decode(table: *const u64, words: *mut u64, count: usize, received: u16) -> Decoded;
 }
@@ -167,6 +177,33 @@ fn report_images() {
     println!("{:>40.2} {:>10.2}", median(ours), median(theirs));
 }
 
+/// Nanoseconds of writing a table into this much room, and the answer.
+fn written(table: &[u64; 18], bytes: &mut [u8]) -> (f64, Written) {
+    let begun = Instant::now();
+    let a = unsafe { burst_write(table.as_ptr(), bytes.as_mut_ptr(), bytes.len()) };
+    (begun.elapsed().as_nanos() as f64, a)
+}
+
+/// A table of 16 symbols with a span of 64: with no room for it it is judged alone, and then refused for 16.
+fn report_writing() {
+    let t = fast::Table { span: 64, ..made(16, 1) };
+    let (table, file) = (numbers(&t), bytes(&t));
+    let (mut alone, mut whole, mut ratios) = (vec![], vec![], vec![]);
+    for _ in 0..100 * ROUNDS {
+        let mut out = vec![0xff; file.len()];
+        let (judging, refused) = written(&table, &mut out[..0]);
+        assert_eq!((refused.refused, refused.length), (16, 0), "writing: another refusal");
+        let (writing, done) = written(&table, &mut out);
+        assert_eq!((done.refused, done.length, done.l, done.e0, done.e1), (0, 155, 0, 0, 0), "writing: refused");
+        assert_eq!(out, file, "writing: other bytes");
+        alone.push(judging);
+        whole.push(writing);
+        ratios.push(writing / judging);
+    }
+    println!("\nwriting a table, n = 16, N = 64, ns a call: judged alone, judged and written, ratio");
+    println!("{:>40.0} {:>10.0} {:>7.3}", median(alone), median(whole), median(ratios));
+}
+
 /// Blocks of a started coder, and the same with a burst of m wrong blocks after each m × (N − 1) right ones.
 fn blocks(t: &fast::Table, random: &mut Random) -> (Vec<u16>, Vec<u16>, Vec<u16>) {
     let infos: Vec<u16> = (0..STEPS).map(|_| random.below(t.n - 1)).collect();
@@ -218,6 +255,7 @@ fn main() {
         report("reading a table", &t, || timed(&once, 0, read), || timed(&once, 0, fast_read));
     }
     report_images();
+    report_writing();
     if !batch::report_all(&mut random) {
         println!("a batch of 256 blocks or more with m = 16 is slower than is asked for");
         std::process::exit(1);

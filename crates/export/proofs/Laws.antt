@@ -41,7 +41,8 @@ use Rattle.export.specs.declared.decoded.BurstDecoded.{BurstDecoded}
 use Rattle.export.specs.Numbers.{numbersOf, givenBack}
 use Rattle.export.proofs.Numbers.{given-back}
 use Rattle.export.specs.Answers.{numberOf, readingOf, writtenOf, codedOf, decodedOf}
-use Rattle.export.specs.Laws.{ReadTold, READ-TOLD, WriteTold, WRITE-TOLD, MADE-TOLD, START-TOLD, CODE-TOLD, DECODE-TOLD}
+use Rattle.export.specs.Laws.{ReadTold, READ-TOLD, WriteTold, WRITE-TOLD, MADE-TOLD}
+use Rattle.export.specs.Laws.{START-TOLD, CODE-TOLD, DECODE-TOLD}
 
 read-so : (bytes : List ℕ) → ((i : ℕ) → getD bytes i 0 < 256) → (a : ReadAnswer) (u : Table) (before : List ℕ)
     → ReadNumbers bytes (numbers a) u

@@ -3,8 +3,8 @@
 --   READ-TOLD     reading: number 0 says that the bytes say a suitable table, which is given back; any other, that no
 --                 number was written, and the place, or the triple, is the refusal's
 --   ReadTold      what a reading tells
---   WRITE-TOLD    writing: number 0 says that the table is fit and suitable, and its bytes were written; any other, that
---                 nothing was written, and the first of 12, 10 and 16 that applies
+--   WRITE-TOLD    writing: number 0 says that the table is fit and suitable, and its bytes were written; any other is
+--                 the first of 12, 10 and 16 that applies, and nothing was written
 --   WriteTold     what a writing tells
 --   MADE-TOLD     making: number 0 says that n and m are in range, and our suitable table is given back; any other is
 --                 11, and no number was written

@@ -1,12 +1,13 @@
 -- Starts and steps look at rows 1 to n − 1 only. Assumes nothing.
-use mathlib.Core.Path.{_≡_, sym, subst}
+use mathlib.Core.Path.{_≡_, subst}
 use mathlib.Core.Bool.{Bool}
 use mathlib.Core.List.{List}
 use Prim.Native.Nat.{ℕ, _+_, _-_}
 use lib.ListN.{take}
 use Rattle.tables.specs.declared.table.Table.{Table}
-use Rattle.tables.specs.Table.{table, fit, SameTable}
+use Rattle.tables.specs.Table.{table, fit}
 use Rattle.tables.proofs.Fit.{fit-same}
+use Rattle.tables.proofs.Same.{sizes-are}
 use Rattle.link.specs.Refusals.{startFault, stepFault, coderFault, decoderFault}
 use Rattle.link.specs.Start.{startAnswer, startMemory}
 use Rattle.link.specs.Coder.{coderJoining, codedBlock, coderNext, codeAnswer, codeMemory}
@@ -75,10 +76,6 @@ module _ (n N m : ℕ) (us ts : List ℕ) (e : take (n - 1) us ≡ take (n - 1) 
     (rw (coder-faults s b, blocks s b), rw (coder-faults s b, coder-nexts s b)),
     (rw (decoder-faults s b, deliveries s b), rw (decoder-faults s b, decoder-nexts s b)),
   )
-
--- a table with the sizes of another
-sizes-are : (u t : Table) → SameTable u t → table (t .symbols) (t .span) (t .depth) (u .rows) ≡ u
-sizes-are u t h = rw (sym (h .symbols), sym (h .span), sym (h .depth))
 
 pub unused-rows : UNUSED-ROWS
 unused-rows u t h words s b =

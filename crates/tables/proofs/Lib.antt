@@ -10,7 +10,7 @@ mod Progress
 pub mod Reading
 pub mod Written
 mod Stores
-mod Trimmed
+pub mod Same
 mod Sorted
 pub mod Writing
 pub mod Parsed

@@ -28,7 +28,8 @@ row-stored t out at j n h =
     rw (e, add-one j) (sym (sets-append out at (rowRecord t j) (rowRecords t (ascending (suc j) (n - suc j)))))
 
 -- none is left
-pub rows-stored : (t : Table) (out : List ℕ) (at j n : ℕ) → n ≤ j → out ≡ sets out at (rowRecords t (ascending j (n - j)))
+pub rows-stored : (t : Table) (out : List ℕ) (at j n : ℕ) → n ≤ j
+    → out ≡ sets out at (rowRecords t (ascending j (n - j)))
 unfolding rowRecords ascending
 rows-stored t out at j n h = let e : n - j ≡ 0 = omega arith in rw e
 

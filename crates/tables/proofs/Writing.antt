@@ -14,19 +14,20 @@ use Rattle.tables.specs.declared.judge.Judgement.the-variants.{Unfit, Cl
 use Rattle.tables.specs.declared.read.ReadAnswer.the-variants.{Accepted}
 use Rattle.tables.specs.declared.write.WriteAnswer.{WriteAnswer}
 use Rattle.tables.specs.declared.write.WriteAnswer.the-variants.{Written as WrittenBytes, Refused, Unsuitable}
-use Rattle.tables.specs.Code.{Suitable}
-use Rattle.tables.specs.Table.{infoRows, rowsOf, fit, SameTable}
+use Rattle.tables.specs.Code.{Clashes, Suitable}
+use Rattle.tables.specs.Table.{table, infoRows, codeRows, rowsOf, fit, SameTable}
 use Rattle.tables.specs.Judging.{Judges}
 use Rattle.tables.specs.Format.{parsed, parse}
 use Rattle.tables.specs.Reading.{reading}
 use Rattle.tables.specs.Written.{bytesOf, sizesRecord, rowRecord, rowRecords, EachOnce}
-use Rattle.tables.specs.Writing.{ascending, written, writtenLength, writeNumbers, writeResult, Writes, rowNumber}
-use Rattle.tables.specs.Writing.{sorted, rowRecordsOf, sortedFile, READS-BACK, SAME-BYTES, FILE-SORTED}
-use Rattle.tables.proofs.Fit.{fit-facts}
+use Rattle.tables.specs.Writing.{ascending, written, writtenLength, writeNumbers, writeResult, writeBuffer}
+use Rattle.tables.specs.Writing.{Writes, rowNumber, sorted, rowRecordsOf, sortedFile}
+use Rattle.tables.specs.Writing.{READS-BACK, SAME-BYTES, FILE-SORTED, WRITES-SAME}
+use Rattle.tables.proofs.Fit.{fit-facts, fit-same}
 use Rattle.tables.proofs.Reading.{accepted-suitable, suitable-accepted}
 use Rattle.tables.proofs.Written.{written-parsed, parses-exactly}
 use Rattle.tables.proofs.Stores.{records-length, ascending-length, written-length}
-use Rattle.tables.proofs.Trimmed.{trimmed, trimmed-same, trimmed-whole, same-row, whole-same}
+use Rattle.tables.proofs.Same.{trimmed, trimmed-same, trimmed-whole, same-row, whole-same, sizes-are}
 use Rattle.tables.proofs.Sorted.{sortedNumbers, sorted-map, sorted-length, each-once, sorted-once}
 
 -- ---- an answer by its numbers
@@ -48,20 +49,20 @@ same-answer (Unsuitable l e0 e1) (Unsuitable k d0 d1) e =
 
 -- ---- tables that are the same have the same bytes
 
-records-same : (u t : Table) (n j c : ℕ) → 1 ≤ j → j + c ≤ n
-    → ((i : ℕ) → suc i < n → getD (u .rows) i 0 ≡ getD (t .rows) i 0)
+records-same : (u t : Table) (j c : ℕ) → 1 ≤ j
+    → ((i : ℕ) → suc i < j + c → getD (u .rows) i 0 ≡ getD (t .rows) i 0)
     → rowRecords u (ascending j c) ≡ rowRecords t (ascending j c)
 unfolding ascending rowRecords
-records-same u t n j zero from to f = refl
-records-same u t n j (suc c) from to f =
-    rw (f (j - 1) (omega arith), records-same u t n (suc j) c (omega arith) (omega arith) f)
+records-same u t j zero from f = refl
+records-same u t j (suc c) from f =
+    rw (f (j - 1) (omega arith), records-same u t (suc j) c (omega arith) (λ i h. f i (omega arith)))
 
-written-same : (u t : Table) → 1 ≤ t .symbols → SameTable u t → written u ≡ written t
+written-same : (u t : Table) → SameTable u t → written u ≡ written t
 unfolding written
-written-same u t h s =
+written-same u t s =
     let rows : rowRecords u (ascending 1 (u .symbols - 1)) ≡ rowRecords t (ascending 1 (t .symbols - 1)) =
     ap (λ (k : ℕ). rowRecords u (ascending 1 (k - 1))) (s .symbols)
-    ∙ records-same u t (t .symbols) 1 (t .symbols - 1) (omega arith) (omega arith) (same-row u t s) in
+    ∙ records-same u t 1 (t .symbols - 1) (omega arith) (λ i h. same-row u t s i (omega arith)) in
     rw (rows, s .symbols, s .span, s .depth)
 
 -- ---- reading them
@@ -74,7 +75,7 @@ written-parses t f room =
       whole = trimmed-whole t f room;
       order = ascending 1 (t .symbols - 1);
       each-once = each-once (t .symbols) (omega arith);
-      same = sym (written-same (trimmed t) t (omega arith) (trimmed-same t f room));
+      same = sym (written-same (trimmed t) t (trimmed-same t f room));
     })
 
 -- a count of bytes is the answer of a fit and suitable table only
@@ -124,10 +125,8 @@ parsed-same t u e = cc
 
 pub same-bytes : SAME-BYTES
 same-bytes t u f g a b = (
-  λ s. let z = fit-facts u g in written-same t u (omega arith) s,
-  λ e. back (
-      parsed-same (trimmed t) (trimmed u) (sym (written-parses t f a) ∙ ap parse e ∙ written-parses u g b)
-      ),
+  written-same t u,
+  λ e. back (parsed-same (trimmed t) (trimmed u) (sym (written-parses t f a) ∙ ap parse e ∙ written-parses u g b)),
 )
   where
     back : trimmed t ≡ trimmed u → SameTable t u
@@ -188,7 +187,8 @@ module _ (t : Table) (js : List ℕ) (h : 1 ≤ t .symbols) (each : EachOnce (t 
       let n = records-length t js in
       let m = order-length in
       let e : 4 + 10 * (t .symbols - 1) ≡ 4 + length (rowRecords t js) = omega arith in
-      ap (λ (k : ℕ). drop k (file t js)) e ∙ drop-append-add (sizesRecord t) (rowRecords t js ++ (0 ∷ [])) (length (rowRecords t js))
+      ap (λ (k : ℕ). drop k (file t js)) e
+      ∙ drop-append-add (sizesRecord t) (rowRecords t js ++ (0 ∷ [])) (length (rowRecords t js))
       ∙ drop-append-seam (rowRecords t js) (0 ∷ [])
 
   file-written : sortedFile (file t js) ≡ written t
@@ -220,3 +220,46 @@ file-sorted bytes r before after a b q acc room w =
     let count : a ≡ WrittenBytes (length bytes) =
     accepted-written t before after a (x .1) (x .2) (omega arith) w ∙ ap WrittenBytes (sym size) in
     (count, w .buffer ∙ rw (count, sort))
+
+-- ---- rows past n − 1
+
+module _ (n N m : ℕ) (us ts : List ℕ) (e : take (n - 1) us ≡ take (n - 1) ts) where
+  fits : fit (table n N m us) ≡ fit (table n N m ts)
+  fits = fit-same n N m us ts e
+
+  rows : codeRows n us ≡ codeRows n ts
+  rows = ap (λ (l : List ℕ). l ++ (1 ∷ [])) e
+
+  judges-same : (j : Judgement) → Judges (table n N m us) j → Judges (table n N m ts) j
+  judges-same Unfit r = sym fits ∙ r
+  judges-same (Clash l e0 e1) r = (sym fits ∙ r .0, subst (λ (ws : List ℕ). Clashes N ws l e0 e1) rows (r .1))
+  judges-same Sound r = (sym fits ∙ r .0, subst (Suitable N) rows (r .1))
+
+  result-same : (room : ℕ) (j : Judgement)
+      → writeResult (table n N m us) room j ≡ writeResult (table n N m ts) room j
+  result-same room Unfit = refl
+  result-same room (Clash l e0 e1) = refl
+  result-same room Sound = refl
+
+  buffer-same : (a : WriteAnswer) (before : List ℕ)
+      → writeBuffer a (table n N m us) before ≡ writeBuffer a (table n N m ts) before
+  buffer-same (WrittenBytes c) before =
+      ap (λ (l : List ℕ). l ++ drop c before)
+      (written-same (table n N m us) (table n N m ts)
+      (record { symbols = refl; span = refl; depth = refl; rows = e }))
+  buffer-same (Refused k) before = refl
+  buffer-same (Unsuitable l e0 e1) before = refl
+
+  writes-by : (before : List ℕ) (a : WriteAnswer) (after : List ℕ) → Writes (table n N m us) before a after
+      → Writes (table n N m ts) before a after
+  writes-by before a after w = record {
+    judgement = w .judgement;
+    right = judges-same (w .judgement) (w .right);
+    answer = w .answer ∙ result-same (length before) (w .judgement);
+    buffer = w .buffer ∙ buffer-same a before;
+  }
+
+pub writes-same : WRITES-SAME
+writes-same u t before a after s w =
+    writes-by (t .symbols) (t .span) (t .depth) (u .rows) (t .rows) (s .rows) before a after
+    (subst (λ (v : Table). Writes v before a after) (sym (sizes-are u t s)) w)

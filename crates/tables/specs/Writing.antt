@@ -15,6 +15,7 @@
 --   READS-BACK          what was written is accepted, and says the table
 --   SAME-BYTES          tables are equal exactly if their bytes are
 --   FILE-SORTED         writing an accepted file gives that file with its rows sorted
+--   WRITES-SAME         rows of a handed table past n − 1 do not matter
 use mathlib.Core.Path.{_≡_}
 use mathlib.Core.Logic.{_↔_}
 use mathlib.Core.Bool.{true, cond}
@@ -108,8 +109,9 @@ rowRecordsOf (suc c) s = take 10 s ∷ rowRecordsOf c (drop 10 s)
 -- the sizes record of four bytes, whose second is n; the n − 1 row records, sorted; and what follows them
 abbrev pub sortedFile : List ℕ → List ℕ
 sortedFile bytes =
-    let rows = getD bytes 1 0 - 1 in
-    take 4 bytes ++ (flatMap (λ r. r) (sorted rowNumber (rowRecordsOf rows (drop 4 bytes))) ++ drop (4 + 10 * rows) bytes)
+    let count = getD bytes 1 0 - 1 in
+    let rows = sorted rowNumber (rowRecordsOf count (drop 4 bytes)) in
+    take 4 bytes ++ (flatMap (λ r. r) rows ++ drop (4 + 10 * count) bytes)
 
 -- "Writing an accepted file returns that file with its rows sorted."
 abbrev pub FILE-SORTED : Type 0
@@ -117,3 +119,8 @@ FILE-SORTED =
     (bytes : List ℕ) (r : Reading) (before after : List ℕ) (a : WriteAnswer) → ((i : ℕ) → getD bytes i 0 < 256)
     → Read bytes r → r .answer ≡ Accepted → length bytes ≤ length before → Writes (r .table) before a after
     → (a ≡ Written (length bytes)) × (after ≡ sortedFile bytes ++ drop (length bytes) before)
+
+abbrev pub WRITES-SAME : Type 0
+WRITES-SAME =
+    (u t : Table) (before : List ℕ) (a : WriteAnswer) (after : List ℕ) → SameTable u t → Writes u before a after
+    → Writes t before a after

@@ -19,6 +19,17 @@ pub enum WriteAnswer {
     Unsuitable(u64, u64, u64),
 }
 
+// The sizes record, first.
+fn put_sizes(t: Table, out: &mut [u8])
+    requires { ⌜ (t .symbols ≤ 16) × (t .span ≤ 64) × (t .depth ≤ 64) × (4 ≤ length (now out)) ⌝ }
+    ensures { λ _. ⌜ now (out .exit) ≡ sets (now (out .entry)) 0 (sizesRecord t) ⌝ }
+{
+    out[0] = 1;
+    out[1] = t.symbols as u8;
+    out[2] = t.span as u8;
+    out[3] = t.depth as u8;
+}
+
 // The row record of row j at `at`, its row low byte first.
 fn put_row(out: &mut [u8], at: usize, j: usize, row: u64)
     requires { ⌜ (at + 10 ≤ length (now out)) × (j ≤ 15) ⌝ }
@@ -35,7 +46,7 @@ fn put_row(out: &mut [u8], at: usize, j: usize, row: u64)
     }
 }
 
-// Its row records, ascending, after the sizes record.
+// The row records, ascending, after the sizes record.
 fn put_rows(t: Table, out: &mut [u8])
     requires { ⌜ (1 ≤ t .symbols) × (t .symbols ≤ 16) × (10 * t .symbols ≤ length (now out) + 5) ⌝ }
     ensures { λ _. ⌜ now (out .exit) ≡ sets (now (out .entry)) 4 (rowRecords t (ascending 1 (t .symbols - 1))) ⌝ }
@@ -49,17 +60,7 @@ fn put_rows(t: Table, out: &mut [u8])
     }
 }
 
-fn put_sizes(t: Table, out: &mut [u8])
-    requires { ⌜ (t .symbols ≤ 16) × (t .span ≤ 64) × (t .depth ≤ 64) × (4 ≤ length (now out)) ⌝ }
-    ensures { λ _. ⌜ now (out .exit) ≡ sets (now (out .entry)) 0 (sizesRecord t) ⌝ }
-{
-    out[0] = 1;
-    out[1] = t.symbols as u8;
-    out[2] = t.span as u8;
-    out[3] = t.depth as u8;
-}
-
-// A sound table, if there is room.
+// All records of a sound table, if there is room for them.
 fn put(t: Table, out: &mut [u8]) -> WriteAnswer
     requires { ⌜ (1 ≤ t .symbols) × (t .symbols ≤ 16) × (t .span ≤ 64) × (t .depth ≤ 64) ⌝ }
     ensures answer { λ r. ⌜ writeNumbers r ≡ writeResult t (length (now (out .entry))) Judgement.Sound ⌝ }
@@ -75,7 +76,7 @@ fn put(t: Table, out: &mut [u8]) -> WriteAnswer
     WriteAnswer::Written(length)
 }
 
-// The judgement, and then the bytes.
+// Judges the table, and writes it if it is sound and has room.
 pub fn write(t: Table, out: &mut [u8]) -> WriteAnswer
     ensures { λ r. ⌜ Writes t (now (out .entry)) r (now (out .exit)) ⌝ }
 {

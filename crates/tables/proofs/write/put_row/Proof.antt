@@ -75,7 +75,11 @@ loop-less c = omega arith
 loop-again : tie.Need-loop-again Inv-loop μ-loop
 loop-again c =
     let l = c .before .loop in
-    (omega arith, length-set (l .out) _ _ ∙ l .inv .1, next (l .out) (c .before .before .args .at) (l .k) (l .rest) (omega arith) ∙ l .inv .2)
+    let at = c .before .before .args .at in (
+      omega arith,
+      length-set (l .out) _ _ ∙ l .inv .1,
+      next (l .out) at (l .k) (l .rest) (omega arith) ∙ l .inv .2,
+    )
 
 same-length : tie.Need-same-length Inv-loop μ-loop
 same-length c = c .before .loop .inv .1 ∙ simp length-set

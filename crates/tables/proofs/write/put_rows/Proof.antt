@@ -54,7 +54,8 @@ loop-again c =
       omega arith,
       omega arith,
       p .kept .0 ∙ l .inv .3,
-      ap (λ (o : List ℕ). sets o (l .at + 10) (rowRecords t (ascending (l .j + 1) (t .symbols - (l .j + 1))))) (p .ensures)
+      ap (λ (o : List ℕ). sets o (l .at + 10) (rowRecords t (ascending (l .j + 1) (t .symbols - (l .j + 1)))))
+          (p .ensures)
           ∙ row-stored t (l .out) (l .at) (l .j) (t .symbols) (omega arith)
           ∙ l .inv .4,
     )

@@ -1,7 +1,9 @@
--- A table with its rows past n − 1 set to 0, as reading returns it. Assumes nothing.
+-- Tables that are the same: n, N, m and rows 1 to n − 1. Assumes nothing.
 --
---   trimmed t   that table: it is the same as t, and whole
---   whole-same  whole tables that are the same are equal
+--   trimmed t   t with its rows past n − 1 set to 0, as reading returns it: it is the same as t, and whole
+--   same-row    their rows
+--   whole-same  whole ones are equal
+--   sizes-are   one with the sizes of the other
 use mathlib.Core.Path.{_≡_, refl, sym, ap, _∙_}
 use mathlib.Core.Bool.{Bool, true, false}
 use mathlib.Core.List.{List, _++_}
@@ -60,3 +62,6 @@ whole-same u t v w s =
         let h = ltb-false (suc i) (t .symbols) e in
         let n = s .symbols in
         v .blank i (omega arith) ∙ sym (w .blank i h)
+
+pub sizes-are : (u t : Table) → SameTable u t → table (t .symbols) (t .span) (t .depth) (u .rows) ≡ u
+sizes-are u t s = rw (sym (s .symbols), sym (s .span), sym (s .depth))
