@@ -310,6 +310,11 @@ pub fn random_bytes(draw: &mut Draw) -> Vec<u8> {
     (0..length).map(|_| if draw.once_in(4) { draw.bits(8) as u8 } else { draw.below(4) as u8 }).collect()
 }
 
+/// So many bytes of any value.
+pub fn any_bytes(draw: &mut Draw, count: usize) -> Vec<u8> {
+    (0..count).map(|_| draw.bits(8) as u8).collect()
+}
+
 // ---- Memories ----
 
 /// A pending word: zero, full, or any below 2^(N−1).

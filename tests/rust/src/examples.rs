@@ -1,5 +1,5 @@
-//! Listed cases, those that are easy to get wrong: table bytes and what reading them says, and steps of the
-//! coder and the decoder with the memory after them.
+//! Listed cases, those that are easy to get wrong: table bytes and what reading them says, tables and what writing
+//! them does, and steps of the coder and the decoder with the memory after them.
 
 use crate::cases::{row_record, sizes_record};
 use crate::oracle::Table;
@@ -72,6 +72,98 @@ pub fn read_cases() -> [ReadCase; 17] {
             &[&sizes_record(3, 6, 1), &row_record(2, 34), &row_record(1, 56), &[0]],
             Accepted(Table::new(3, 6, 1, &[56, 34])),
         ),
+    ]
+}
+
+// ---- Tables written back ----
+
+/// What writing a table does.
+#[derive(Debug)]
+pub enum Writes {
+    /// The number, 12 or 16.
+    Refused(u64),
+    /// Refusal 10.
+    Unsuitable,
+    Bytes(Vec<u8>),
+}
+
+#[derive(Debug)]
+pub struct WriteCase {
+    pub table: Table,
+    /// How many bytes are lent.
+    pub room: usize,
+    pub writes: Writes,
+}
+
+fn write(table: &Table, room: usize, writes: Writes) -> WriteCase {
+    WriteCase { table: table.clone(), room, writes }
+}
+
+/// A table that is written as these bytes.
+fn writes(table: &Table, room: usize, bytes: &[u8]) -> WriteCase {
+    write(table, room, Writes::Bytes(bytes.to_vec()))
+}
+
+/// A table that is refused, 12 or 16.
+fn no_write(table: &Table, room: usize, refused: u64) -> WriteCase {
+    write(table, room, Writes::Refused(refused))
+}
+
+/// A table that is refused, 10.
+fn clash(table: &Table, room: usize) -> WriteCase {
+    write(table, room, Writes::Unsuitable)
+}
+
+/// n = 2 takes 15 bytes, n = 3 takes 25.
+pub fn write_cases() -> [WriteCase; 32] {
+    let t1 = [1, 2, 4, 1, 2, 1, 0x0A, 0, 0, 0, 0, 0, 0, 0, 0];
+    let two_rows = [1, 3, 6, 9, 2, 1, 56, 0, 0, 0, 0, 0, 0, 0, 2, 2, 34, 0, 0, 0, 0, 0, 0, 0, 0];
+    let long_row = [1, 2, 64, 64, 2, 1, 0xF0, 0xE1, 0xD2, 0xC3, 0xB4, 0xA5, 0x96, 0x87, 0];
+    let (n2, n3) = (z(1), Table::new(3, 6, 9, &[56, 34]));
+    let t6 = Table::new(2, 4, 1, &[2]);
+    let sized = |n, span, depth| Table::new(n, span, depth, &[10]);
+    [
+        // into as many bytes as it takes, into more, which stay, and into one less
+        writes(&n2, 15, &t1),
+        writes(&n2, 16, &t1),
+        writes(&n2, 300, &t1),
+        no_write(&n2, 14, 16),
+        no_write(&n2, 0, 16),
+        // rows ascending
+        writes(&n3, 25, &two_rows),
+        writes(&n3, 27, &two_rows),
+        no_write(&n3, 24, 16),
+        // a row of 64 bits, its low byte first
+        writes(&Table::new(2, 64, 64, &[0x8796_A5B4_C3D2_E1F0]), 15, &long_row),
+        // rows past n − 1 do not matter: too long for N, all ones, or equal to one before
+        writes(&Table::new(2, 4, 1, &[10, 16, u64::MAX]), 15, &t1),
+        writes(&Table::new(2, 4, 1, &[10; 15]), 15, &t1),
+        no_write(&Table::new(2, 4, 1, &[10, 16, u64::MAX]), 14, 16),
+        // 10 before 16
+        clash(&t6, 15),
+        clash(&t6, 14),
+        clash(&t6, 0),
+        // a zero row, equal rows; a table that only the shift by 63 shows
+        clash(&Table::new(2, 4, 1, &[0]), 15),
+        clash(&Table::new(3, 6, 1, &[56, 56]), 25),
+        clash(&Table::new(2, 64, 1, &[1 << 63]), 15),
+        // 12 before 10 and 16: a row that is zero once cut to N bits; and rows that are right once cut
+        no_write(&Table::new(2, 4, 1, &[16]), 0, 12),
+        no_write(&Table::new(2, 4, 1, &[1 << 63 | 10]), 15, 12),
+        no_write(&Table::new(3, 6, 1, &[56, 64 | 34]), 25, 12),
+        // each size out of range; the table beside a refused reading
+        no_write(&sized(1, 4, 1), 15, 12),
+        no_write(&sized(17, 64, 1), 165, 12),
+        no_write(&sized(2, 1, 1), 15, 12),
+        no_write(&sized(2, 65, 1), 15, 12),
+        no_write(&sized(2, 4, 0), 15, 12),
+        no_write(&sized(2, 4, 65), 15, 12),
+        no_write(&Table::new(0, 0, 0, &[]), 0, 12),
+        // in range once cut to a byte, or to 32 bits
+        no_write(&sized(258, 4, 1), 15, 12),
+        no_write(&sized(2, 260, 1), 15, 12),
+        no_write(&sized(2, 4, 257), 15, 12),
+        no_write(&sized((1 << 32) + 2, (1 << 32) + 4, (1 << 32) + 1), 15, 12),
     ]
 }
 

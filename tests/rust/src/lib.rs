@@ -22,6 +22,17 @@ pub struct Reading {
     pub e1: u64,
 }
 
+/// The answer of writing a table.
+#[repr(C)]
+#[derive(Clone, Copy, Debug, PartialEq, Eq)]
+pub struct Written {
+    pub refused: u64,
+    pub length: u64,
+    pub l: u64,
+    pub e0: u64,
+    pub e1: u64,
+}
+
 /// The answer of a coder step.
 #[repr(C)]
 #[derive(Clone, Copy, Debug, PartialEq, Eq)]
@@ -43,11 +54,12 @@ pub struct Decoded {
 /// The proved implementation. Unit tests are built without it, so that they need no archive.
 #[cfg(not(test))]
 pub mod linked {
-    use super::{Coded, Decoded, Numbers, Reading};
+    use super::{Coded, Decoded, Numbers, Reading, Written};
 
     extern "C" {
         fn burst_read(bytes: *const u8, length: usize, table: *mut u64) -> Reading;
         fn burst_make(n: u64, m: u64, table: *mut u64) -> u64;
+        fn burst_write(table: *const u64, bytes: *mut u8, room: usize) -> Written;
         fn burst_start_coder(table: *const u64, words: *mut u64, count: usize) -> u64;
         fn burst_start_decoder(table: *const u64, words: *mut u64, count: usize) -> u64;
         fn burst_code(table: *const u64, words: *mut u64, count: usize, info: u16) -> Coded;
@@ -91,6 +103,11 @@ pub mod linked {
         // SAFETY: the table has its 18 numbers.
         let refused = unsafe { burst_make(n, m, table.as_mut_ptr()) };
         (refused, table)
+    }
+
+    pub fn write(table: &Numbers, bytes: &mut [u8]) -> Written {
+        // SAFETY: the table has its 18 numbers, and the slice's own length goes along.
+        unsafe { burst_write(table.as_ptr(), bytes.as_mut_ptr(), bytes.len()) }
     }
 
     pub fn start_coder(table: &Numbers, words: &mut [u64]) -> u64 {

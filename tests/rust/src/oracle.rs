@@ -30,6 +30,11 @@ impl Table {
         }
     }
 
+    /// Rows 1 to n − 1.
+    pub fn used_rows(&self) -> &[u64] {
+        &self.rows[..self.n as usize - 1]
+    }
+
     /// m × (N − 1): the calls between a block's taking and its delivery.
     pub fn delay(&self) -> u64 {
         self.depth * (self.span - 1)
@@ -514,6 +519,43 @@ pub fn decode_batch(table: &Table, words: &mut [u64], received: &[u16], entries:
         let delivered = decode(table, words, block)?;
         Ok(delivered.map_or(0, |Delivered { info, mark }| mark_number(mark) << 16 | info as u32))
     })
+}
+
+// ---- Tables written back ----
+
+#[derive(Clone, Copy, Debug, PartialEq, Eq)]
+pub enum WriteRefusal {
+    /// 12, the table is not fit, or 16, the buffer is shorter than 10n − 5.
+    Number(u64),
+    /// 10.
+    Unsuitable(Triple),
+}
+
+/// Sizes, rows ascending, end.
+fn written_records(table: &Table) -> Vec<u8> {
+    let mut bytes = vec![1, table.n as u8, table.span as u8, table.depth as u8];
+    for j in 1..table.n {
+        bytes.extend([2, j as u8]);
+        bytes.extend((0..8).map(|k| (table.row(j) >> (8 * k)) as u8)); // low byte first
+    }
+    bytes.push(0);
+    bytes
+}
+
+/// Writes a table into the first of the lent bytes, and says how many those are.
+pub fn write_table(table: &Table, bytes: &mut [u8]) -> Result<usize, WriteRefusal> {
+    if !is_fit(table) {
+        return Err(WriteRefusal::Number(12));
+    }
+    if let Some(triple) = unsuitable(table) {
+        return Err(WriteRefusal::Unsuitable(triple));
+    }
+    let length = 10 * table.n as usize - 5;
+    if bytes.len() < length {
+        return Err(WriteRefusal::Number(16));
+    }
+    bytes[..length].copy_from_slice(&written_records(table));
+    Ok(length)
 }
 
 // ---- The listing program ----

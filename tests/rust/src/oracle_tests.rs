@@ -128,6 +128,90 @@ fn a_batch_ends_at_its_room_and_before_what_is_refused() {
     assert_eq!((coder, entries), ([1, 5, 8, 5], [1, 1, KEPT, KEPT]));
 }
 
+/// What stands in a buffer before a table is written; no record holds such a byte here.
+const STOOD: u8 = 0xEE;
+
+/// The answer, and the buffer after it.
+fn write(table: &Table, room: usize) -> (Result<usize, WriteRefusal>, Vec<u8>) {
+    let mut bytes = vec![STOOD; room];
+    (write_table(table, &mut bytes), bytes)
+}
+
+fn assert_not_written(table: &Table, room: usize, refused: u64) {
+    assert_eq!(write(table, room), (Err(WriteRefusal::Number(refused)), vec![STOOD; room]));
+}
+
+#[test]
+fn z_is_written_as_t1() {
+    let t1 = vec![1, 2, 4, 1, 2, 1, 0x0A, 0, 0, 0, 0, 0, 0, 0, 0];
+    assert_eq!(write(&z(1), 15), (Ok(15), t1.clone()));
+    assert_eq!(write(&Table::new(2, 4, 1, &[10, u64::MAX, 16]), 15), (Ok(15), t1.clone()));
+    assert_eq!(write(&z(1), 18), (Ok(15), [&t1[..], &[STOOD; 3]].concat()));
+}
+
+#[test]
+fn rows_are_written_ascending_and_low_byte_first() {
+    let (sizes, end) = ([1, 3, 6, 1], [0]);
+    let (row_1, row_2) = ([2, 1, 56, 0, 0, 0, 0, 0, 0, 0], [2, 2, 34, 0, 0, 0, 0, 0, 0, 0]);
+    let ascending = [&sizes[..], &row_1, &row_2, &end].concat();
+    let table = Table::new(3, 6, 1, &[56, 34]);
+    assert_eq!(write(&table, 25), (Ok(25), ascending.clone()));
+    assert_eq!(read_table(&[&sizes[..], &row_2, &row_1, &end].concat()), Ok(table.clone()));
+    assert_eq!(write(&table, 26), (Ok(25), [&ascending[..], &[STOOD]].concat()));
+
+    let long = vec![1, 2, 64, 33, 2, 1, 0xF0, 0xE1, 0xD2, 0xC3, 0xB4, 0xA5, 0x96, 0x87, 0];
+    assert_eq!(write(&Table::new(2, 64, 33, &[0x8796_A5B4_C3D2_E1F0]), 15), (Ok(15), long));
+}
+
+#[test]
+fn a_buffer_of_a_byte_less_is_16() {
+    for n in 2..=16 {
+        let table = make_table(n, 1).expect("in range");
+        let length = 10 * n as usize - 5;
+        assert_not_written(&table, length - 1, 16);
+        assert_not_written(&table, 0, 16);
+        assert_eq!(write(&table, length).0, Ok(length));
+    }
+}
+
+#[test]
+fn writing_has_12_before_10_before_16() {
+    let unsuitable = Table::new(2, 4, 1, &[2]);
+    for room in [0, 14, 15, 20] {
+        // a one at bit N; sizes out of range, with rows of zeros; sizes that are in range once cut to a byte
+        assert_not_written(&Table::new(2, 4, 1, &[16]), room, 12);
+        for (n, span, depth) in
+            [(0, 0, 0), (1, 4, 1), (17, 64, 1), (2, 1, 1), (2, 65, 1), (2, 4, 0), (2, 4, 65)]
+        {
+            assert_not_written(&Table::new(n, span, depth, &[]), room, 12);
+        }
+        assert_not_written(&Table::new(258, 260, 257, &[10]), room, 12);
+        assert_not_written(&Table::new(u64::MAX, 4, 1, &[10]), room, 12);
+        match write(&unsuitable, room) {
+            (Err(WriteRefusal::Unsuitable(triple)), bytes) => {
+                assert!(shows_unsuitable(&unsuitable, triple));
+                assert_eq!(bytes, vec![STOOD; room]);
+            }
+            other => panic!("{other:?}"),
+        }
+    }
+    assert_not_written(&z(1), 14, 16);
+    assert_not_written(&z(1), 0, 16);
+}
+
+#[test]
+fn what_is_written_is_read() {
+    let mut draw = Draw::from_seed(8);
+    for _ in 0..500 {
+        let table = any_suitable_table(&mut draw);
+        let length = 10 * table.n as usize - 5;
+        let (answer, bytes) = write(&table, length);
+        assert_eq!(answer, Ok(length));
+        let read = Table::new(table.n, table.span, table.depth, table.used_rows());
+        assert_eq!(read_table(&bytes), Ok(read));
+    }
+}
+
 #[test]
 fn listing_example() {
     let input = [2, 1, 1, 0, 0, 0, 0, 0, 0, 0, 0, 0];

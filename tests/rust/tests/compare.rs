@@ -2,7 +2,7 @@
 //! cases.
 
 use burst_compare::cases::*;
-use burst_compare::examples::{read_cases, step_cases, z, ReadCase, Says, Step, StepCase};
+use burst_compare::examples::{read_cases, step_cases, write_cases, z, ReadCase, Says, Step, StepCase};
 use burst_compare::oracle::{self, Mark, ReadRefusal, Table, Triple};
 use burst_compare::{linked, program, Coded, Decoded, Numbers, Reading};
 use std::fmt::Debug;
@@ -10,6 +10,7 @@ use std::ops::Range;
 use std::time::Instant;
 
 mod batches;
+mod writing;
 
 const SEED: u64 = 0x9E37_79B9_7F4A_7C15;
 const LEAST_CALLS: u64 = 10_000_000;
@@ -23,6 +24,7 @@ struct Tally {
     refusals: [u64; 16],
     marks: [u64; 5],
     batches: batches::Count,
+    writing: writing::Count,
     mismatches: u64,
     shown: Vec<String>,
 }
@@ -145,13 +147,18 @@ fn table_read_from(bytes: &[u8]) -> Table {
     table
 }
 
-/// The triple of refusal 10 is free: it need only show the table unsuitable.
+/// Whether an answer of reading or writing is refusal 10 of this table: the number, no place or length, and a triple,
+/// which is free: it need only show the table unsuitable.
+fn is_refusal_10(table: &Table, [refused, rest, l, e0, e1]: [u64; 5]) -> bool {
+    (refused, rest) == (10, 0) && oracle::shows_unsuitable(table, Triple { l, e0, e1 })
+}
+
 fn readings_agree(bytes: &[u8], expected: Reading, got: Reading) -> bool {
-    if expected.refused != 10 || got.refused != 10 {
-        return expected == got;
+    let Reading { refused, place, l, e0, e1 } = got;
+    if expected.refused == 10 {
+        return is_refusal_10(&table_read_from(bytes), [refused, place, l, e0, e1]);
     }
-    let Reading { place, l, e0, e1, .. } = got;
-    place == 0 && oracle::shows_unsuitable(&table_read_from(bytes), Triple { l, e0, e1 })
+    got == expected
 }
 
 fn compare_read(tally: &mut Tally, bytes: &[u8]) -> Reading {
@@ -926,6 +933,7 @@ fn everything_reached(tally: &mut Tally, _: &mut Draw) {
         tally.check(reached, || format!("mark {mark} was not reached"));
     }
     batches::everything_reached(tally);
+    writing::everything_reached(tally);
     let calls = tally.calls - tally.batches.batches;
     tally.check(calls >= LEAST_CALLS, || format!("only {calls} calls compared, batches apart"));
 }
@@ -939,8 +947,7 @@ fn is_said(says: &Says, reading: Reading, numbers: Numbers) -> bool {
         Says::Accepted(ref table) => (reading == READ, table.numbers()),
         Says::Unsuitable(ref table) => {
             let Reading { refused, place, l, e0, e1 } = reading;
-            let shown = oracle::shows_unsuitable(table, Triple { l, e0, e1 });
-            ((refused, place) == (10, 0) && shown, linked::UNWRITTEN)
+            (is_refusal_10(table, [refused, place, l, e0, e1]), linked::UNWRITTEN)
         }
     };
     right && numbers == written
@@ -980,7 +987,7 @@ fn check_step(tally: &mut Tally, StepCase { table, memory, step, after }: &StepC
 
 type Group = (&'static str, fn(&mut Tally, &mut Draw));
 
-const GROUPS: [Group; 33] = [
+const GROUPS: [Group; 41] = [
     ("examples of tables", examples_of_tables),
     ("examples of steps", examples_of_steps),
     ("bytes of every refusal and place", bytes_of_every_refusal),
@@ -1013,6 +1020,14 @@ const GROUPS: [Group; 33] = [
     ("batches: the first wrong block at each place", batches::first_wrong_block),
     ("batches: unused rows", batches::unused_rows),
     ("batches: every block", batches::every_block),
+    ("writing: accepted tables, read back", writing::read_back),
+    ("writing: files with rows in any order", writing::files_sorted),
+    ("writing: every room", writing::every_room),
+    ("writing: tables that are not fit", writing::unfit),
+    ("writing: unsuitable tables", writing::unsuitable),
+    ("writing: all small tables, by trying", writing::small_tables_all),
+    ("writing: unused rows", writing::unused_rows),
+    ("writing: equal tables, equal bytes", writing::equal_tables),
     ("everything reached", everything_reached),
 ];
 
@@ -1059,17 +1074,19 @@ fn run_cases<C: Debug>(tally: &mut Tally, name: &str, cases: &[C], check: fn(&mu
 
 fn main() {
     let mut tally = Tally::default();
-    let (read_cases, step_cases) = (read_cases(), step_cases());
+    let (read_cases, write_cases, step_cases) = (read_cases(), write_cases(), step_cases());
     let mut passed = run_cases(&mut tally, "listed table bytes", &read_cases, check_reading)
+        + run_cases(&mut tally, "listed writes", &write_cases, writing::check_case)
         + run_cases(&mut tally, "listed steps", &step_cases, check_step);
     for (index, &group) in GROUPS.iter().enumerate() {
         passed += usize::from(run_group(&mut tally, index, group));
     }
-    let failed = read_cases.len() + step_cases.len() + GROUPS.len() - passed;
+    let failed = read_cases.len() + write_cases.len() + step_cases.len() + GROUPS.len() - passed;
     println!("{} calls compared", tally.calls);
     println!("refusals 1 to 15: {:?}", &tally.refusals[1..]);
     println!("marks 0 to 4: {:?}", tally.marks);
     println!("{}", tally.batches);
+    println!("{}", tally.writing);
     println!("{passed} passed, {failed} failed");
     std::process::exit(i32::from(failed > 0));
 }
