@@ -119,15 +119,15 @@ struct burst_decoded {
 struct burst_reading burst_read(const uint8_t *bytes, size_t length, uint64_t table[18]);
 
 /*
- * Writes a table into the lent bytes, of which there are room: the records that burst_read reads, sizes first, rows 1 to
- * n - 1 in this order, end last, which is 10n - 5 bytes. 155 are enough for any table.
+ * Writes a table into lent bytes, room of them: the records that burst_read reads, sizes first, rows 1 to n - 1 in this
+ * order, end last, which is 10n - 5 bytes. 155 are enough for any table.
  *
- * Written, burst_read of the first 10n - 5 bytes accepts them, and gives the same n, N, m and rows 1 to n - 1. Tables
- * that differ in one of these have different bytes, and tables that do not have the same. The bytes of a table that was
- * read are those of its file with the rows sorted. Bytes past the first 10n - 5 stay as they were.
+ * Written, burst_read of the first 10n - 5 bytes accepts them, and gives the same n, N, m and rows 1 to n - 1. Two tables
+ * have the same bytes exactly if they have the same n, N, m and rows 1 to n - 1. The bytes of a table that was read are
+ * those of its file with the rows sorted. Bytes past the first 10n - 5 stay as they were.
  *
  * Refused, 12, 10 or 16, no byte is written: nothing that burst_read would refuse is ever written. The table is only
- * read. Its suitability is tested, which is most of what the call costs.
+ * read. Its suitability is tested at each call, also of a table that was read or made.
  */
 struct burst_written burst_write(const uint64_t table[18], uint8_t *bytes, size_t room);
 

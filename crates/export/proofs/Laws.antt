@@ -6,9 +6,9 @@ use mathlib.Core.List.{List, [], _∷_}
 use Prim.Native.Nat.{ℕ, _-_, _*_, _<_}
 use native.Mathlib.Decide.{ℕ-discrete}
 use native.Mathlib.Omega.{arith}
-use borrow.Author.Tests.{ltb-true, ltb-false}
+use borrow.Author.Tests.{ltb-true, ltb-false, le-ltb}
 use lib.Dec.{ltb}
-use lib.ListN.{length, getD, take}
+use lib.ListN.{length, getD, take, length-drop}
 use Rattle.tables.specs.declared.table.Table.{Table}
 use Rattle.tables.specs.declared.make.MakeAnswer.{MakeAnswer}
 use Rattle.tables.specs.declared.read.ReadAnswer.{ReadAnswer}
@@ -18,15 +18,15 @@ use Rattle.tables.specs.declared.judge.Judgement.the-variants.{Unfit, Clash, So
 use Rattle.tables.specs.declared.write.WriteAnswer.{WriteAnswer}
 use Rattle.tables.specs.declared.write.WriteAnswer.the-variants as write
 use Rattle.tables.specs.Code.{Suitable}
-use Rattle.tables.specs.Table.{rowsOf, sizesFit, fit, Whole}
+use Rattle.tables.specs.Table.{rowsOf, sizesFit, fit, Whole, SameTable}
 use Rattle.tables.specs.Format.{refused}
-use Rattle.tables.specs.Reading.{numbers, ReadNumbers}
+use Rattle.tables.specs.Reading.{numbers, ReadNumbers, Read}
 use Rattle.tables.specs.Judging.{Judges}
-use Rattle.tables.specs.Writing.{writtenLength, writeNumbers, writeResult, writeBuffer}
+use Rattle.tables.specs.Writing.{writtenLength, writeNumbers, writeResult, writeBuffer, Writes}
 use Rattle.tables.specs.Made.{columns, triangleRows, making, madeNumbers}
 use Rattle.tables.proofs.Reading.{refused-range}
 use Rattle.tables.proofs.Written.{parses-exactly}
-use Rattle.tables.proofs.Writing.{same-answer}
+use Rattle.tables.proofs.Writing.{same-answer, reads-back}
 use Rattle.tables.proofs.Made.{made, is-made, not-made}
 use Rattle.tables.proofs.MadeWhole.{made-whole}
 use Rattle.link.specs.Refusals.{startFault, coderFault, decoderFault, callNumbers}
@@ -36,12 +36,14 @@ use Rattle.link.proofs.Refusals.{refused-numbers, taken-numbers}
 use Rattle.link.proofs.Starting.{start-refuses, starts}
 use Rattle.link.proofs.Coder.{code-refuses, codes}
 use Rattle.link.proofs.Decoder.{decode-refuses, decodes}
+use Rattle.export.specs.declared.reading.BurstReading.{BurstReading}
+use Rattle.export.specs.declared.written.BurstWritten.{BurstWritten}
 use Rattle.export.specs.declared.coded.BurstCoded.{BurstCoded}
 use Rattle.export.specs.declared.decoded.BurstDecoded.{BurstDecoded}
-use Rattle.export.specs.Numbers.{numbersOf, givenBack}
-use Rattle.export.proofs.Numbers.{given-back}
+use Rattle.export.specs.Numbers.{tableOf, numbersOf, givenBack}
+use Rattle.export.proofs.Numbers.{given-back, table-back}
 use Rattle.export.specs.Answers.{numberOf, readingOf, writtenOf, codedOf, decodedOf}
-use Rattle.export.specs.Laws.{ReadTold, READ-TOLD, WriteTold, WRITE-TOLD, MADE-TOLD}
+use Rattle.export.specs.Laws.{ReadTold, READ-TOLD, WriteTold, WRITE-TOLD, STORED-BACK, MADE-TOLD}
 use Rattle.export.specs.Laws.{START-TOLD, CODE-TOLD, DECODE-TOLD}
 
 read-so : (bytes : List ℕ) → ((i : ℕ) → getD bytes i 0 < 256) → (a : ReadAnswer) (u : Table) (before : List ℕ)
@@ -120,7 +122,32 @@ module _ (t : Table) (before : List ℕ) where
 pub write-told : WRITE-TOLD
 write-told t before r after h =
     let w = h .right in
-    rw (h .answer) (write-so t before (h .written) (w .judgement) (w .right) (w .answer) after (w .buffer))
+    rw (h .answer) (write-so t before (h .writing) (w .judgement) (w .right) (w .answer) after (w .buffer))
+
+pub stored-back : STORED-BACK
+unfolding tableOf
+stored-back ns before after old new w r many h z reads =
+    let t = tableOf ns in
+    let n = writtenLength t in
+    let told = write-told t before w after h .done z in
+    let done : Writes t before (write.Written n) after =
+    record {
+      judgement = Sound;
+      right = (told .0, told .1);
+      answer = rw (le-ltb (length before) n (told .2));
+      buffer = told .3;
+    } in
+    let read = reads .reading in
+    let count : w .length ≡ n = ap (λ (x : BurstWritten). x .length) (told .4) in
+    let right = subst (λ (k : ℕ). Read (take k after) read) count (reads .right) in
+    let fifteen : length (t .rows) ≡ 15 = let e = length-drop 3 ns in omega arith in
+    let back = reads-back t before after n read fifteen done right in
+    let number : r .refused ≡ 0 =
+    ap (λ (x : BurstReading). x .refused) (reads .answer)
+    ∙ ap (λ (a : ReadAnswer). readingOf (numbers a) .refused) (back .0) in
+    let came : tableOf new ≡ read .table =
+    ap tableOf (reads .table ∙ given-back (r .refused) (read .table) old .0 number) ∙ table-back (read .table) in
+    (number, subst (λ (u : Table). SameTable u t) (sym came) (back .2), subst Whole (sym came) (back .1))
 
 pub made-told : MADE-TOLD
 made-told n m before r after told = go (sizesFit n 2 m) refl

@@ -6,6 +6,7 @@
 --   WRITE-TOLD    writing: number 0 says that the table is fit and suitable, and its bytes were written; any other is
 --                 the first of 12, 10 and 16 that applies, and nothing was written
 --   WriteTold     what a writing tells
+--   STORED-BACK   what was written, read, gives the same n, N, m and rows 1 to n − 1, and zeros for the other rows
 --   MADE-TOLD     making: number 0 says that n and m are in range, and our suitable table is given back; any other is
 --                 11, and no number was written
 --   START-TOLD    a start: number 0 says that every word is 0; any other is the first of 12 and 13 that applies, and no
@@ -20,7 +21,7 @@ use Prim.Native.Nat.{ℕ, _-_, _*_, _≤_, _<_}
 use lib.ListN.{length, getD, take, drop}
 use Rattle.tables.specs.declared.table.Table.{Table}
 use Rattle.tables.specs.Code.{Clashes, Suitable}
-use Rattle.tables.specs.Table.{rowsOf, sizesFit, fit, Whole}
+use Rattle.tables.specs.Table.{rowsOf, sizesFit, fit, Whole, SameTable}
 use Rattle.tables.specs.Format.{parse, refused, parsed}
 use Rattle.tables.specs.Writing.{written, writtenLength}
 use Rattle.tables.specs.Made.{columns, triangleRows, making}
@@ -32,7 +33,7 @@ use Rattle.export.specs.declared.reading.BurstReading.{BurstReading}
 use Rattle.export.specs.declared.written.BurstWritten.{BurstWritten}
 use Rattle.export.specs.declared.coded.BurstCoded.{BurstCoded}
 use Rattle.export.specs.declared.decoded.BurstDecoded.{BurstDecoded}
-use Rattle.export.specs.Numbers.{numbersOf}
+use Rattle.export.specs.Numbers.{tableOf, numbersOf}
 use Rattle.export.specs.Answers.{readingOf, writtenOf, codedOf, decodedOf}
 use Rattle.export.specs.Promises.{Reads, WritesBy, MakesTable, StartsBy, CodesBy, DecodesBy}
 
@@ -73,6 +74,13 @@ abbrev pub WRITE-TOLD : Type 0
 WRITE-TOLD =
     (t : Table) (before : List ℕ) (r : BurstWritten) (after : List ℕ) → WritesBy t before r after
     → WriteTold t before r after
+
+-- `burst_read` of what `burst_write` wrote: `ns` are the 18 numbers that were handed in, `new` those that come back
+abbrev pub STORED-BACK : Type 0
+STORED-BACK =
+    (ns before after old new : List ℕ) (w : BurstWritten) (r : BurstReading) → length ns ≡ 18
+    → WritesBy (tableOf ns) before w after → w .refused ≡ 0 → Reads (take (w .length) after) r old new
+    → (r .refused ≡ 0) × SameTable (tableOf new) (tableOf ns) × Whole (tableOf new)
 
 abbrev pub MADE-TOLD : Type 0
 MADE-TOLD =

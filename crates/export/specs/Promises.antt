@@ -1,5 +1,5 @@
--- What the functions that C calls promise, of the table t that the 18 numbers are: the numbers of 01, in a struct, and
--- every lent word.
+-- What the functions that C calls promise, of the table t that the 18 numbers are: the numbers of 01 and 02, in a
+-- struct, and every lent word or byte.
 --
 --   Reads bytes r before after   `burst_read`: it answers r, and leaves `after` of the numbers lent for the table
 --   WritesBy t before r after   `burst_write`, on the lent bytes
@@ -38,9 +38,9 @@ pub record Reads (bytes : List ℕ) (r : BurstReading) (before after : List ℕ)
 -- the same of writing: there is an answer that is right of the table and the lent bytes (`Writes`), and these are its
 -- numbers
 pub record WritesBy (t : Table) (before : List ℕ) (r : BurstWritten) (after : List ℕ) : Type 0 where
-  pub written : WriteAnswer
-  pub right : Writes t before written after
-  pub answer : r ≡ writtenOf (writeNumbers written)
+  pub writing : WriteAnswer
+  pub right : Writes t before writing after
+  pub answer : r ≡ writtenOf (writeNumbers writing)
 
 pub record MakesTable (n m : ℕ) (before : List ℕ) (r : ℕ) (after : List ℕ) : Type 0 where
   pub number : r ≡ numberOf (madeNumbers (making n m .answer))

@@ -9,11 +9,11 @@ pub mod Format
 mod Progress
 pub mod Reading
 pub mod Written
+pub mod Parsed
 mod Stores
 pub mod Same
 mod Sorted
 pub mod Writing
-pub mod Parsed
 pub mod Triangle
 pub mod Filling
 pub mod Made

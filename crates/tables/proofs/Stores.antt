@@ -9,6 +9,7 @@ use lib.ListN.{length, set, drop, length-append}
 use lib.Seq.{sets, sets-eq}
 use Rattle.tables.specs.declared.table.Table.{Table}
 use Rattle.tables.specs.Written.{bytesOf, sizesRecord, rowRecord, rowRecords}
+use Rattle.tables.proofs.Fit.{fit-facts}
 use Rattle.tables.specs.Writing.{ascending, written, writtenLength, WRITTEN-LENGTH}
 
 -- stored after one another is stored together
@@ -43,14 +44,17 @@ unfolding ascending
 ascending-length j zero = refl
 ascending-length j (suc c) = ap suc (ascending-length (suc j) c)
 
-pub written-length : WRITTEN-LENGTH
+bytes-length : (t : Table) → 1 ≤ t .symbols → length (written t) ≡ writtenLength t
 unfolding written
-written-length t h =
+bytes-length t h =
     let js = ascending 1 (t .symbols - 1) in
     let e = length-append (rowRecords t js) (0 ∷ []) in
     let f = records-length t js in
     let g = ascending-length 1 (t .symbols - 1) in
     omega arith
+
+pub written-length : WRITTEN-LENGTH
+written-length t = (bytes-length t, λ f. let z = fit-facts t f in omega arith)
 
 front-stored : (bytes out : List ℕ) (n : ℕ) → length bytes ≡ n → n ≤ length out → sets out 0 bytes ≡ bytes ++ drop n out
 front-stored bytes out n e h =
@@ -64,7 +68,7 @@ pub written-stored : (t : Table) (out : List ℕ) → 1 ≤ t .symbols → writt
 unfolding written
 written-stored t out h room =
     let rows = rowRecords t (ascending 1 (t .symbols - 1)) in
-    let e = written-length t h in
+    let e = bytes-length t h in
     let sized = sets out 0 (sizesRecord t) in
     let f = records-length t (ascending 1 (t .symbols - 1)) in
     let g = ascending-length 1 (t .symbols - 1) in

@@ -21,10 +21,11 @@ use Rattle.tables.specs.Format.{parsed, parse}
 use Rattle.tables.specs.Reading.{reading}
 use Rattle.tables.specs.Written.{bytesOf, sizesRecord, rowRecord, rowRecords, EachOnce}
 use Rattle.tables.specs.Writing.{ascending, written, writtenLength, writeNumbers, writeResult, writeBuffer}
-use Rattle.tables.specs.Writing.{Writes, rowNumber, sorted, rowRecordsOf, sortedFile}
-use Rattle.tables.specs.Writing.{READS-BACK, SAME-BYTES, FILE-SORTED, WRITES-SAME}
+use Rattle.tables.specs.Writing.{Writes, rowNumber, sorted, recordsIn, sortedFile}
+use Rattle.tables.specs.Writing.{SOUND-WRITTEN, READS-BACK, SAME-BYTES, ACCEPTED-BYTES, FILE-SORTED, WRITES-SAME}
 use Rattle.tables.proofs.Fit.{fit-facts, fit-same}
 use Rattle.tables.proofs.Reading.{accepted-suitable, suitable-accepted}
+use Rattle.tables.proofs.Parsed.{parse-room}
 use Rattle.tables.proofs.Written.{written-parsed, parses-exactly}
 use Rattle.tables.proofs.Stores.{records-length, ascending-length, written-length}
 use Rattle.tables.proofs.Same.{trimmed, trimmed-same, trimmed-whole, same-row, whole-same, sizes-are}
@@ -46,6 +47,20 @@ same-answer (Unsuitable l e0 e1) (Unsuitable k d0 d1) e =
     let q : e0 ≡ d0 = ap (λ (l : List ℕ). getD l 2 0) e in
     let r : e1 ≡ d1 = ap (λ (l : List ℕ). getD l 3 0) e in
     rw (p, q, r)
+
+-- ---- with room
+
+pub sound-written : SOUND-WRITTEN
+sound-written t before a after f suits room w =
+    let count = go (w .judgement) (w .right) (w .answer) in
+    (count, w .buffer ∙ rw count)
+  where
+    go : (j : Judgement) → Judges t j → writeNumbers a ≡ writeResult t (length before) j
+        → a ≡ WrittenBytes (writtenLength t)
+    go Unfit r e = absurd (false≢true (sym r ∙ f))
+    go (Clash l e0 e1) r e = absurd (suits l e0 e1 (r .1))
+    go Sound r e =
+        same-answer a (WrittenBytes (writtenLength t)) (e ∙ rw (le-ltb (length before) (writtenLength t) room))
 
 -- ---- tables that are the same have the same bytes
 
@@ -104,7 +119,7 @@ stored t before after c w = go (w .judgement) (w .right) (w .answer)
           suits = r .1;
           count = n;
           bytes = ap (take c) (w .buffer)
-              ∙ take-at (written t) (drop c before) c (written-length t (omega arith) ∙ sym n);
+              ∙ take-at (written t) (drop c before) c (written-length t .0 (omega arith) ∙ sym n);
         }
 
 pub reads-back : READS-BACK
@@ -143,11 +158,18 @@ same-bytes t u f g a b = (
               ∙ trimmed-same u g b .rows;
         }
 
+pub accepted-bytes : ACCEPTED-BYTES
+accepted-bytes bytes others r q p a p′ a′ =
+    let x = accepted-suitable bytes r p a in
+    let y = accepted-suitable others q p′ a′ in
+    same-bytes (r .table) (q .table) (x .1) (y .1) (parse-room bytes (r .table) (x .0))
+    (parse-room others (q .table) (y .0))
+
 -- ---- an accepted file
 
 records-split : (t : Table) (js rest : List ℕ)
-    → rowRecordsOf (length js) (rowRecords t js ++ rest) ≡ map (rowRecord t) js
-unfolding rowRecords rowRecordsOf bytesOf
+    → recordsIn (length js) (rowRecords t js ++ rest) ≡ map (rowRecord t) js
+unfolding rowRecords recordsIn bytesOf
 records-split t [] rest = refl
 records-split t (j ∷ js) rest = ap (λ (l : List (List ℕ)). rowRecord t j ∷ l) (records-split t js rest)
 
@@ -165,11 +187,11 @@ module _ (t : Table) (js : List ℕ) (h : 1 ≤ t .symbols) (each : EachOnce (t 
       sym (sorted-length (λ k. k) js) ∙ ap length (sorted-once (t .symbols) js h each)
       ∙ ascending-length 1 (t .symbols - 1)
 
-  rows-sorted : flatMap (λ r. r) (sorted rowNumber (rowRecordsOf (t .symbols - 1) (rowRecords t js ++ (0 ∷ []))))
+  rows-sorted : flatMap (λ r. r) (sorted rowNumber (recordsIn (t .symbols - 1) (rowRecords t js ++ (0 ∷ []))))
       ≡ rowRecords t (ascending 1 (t .symbols - 1))
   rows-sorted =
-      let split : rowRecordsOf (t .symbols - 1) (rowRecords t js ++ (0 ∷ [])) ≡ map (rowRecord t) js =
-      ap (λ (c : ℕ). rowRecordsOf c (rowRecords t js ++ (0 ∷ []))) (sym order-length) ∙ records-split t js (0 ∷ []) in
+      let split : recordsIn (t .symbols - 1) (rowRecords t js ++ (0 ∷ [])) ≡ map (rowRecord t) js =
+      ap (λ (c : ℕ). recordsIn c (rowRecords t js ++ (0 ∷ []))) (sym order-length) ∙ records-split t js (0 ∷ []) in
       ap (λ (rs : List (List ℕ)). flatMap (λ r. r) (sorted rowNumber rs)) split
       ∙ ap (flatMap (λ r. r)) (sorted-map rowNumber (rowRecord t) js)
       ∙ records-joined t (sortedNumbers js)
@@ -195,18 +217,6 @@ module _ (t : Table) (js : List ℕ) (h : 1 ≤ t .symbols) (each : EachOnce (t 
   unfolding written
   file-written = rw (rows-sorted, after-rows)
 
--- with room, a fit and suitable table is written
-accepted-written : (t : Table) (before after : List ℕ) (a : WriteAnswer) → fit t ≡ true → Suitable (t .span) (rowsOf t)
-    → writtenLength t ≤ length before → Writes t before a after → a ≡ WrittenBytes (writtenLength t)
-accepted-written t before after a f suits room w = go (w .judgement) (w .right) (w .answer)
-  where
-    go : (j : Judgement) → Judges t j → writeNumbers a ≡ writeResult t (length before) j
-        → a ≡ WrittenBytes (writtenLength t)
-    go Unfit r e = absurd (false≢true (sym r ∙ f))
-    go (Clash l e0 e1) r e = absurd (suits l e0 e1 (r .1))
-    go Sound r e =
-        same-answer a (WrittenBytes (writtenLength t)) (e ∙ rw (le-ltb (length before) (writtenLength t) room))
-
 pub file-sorted : FILE-SORTED
 file-sorted bytes r before after a b q acc room w =
     let t = r .table in
@@ -217,9 +227,10 @@ file-sorted bytes r before after a b q acc room w =
     let sort : sortedFile bytes ≡ written t =
     ap sortedFile (v .same) ∙ file-written t (v .order) many (v .each-once) in
     let size : length bytes ≡ writtenLength t = ap length (v .same) ∙ file-length t (v .order) many (v .each-once) in
-    let count : a ≡ WrittenBytes (length bytes) =
-    accepted-written t before after a (x .1) (x .2) (omega arith) w ∙ ap WrittenBytes (sym size) in
-    (count, w .buffer ∙ rw (count, sort))
+    let done = sound-written t before a after (x .1) (x .2) (omega arith) w in (
+      done .0 ∙ ap WrittenBytes (sym size),
+      done .1 ∙ rw (sort, size),
+    )
 
 -- ---- rows past n − 1
 

@@ -17,7 +17,7 @@ use Rattle.tables.specs.declared.read.Progress.{Progress}
 use Rattle.tables.specs.Table.{table, sizesFit, rowsFit, fit, Whole}
 use Rattle.tables.specs.Format.{kind, size, word, rowWord, allGiven, unavailable, fault, sized, rowed, begun}
 use Rattle.tables.specs.Format.{after, parsed, parseFrom, parse}
-use Rattle.tables.specs.Written.{bytesOf, sizesRecord, rowRecords, times, Written, PARSES-EXACTLY}
+use Rattle.tables.specs.Written.{bytesOf, sizesRecord, rowRecords, times, Says, PARSES-EXACTLY}
 use Rattle.tables.proofs.Fit.{and-left, sizes-of, fit-facts}
 use Rattle.tables.proofs.Format.{Sound, sizes, row, end, fault-sound, available, given-none, parse-next}
 use Rattle.tables.proofs.Format.{parse-done, fault-row, fault-end, fault-sizes, size-sizes, size-row}
@@ -333,7 +333,7 @@ unfolding sized
 keeps-sized s t e = e
 
 written-of : (s : List ℕ) (t : Table) → fit t ≡ true → kind s ≡ 1 → 4 ≤ length s
-    → Rows (sized begun s) (drop 4 s) t → Written s t
+    → Rows (sized begun s) (drop 4 s) t → Says s t
 written-of s t f k h r =
     let e = keeps-sized s t (r .keeps) in
     record {
@@ -344,7 +344,7 @@ written-of s t f k h r =
     }
 
 start-of : (left : ℕ) (s : List ℕ) (t : Table) → ((i : ℕ) → getD s i 0 < 256) → fit t ≡ true
-    → parseFrom left 0 begun s ≡ parsed t → Written s t
+    → parseFrom left 0 begun s ≡ parsed t → Says s t
 unfolding parseFrom
 start-of zero s t b f e = never-refused e
 start-of (suc left) s t b f e = go (parse-ends left 0 begun s t e)
@@ -355,7 +355,7 @@ start-of (suc left) s t b f e = go (parse-ends left 0 begun s t e)
     first z (row k h a w) = let r = available begun (getD s 1 0) a in absurd (omega arith)
     first z (end k h m a) = absurd (m refl)
 
-    go : Step left 0 begun s t → Written s t
+    go : Step left 0 begun s t → Says s t
     go (done z k q) = let r = first z (fault-sound begun s z) in absurd (omega arith)
     go (on z k q) =
         let r = first z (fault-sound begun s z) in
@@ -541,7 +541,7 @@ module _ (t : Table) (w : Whole t) (rest : List ℕ) where
   unfolding sized
   begun-agrees = record { keeps = (refl, refl, refl); rows = λ i q. never (sym (none-given 15 i) ∙ q) }
 
-pub written-parsed : (bytes : List ℕ) (t : Table) → Written bytes t → parse bytes ≡ parsed t
+pub written-parsed : (bytes : List ℕ) (t : Table) → Says bytes t → parse bytes ≡ parsed t
 unfolding parse
 written-parsed bytes t w =
     let rest = rowRecords t (w .order) ++ (0 ∷ []) in

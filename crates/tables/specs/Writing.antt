@@ -3,17 +3,22 @@
 --
 --   ascending j c       the c numbers from j on
 --   written t           the bytes of t: sizes, rows ascending, end
---   writtenLength t     their number, 10n − 5
---   writeNumbers a      02's number of an answer and its values: 0 and the count of bytes written, or a refusal's
---   writeResult t room j   the same by the judgement j of t and the length of the buffer
+--   writtenLength t     how many they are, 10n − 5
+--   writeNumbers a      the number of an answer and its values: 0 and the count of bytes written; 12 or 16; 10 and its
+--                       triple
+--   writeResult t room judgement   the numbers that are due, by the judgement of t and the length of the buffer
 --   writeBuffer a t before   what the answer a leaves of the buffer
 --   Writes t before a after   what `write` promises
---   rowNumber, inserted, sorted   row records by their numbers, ascending
---   rowRecordsOf c s    the first c row records of s
+--   rowNumber r         the row number of a row record
+--   inserted key r qs   r put into a list that is sorted by the key
+--   sorted key rs       rs by the key, ascending: insertion sort
+--   recordsIn c s       the first c row records of s
 --   sortedFile bytes    a file with its rows sorted
---   WRITTEN-LENGTH      the bytes are 10n − 5
+--   WRITTEN-LENGTH      there are 10n − 5 of them, and of a fit table at most 155
+--   SOUND-WRITTEN       with room for them, a fit and suitable table is written
 --   READS-BACK          what was written is accepted, and says the table
---   SAME-BYTES          tables are equal exactly if their bytes are
+--   SAME-BYTES          fit tables are the same exactly if their bytes are
+--   ACCEPTED-BYTES      so are accepted ones
 --   FILE-SORTED         writing an accepted file gives that file with its rows sorted
 --   WRITES-SAME         rows of a handed table past n − 1 do not matter
 use mathlib.Core.Path.{_≡_}
@@ -30,7 +35,8 @@ use Rattle.tables.specs.declared.read.ReadAnswer.the-variants.{Accepted}
 use Rattle.tables.specs.declared.read.Reading.{Reading}
 use Rattle.tables.specs.declared.write.WriteAnswer.{WriteAnswer}
 use Rattle.tables.specs.declared.write.WriteAnswer.the-variants.{Written, Refused, Unsuitable}
-use Rattle.tables.specs.Table.{fit, Whole, SameTable}
+use Rattle.tables.specs.Code.{Suitable}
+use Rattle.tables.specs.Table.{rowsOf, fit, Whole, SameTable}
 use Rattle.tables.specs.Judging.{Judges}
 use Rattle.tables.specs.Reading.{Read}
 use Rattle.tables.specs.Written.{sizesRecord, rowRecords}
@@ -64,16 +70,26 @@ writeBuffer (Written c) t before = written t ++ drop c before
 writeBuffer (Refused k) t before = before
 writeBuffer (Unsuitable l e0 e1) t before = before
 
--- as in reading, only the triple of 10 is left free, and with it the judgement: all else is decided
+-- As in reading, only the triple of 10 is left free. The judgement carries it; which of its three cases it is, the
+-- answer and every byte are decided by the table and the buffer.
 pub record Writes (t : Table) (before : List ℕ) (a : WriteAnswer) (after : List ℕ) : Type 0 where
   pub judgement : Judgement
   pub right : Judges t judgement
   pub answer : writeNumbers a ≡ writeResult t (length before) judgement
   pub buffer : after ≡ writeBuffer a t before
 
--- of every table of at least one symbol
+-- of every table of at least one symbol; 155 bytes have room for any that is fit
 abbrev pub WRITTEN-LENGTH : Type 0
-WRITTEN-LENGTH = (t : Table) → 1 ≤ t .symbols → length (written t) ≡ writtenLength t
+WRITTEN-LENGTH =
+    (t : Table)
+    → (1 ≤ t .symbols → length (written t) ≡ writtenLength t) × (fit t ≡ true → writtenLength t ≤ 155)
+
+-- made tables among them
+abbrev pub SOUND-WRITTEN : Type 0
+SOUND-WRITTEN =
+    (t : Table) (before : List ℕ) (a : WriteAnswer) (after : List ℕ) → fit t ≡ true → Suitable (t .span) (rowsOf t)
+    → writtenLength t ≤ length before → Writes t before a after
+    → (a ≡ Written (writtenLength t)) × (after ≡ written t ++ drop (writtenLength t) before)
 
 -- "Reading what was written returns the table." Rows past n − 1 are not written, and are 0 in what reading returns: a
 -- table that has them 0, as one that was read or made, comes back as it was. A table by value has fifteen rows.
@@ -83,12 +99,18 @@ READS-BACK =
     → Writes t before (Written c) after → Read (take c after) r
     → (r .answer ≡ Accepted) × Whole (r .table) × SameTable (r .table) t × (Whole t → r .table ≡ t)
 
--- "Two accepted tables, compared by n, N, m and rows 1 to n − 1, are equal exactly if their written bytes are." They
--- need only be fit, as accepted ones are.
+-- of any tables by value that are fit
 abbrev pub SAME-BYTES : Type 0
 SAME-BYTES =
     (t u : Table) → fit t ≡ true → fit u ≡ true → length (t .rows) ≡ 15 → length (u .rows) ≡ 15
     → SameTable t u ↔ (written t ≡ written u)
+
+-- "Two accepted tables, compared by n, N, m and rows 1 to n − 1, are equal exactly if their written bytes are."
+abbrev pub ACCEPTED-BYTES : Type 0
+ACCEPTED-BYTES =
+    (bytes others : List ℕ) (r q : Reading) → Read bytes r → r .answer ≡ Accepted → Read others q
+    → q .answer ≡ Accepted
+    → SameTable (r .table) (q .table) ↔ (written (r .table) ≡ written (q .table))
 
 -- the byte after the kind
 abbrev pub rowNumber : List ℕ → ℕ
@@ -102,18 +124,20 @@ unfoldable pub sorted : {A : Type 0} → (A → ℕ) → List A → List A
 sorted key [] = []
 sorted key (r ∷ rs) = inserted key r (sorted key rs)
 
-unfoldable pub rowRecordsOf : ℕ → List ℕ → List (List ℕ)
-rowRecordsOf zero s = []
-rowRecordsOf (suc c) s = take 10 s ∷ rowRecordsOf c (drop 10 s)
+-- a row record has ten bytes
+unfoldable pub recordsIn : ℕ → List ℕ → List (List ℕ)
+recordsIn zero s = []
+recordsIn (suc c) s = take 10 s ∷ recordsIn c (drop 10 s)
 
 -- the sizes record of four bytes, whose second is n; the n − 1 row records, sorted; and what follows them
 abbrev pub sortedFile : List ℕ → List ℕ
 sortedFile bytes =
     let count = getD bytes 1 0 - 1 in
-    let rows = sorted rowNumber (rowRecordsOf count (drop 4 bytes)) in
+    let rows = sorted rowNumber (recordsIn count (drop 4 bytes)) in
     take 4 bytes ++ (flatMap (λ r. r) rows ++ drop (4 + 10 * count) bytes)
 
--- "Writing an accepted file returns that file with its rows sorted."
+-- "Writing an accepted file returns that file with its rows sorted." The numbers of a file are bytes, below 256; with
+-- less room than it is long, 16 applies.
 abbrev pub FILE-SORTED : Type 0
 FILE-SORTED =
     (bytes : List ℕ) (r : Reading) (before after : List ℕ) (a : WriteAnswer) → ((i : ℕ) → getD bytes i 0 < 256)

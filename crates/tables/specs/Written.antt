@@ -5,7 +5,7 @@
 --   rowRecord t j, rowRecords t js   the row record of t for row j, and those for the row numbers js
 --   times j js         how often j stands in js
 --   EachOnce n js      each of 1 to n − 1 stands in js exactly once, and nothing else does
---   Written bytes t    the bytes say t
+--   Says bytes t       the bytes say t
 --   PARSES-EXACTLY     bytes parse to a table exactly if they are written so
 use mathlib.Core.Path.{_≡_}
 use mathlib.Core.Logic.{_↔_}
@@ -42,7 +42,7 @@ abbrev pub EachOnce : ℕ → List ℕ → Type 0
 EachOnce n js = (j : ℕ) → times j js ≡ cond (leb 1 j && ltb j n) 1 0
 
 -- "Sizes come first, rows in any order, end last."
-pub record Written (bytes : List ℕ) (t : Table) : Type 0 where
+pub record Says (bytes : List ℕ) (t : Table) : Type 0 where
   pub whole : Whole t
   pub order : List ℕ
   pub each-once : EachOnce (t .symbols) order
@@ -50,4 +50,4 @@ pub record Written (bytes : List ℕ) (t : Table) : Type 0 where
 
 abbrev pub PARSES-EXACTLY : Type 0
 PARSES-EXACTLY =
-    (bytes : List ℕ) (t : Table) → ((i : ℕ) → getD bytes i 0 < 256) → (parse bytes ≡ parsed t) ↔ Written bytes t
+    (bytes : List ℕ) (t : Table) → ((i : ℕ) → getD bytes i 0 < 256) → (parse bytes ≡ parsed t) ↔ Says bytes t

@@ -30,7 +30,7 @@ fn put_sizes(t: Table, out: &mut [u8])
     out[3] = t.depth as u8;
 }
 
-// The row record of row j at `at`, its row low byte first.
+// The row record of row j at `at`, the row's low byte first.
 fn put_row(out: &mut [u8], at: usize, j: usize, row: u64)
     requires { ⌜ (at + 10 ≤ length (now out)) × (j ≤ 15) ⌝ }
     ensures { λ _. ⌜ now (out .exit) ≡ sets (now (out .entry)) at (2 ∷ j ∷ bytesOf 8 row) ⌝ }
@@ -60,7 +60,7 @@ fn put_rows(t: Table, out: &mut [u8])
     }
 }
 
-// All records of a sound table, if there is room for them.
+// All records of a sound table, or 16 if there is no room for them.
 fn put(t: Table, out: &mut [u8]) -> WriteAnswer
     requires { ⌜ (1 ≤ t .symbols) × (t .symbols ≤ 16) × (t .span ≤ 64) × (t .depth ≤ 64) ⌝ }
     ensures answer { λ r. ⌜ writeNumbers r ≡ writeResult t (length (now (out .entry))) Judgement.Sound ⌝ }
@@ -76,7 +76,7 @@ fn put(t: Table, out: &mut [u8]) -> WriteAnswer
     WriteAnswer::Written(length)
 }
 
-// Judges the table, and writes it if it is sound and has room.
+// Judges the table, and writes it if it is sound and the buffer has room for it.
 pub fn write(t: Table, out: &mut [u8]) -> WriteAnswer
     ensures { λ r. ⌜ Writes t (now (out .entry)) r (now (out .exit)) ⌝ }
 {

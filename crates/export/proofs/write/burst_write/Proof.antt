@@ -24,7 +24,7 @@ returns c =
     let of = m .before .before in
     let bytes = of .before .before .args .bytes .now in
     subst (λ (u : Table). WritesBy u bytes (c .written .result) (m .write .last .1 .0)) (of .table-of .ensures)
-    (record { written = m .write .result; right = m .write .ensures; answer = c .written .ensures })
+    (record { writing = m .write .result; right = m .write .ensures; answer = c .written .ensures })
 
 pub burst-write-spec : {M : Type 1} → statement M
 burst-write-spec =
