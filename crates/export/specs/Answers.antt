@@ -35,13 +35,11 @@ readingOf (k ∷ p ∷ []) = record { refused = k; place = p; l = 0; e0 = 0; e1 
 readingOf (k ∷ l ∷ e0 ∷ []) = record { refused = k; place = 0; l = l; e0 = e0; e1 = 0 }
 readingOf (k ∷ l ∷ e0 ∷ e1 ∷ ns) = record { refused = k; place = 0; l = l; e0 = e0; e1 = e1 }
 
--- the same with the count of bytes for the place: 0 and a count, 10 and the triple, or the number of another refusal
+-- the same with a count of bytes for the place: 0 and the count, 10 and the triple, or the number of another refusal
 abbrev pub writtenOf : List ℕ → BurstWritten
-writtenOf [] = record { refused = 0; length = 0; l = 0; e0 = 0; e1 = 0 }
-writtenOf (k ∷ []) = record { refused = k; length = 0; l = 0; e0 = 0; e1 = 0 }
-writtenOf (k ∷ c ∷ []) = record { refused = k; length = c; l = 0; e0 = 0; e1 = 0 }
-writtenOf (k ∷ l ∷ e0 ∷ []) = record { refused = k; length = 0; l = l; e0 = e0; e1 = 0 }
-writtenOf (k ∷ l ∷ e0 ∷ e1 ∷ ns) = record { refused = k; length = 0; l = l; e0 = e0; e1 = e1 }
+writtenOf ns =
+    let r = readingOf ns in
+    record { refused = r .refused; length = r .place; l = r .l; e0 = r .e0; e1 = r .e1 }
 
 -- 0 to 4, as CR 1 of 02 numbers them; the numbers of refusals have `REFUSED-CALLS`
 abbrev pub MARK-RANGE : Type 0

@@ -97,6 +97,10 @@ pub fit-same : (n N m : ℕ) (us ts : List ℕ) → take (n - 1) us ≡ take (n 
 unfolding fit
 fit-same n N m us ts e = rw e
 
+-- and so do the rows of the code
+pub code-rows-same : (n : ℕ) (us ts : List ℕ) → take (n - 1) us ≡ take (n - 1) ts → codeRows n us ≡ codeRows n ts
+code-rows-same n us ts e = ap (λ (l : List ℕ). l ++ (1 ∷ [])) e
+
 pub zero-unfit : ZERO-UNFIT
 unfolding fit sizesFit
 zero-unfit = refl

@@ -23,7 +23,7 @@ use Rattle.tables.specs.Written.{bytesOf, sizesRecord, rowRecord, rowRec
 use Rattle.tables.specs.Writing.{ascending, written, writtenLength, writeNumbers, writeResult, writeBuffer}
 use Rattle.tables.specs.Writing.{Writes, rowNumber, sorted, recordsIn, sortedFile}
 use Rattle.tables.specs.Writing.{SOUND-WRITTEN, READS-BACK, SAME-BYTES, ACCEPTED-BYTES, FILE-SORTED, WRITES-SAME}
-use Rattle.tables.proofs.Fit.{fit-facts, fit-same}
+use Rattle.tables.proofs.Fit.{fit-facts, fit-same, code-rows-same}
 use Rattle.tables.proofs.Reading.{accepted-suitable, suitable-accepted}
 use Rattle.tables.proofs.Parsed.{parse-room}
 use Rattle.tables.proofs.Written.{written-parsed, parses-exactly}
@@ -127,7 +127,7 @@ reads-back t before after c r room w q =
     let s = stored t before after c w in
     let whole = trimmed-whole t (s .fits) room in
     let same = trimmed-same t (s .fits) room in
-    let rows : rowsOf (trimmed t) ≡ rowsOf t = ap (λ (l : List ℕ). l ++ (1 ∷ [])) (same .rows) in
+    let rows : rowsOf (trimmed t) ≡ rowsOf t = code-rows-same (t .symbols) (trimmed t .rows) (t .rows) (same .rows) in
     let back : r ≡ reading Accepted (trimmed t) =
     suitable-accepted (take c after) (trimmed t) r q (ap parse (s .bytes) ∙ written-parses t (s .fits) room)
     (subst (λ (l : List ℕ). Suitable (t .span) l) (sym rows) (s .suits)) in
@@ -239,7 +239,7 @@ module _ (n N m : ℕ) (us ts : List ℕ) (e : take (n - 1) us ≡ take (n - 1) 
   fits = fit-same n N m us ts e
 
   rows : codeRows n us ≡ codeRows n ts
-  rows = ap (λ (l : List ℕ). l ++ (1 ∷ [])) e
+  rows = code-rows-same n us ts e
 
   judges-same : (j : Judgement) → Judges (table n N m us) j → Judges (table n N m ts) j
   judges-same Unfit r = sym fits ∙ r
