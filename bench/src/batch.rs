@@ -1,32 +1,10 @@
 //! Batches against the single calls of the same blocks, both of the archive, in the same run: nanoseconds a block of each, and how many
 //! times faster the batch is, medians of rounds. Answers and memories are compared in every round.
 
-use crate::{burst_code, burst_decode, fast, made, median, numbers, Random, ROUNDS};
+use crate::archive::{burst_code, burst_code_batch, burst_decode, burst_decode_batch, Batch};
+use crate::{fast, made, median, numbers, Random, ROUNDS};
 use std::hint::black_box;
 use std::time::Instant;
-
-type Batch = unsafe extern "C" fn(*const u64, *mut u64, usize, *const u16, usize, *mut u32, usize) -> usize;
-
-extern "C" {
-    fn burst_code_batch(
-        table: *const u64,
-        words: *mut u64,
-        count: usize,
-        infos: *const u16,
-        length: usize,
-        entries: *mut u32,
-        room: usize,
-    ) -> usize;
-    fn burst_decode_batch(
-        table: *const u64,
-        words: *mut u64,
-        count: usize,
-        received: *const u16,
-        length: usize,
-        entries: *mut u32,
-        room: usize,
-    ) -> usize;
-}
 
 /// Blocks of a round: whole batches of every length here.
 const BLOCKS: usize = 16 * 4096;

@@ -3,49 +3,15 @@
 //! symbols take with a span of 64 than with one of 4, and what writing a table costs beside judging it. Last, batches against single calls;
 //! the exit status is 1 if they are slower than is asked for.
 
+// The declarations that the comparing tests have; not every function is timed.
+#[allow(dead_code)]
+#[path = "../../tests/rust/src/archive.rs"]
+mod archive;
 mod batch;
 mod fast;
 
+use archive::{burst_code, burst_decode, burst_read, burst_write, Written};
 use std::time::Instant;
-
-#[repr(C)]
-struct Reading {
-    refused: u64,
-    place: u64,
-    l: u64,
-    e0: u64,
-    e1: u64,
-}
-
-#[repr(C)]
-struct Written {
-    refused: u64,
-    length: u64,
-    l: u64,
-    e0: u64,
-    e1: u64,
-}
-
-#[repr(C)]
-struct Coded {
-    refused: u64,
-    block: u64,
-}
-
-#[repr(C)]
-struct Decoded {
-    refused: u64,
-    info: u64,
-    mark: u64,
-    error: u64,
-}
-
-extern "C" {
-    fn burst_read(bytes: *const u8, length: usize, table: *mut u64) -> Reading;
-    fn burst_write(table: *const u64, bytes: *mut u8, room: usize) -> Written;
-    fn burst_code(table: *const u64, words: *mut u64, count: usize, info: u16) -> Coded;
-    fn burst_decode(table: *const u64, words: *mut u64, count: usize, received: u16) -> Decoded;
-}
 
 const COLUMNS: [u64; 15] = [1, 3, 7, 13, 17, 35, 71, 237, 433, 851, 1687, 2365, 5873, 9155, 26183];
 const STEPS: usize = 200_000;
@@ -194,7 +160,11 @@ fn report_writing() {
         let (judging, refused) = written(&table, &mut out[..0]);
         assert_eq!((refused.refused, refused.length), (16, 0), "writing: another refusal");
         let (writing, done) = written(&table, &mut out);
-        assert_eq!((done.refused, done.length, done.l, done.e0, done.e1), (0, 155, 0, 0, 0), "writing: refused");
+        assert_eq!(
+            (done.refused, done.length, done.l, done.e0, done.e1),
+            (0, 155, 0, 0, 0),
+            "writing: refused"
+        );
         assert_eq!(out, file, "writing: other bytes");
         alone.push(judging);
         whole.push(writing);

@@ -1,6 +1,7 @@
 //! The plain implementation of the burst codec, a safe wrapper over the proved one's C interface, and its listing
 //! program, run.
 
+pub mod archive;
 pub mod cases;
 pub mod examples;
 pub mod oracle;
@@ -8,85 +9,16 @@ pub mod oracle;
 #[cfg(test)]
 mod oracle_tests;
 
+pub use archive::{Coded, Decoded, Reading, Written};
+
 /// A table as it crosses the boundary: n, N, m, then rows 1 to 15.
 pub type Numbers = [u64; 18];
-
-/// The answer of reading a table.
-#[repr(C)]
-#[derive(Clone, Copy, Debug, PartialEq, Eq)]
-pub struct Reading {
-    pub refused: u64,
-    pub place: u64,
-    pub l: u64,
-    pub e0: u64,
-    pub e1: u64,
-}
-
-/// The answer of writing a table.
-#[repr(C)]
-#[derive(Clone, Copy, Debug, PartialEq, Eq)]
-pub struct Written {
-    pub refused: u64,
-    pub length: u64,
-    pub l: u64,
-    pub e0: u64,
-    pub e1: u64,
-}
-
-/// The answer of a coder step.
-#[repr(C)]
-#[derive(Clone, Copy, Debug, PartialEq, Eq)]
-pub struct Coded {
-    pub refused: u64,
-    pub block: u64,
-}
-
-/// The answer of a decoder step; mark 0 is "nothing yet".
-#[repr(C)]
-#[derive(Clone, Copy, Debug, PartialEq, Eq)]
-pub struct Decoded {
-    pub refused: u64,
-    pub info: u64,
-    pub mark: u64,
-    pub error: u64,
-}
 
 /// The proved implementation. Unit tests are built without it, so that they need no archive.
 #[cfg(not(test))]
 pub mod linked {
-    use super::{Coded, Decoded, Numbers, Reading, Written};
-
-    extern "C" {
-        fn burst_read(bytes: *const u8, length: usize, table: *mut u64) -> Reading;
-        fn burst_make(n: u64, m: u64, table: *mut u64) -> u64;
-        fn burst_write(table: *const u64, bytes: *mut u8, room: usize) -> Written;
-        fn burst_start_coder(table: *const u64, words: *mut u64, count: usize) -> u64;
-        fn burst_start_decoder(table: *const u64, words: *mut u64, count: usize) -> u64;
-        fn burst_code(table: *const u64, words: *mut u64, count: usize, info: u16) -> Coded;
-        fn burst_decode(table: *const u64, words: *mut u64, count: usize, received: u16) -> Decoded;
-        fn burst_code_batch(
-            table: *const u64,
-            words: *mut u64,
-            count: usize,
-            infos: *const u16,
-            length: usize,
-            entries: *mut u32,
-            room: usize,
-        ) -> usize;
-        fn burst_decode_batch(
-            table: *const u64,
-            words: *mut u64,
-            count: usize,
-            received: *const u16,
-            length: usize,
-            entries: *mut u32,
-            room: usize,
-        ) -> usize;
-    }
-
-    /// Table, words and their count, blocks and their length, entries and their room.
-    type Batch =
-        unsafe extern "C" fn(*const u64, *mut u64, usize, *const u16, usize, *mut u32, usize) -> usize;
+    use super::archive::*;
+    use super::Numbers;
 
     /// What the numbers lent for a table hold before the call: a refusal leaves them so.
     pub const UNWRITTEN: Numbers = [0xA5A5_A5A5_A5A5_A5A5; 18];
