@@ -59,7 +59,7 @@ const RIGHT: Work = Work {
 const BURSTS: Work = Work { what: "decoder, bursts", least: [2.0, 3.0, 3.5, 4.0], ..RIGHT };
 
 /// A batch that must take all its blocks.
-fn whole(batch: Batch, table: &[u64; 18], words: &mut [u64], blocks: &[u16], entries: &mut [u32]) {
+pub fn whole(batch: Batch, table: &[u64; 18], words: &mut [u64], blocks: &[u16], entries: &mut [u32]) {
     let (list, output) = (blocks.as_ptr(), entries.as_mut_ptr());
     let (length, room, count) = (blocks.len(), entries.len(), words.len());
     let taken = unsafe { batch(table.as_ptr(), words.as_mut_ptr(), count, list, length, output, room) };

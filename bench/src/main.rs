@@ -1,7 +1,7 @@
 //! Prints what a call takes in nanoseconds, the proved codec and the one written for speed in the same run, and their ratio: medians of
 //! several rounds, the ratio's too, answers and memories compared throughout. Then how much longer the images of all error blocks of 16
-//! symbols take with a span of 64 than with one of 4, and what writing a table costs beside judging it. Last, batches against single calls;
-//! the exit status is 1 if they are slower than is asked for.
+//! symbols take with a span of 64 than with one of 4, and what writing a table costs beside judging it. Last, batches against single calls.
+//! The exit status is 1 if images or batches take longer than is asked for.
 
 // The declarations that the comparing tests have; not every function is timed.
 #[allow(dead_code)]
@@ -9,6 +9,7 @@
 mod archive;
 mod batch;
 mod fast;
+mod images;
 
 use archive::{burst_code, burst_decode, burst_read, burst_write, Written};
 use std::time::Instant;
@@ -106,43 +107,6 @@ fn report(
     println!("{:<22} {:>3} {:>3} {:>10.1} {:>10.1} {:>7.2}", what, t.n, t.depth, a, b, ratio);
 }
 
-/// A table of 16 symbols whose rows have ones at every place of the span.
-fn full(span: usize) -> fast::Table {
-    let row = |j: usize| (j as u64 * 0x9e37_79b9_7f4a_7c15 | 1) & u64::MAX >> (64 - span);
-    fast::Table { n: 16, span, depth: 1, rows: std::array::from_fn(|i| row(i + 1)) }
-}
-
-/// The images of all error blocks: what a step of a coder at rest adds to this block's parity and to those after it. The parity symbol's
-/// row is 1.
-fn images(mut step: impl FnMut(&mut [u64], u16) -> u64) -> (f64, u64) {
-    let mut sum = 0u64;
-    let begun = Instant::now();
-    for e in 0..=u16::MAX {
-        let mut words = [0; 2];
-        let block = step(&mut words, e & 0x7fff);
-        let image = words[1] << 1 | (block >> 15 ^ u64::from(e >> 15)) & 1;
-        sum = sum.wrapping_mul(31).wrapping_add(image);
-    }
-    (begun.elapsed().as_nanos() as f64, sum)
-}
-
-fn report_images() {
-    let (short, long) = (full(4), full(64));
-    let (a, b) = (numbers(&short), numbers(&long));
-    let (mut ours, mut theirs) = (vec![], vec![]);
-    for _ in 0..ROUNDS {
-        let at_4 = images(|w, info| code(&a, w, info));
-        let at_64 = images(|w, info| code(&b, w, info));
-        let fast_4 = images(|w, info| fast::code(&short, w, info));
-        let fast_64 = images(|w, info| fast::code(&long, w, info));
-        assert_eq!((at_4.1, at_64.1), (fast_4.1, fast_64.1), "images: the two differ");
-        ours.push(at_64.0 / at_4.0);
-        theirs.push(fast_64.0 / fast_4.0);
-    }
-    println!("\nimages of all 65536 error blocks, n = 16, time at N = 64 to time at N = 4");
-    println!("{:>40.2} {:>10.2}", median(ours), median(theirs));
-}
-
 /// Nanoseconds of writing a table into this much room, and the answer.
 fn written(table: &[u64; 18], bytes: &mut [u8]) -> (f64, Written) {
     let begun = Instant::now();
@@ -224,10 +188,16 @@ fn main() {
         let fast_read = |_: &mut [u64], _| fast::read(&file).map_or(0, |t| numbers(&t).iter().sum());
         report("reading a table", &t, || timed(&once, 0, read), || timed(&once, 0, fast_read));
     }
-    report_images();
+    let fetched_once = images::report();
     report_writing();
-    if !batch::report_all(&mut random) {
+    let batches = batch::report_all(&mut random);
+    if !fetched_once {
+        println!("images with a span of 64 take more than twice what they take with one of 4");
+    }
+    if !batches {
         println!("a batch of 256 blocks or more with m = 16 is slower than is asked for");
+    }
+    if !fetched_once || !batches {
         std::process::exit(1);
     }
 }

@@ -10,6 +10,7 @@ use std::ops::Range;
 use std::time::Instant;
 
 mod batches;
+mod images;
 mod writing;
 
 const SEED: u64 = 0x9E37_79B9_7F4A_7C15;
@@ -987,7 +988,7 @@ fn check_step(tally: &mut Tally, StepCase { table, memory, step, after }: &StepC
 
 type Group = (&'static str, fn(&mut Tally, &mut Draw));
 
-const GROUPS: [Group; 41] = [
+const GROUPS: [Group; 45] = [
     ("examples of tables", examples_of_tables),
     ("examples of steps", examples_of_steps),
     ("bytes of every refusal and place", bytes_of_every_refusal),
@@ -1028,6 +1029,10 @@ const GROUPS: [Group; 41] = [
     ("writing: all small tables, by trying", writing::small_tables_all),
     ("writing: unused rows", writing::unused_rows),
     ("writing: equal tables, equal bytes", writing::equal_tables),
+    ("images: all error blocks, by coder calls", images::by_coder_calls),
+    ("images: all error blocks, by decoder calls", images::by_decoder_calls),
+    ("images: all error blocks, by batches of the coder", images::by_coder_batches),
+    ("images: all error blocks, by batches of the decoder", images::by_decoder_batches),
     ("everything reached", everything_reached),
 ];
 

@@ -124,7 +124,7 @@ impl Side {
     }
 
     /// Compares a batch, and returns its entries and how it ended.
-    fn compare_batch(
+    pub fn compare_batch(
         &self,
         tally: &mut Tally,
         table: &Table,
