@@ -113,7 +113,6 @@ unfolding sorted Rising
 rising-sorted [] = tt
 rising-sorted (j ∷ js) = rising-inserted j (sortedNumbers js) (rising-sorted js)
 
--- rising lists with the same numbers are equal
 -- the first of a rising list is not above any number in another with the same numbers
 first-least : (x y : ℕ) (xs ys : List ℕ) → Rising (y ∷ ys) → times x (x ∷ xs) ≡ times x (y ∷ ys) → y ≤ x
 unfolding Rising
@@ -127,6 +126,7 @@ first-least x y xs ys r e = go (ltb x y) refl
         omega arith
     go false q = ltb-false x y q
 
+-- rising lists with the same numbers are equal
 rising-unique : (xs ys : List ℕ) → Rising xs → Rising ys → ((k : ℕ) → times k xs ≡ times k ys) → xs ≡ ys
 unfolding Rising
 rising-unique [] [] r s f = refl

@@ -1,6 +1,6 @@
-//! The images of all 65,536 error blocks of 16 symbols, at the spans that their times are held against each other for.
-//! A block that is taken at rest shows its image: bit 0 in the parity or in the mark, the others in the pending word, and
-//! all of them in the parities of the blocks of zeros after it.
+//! The images of all 65,536 error blocks of 16 symbols, at the two spans whose times the benchmark compares. The first
+//! block that a started coder or decoder takes shows its image: bit 0 in the parity or in the mark, the others in the
+//! pending word, and all of them in the parities of the blocks of zeros after it.
 
 use super::*;
 
@@ -41,7 +41,8 @@ pub fn by_coder_calls(tally: &mut Tally, draw: &mut Draw) {
     });
 }
 
-/// A decoder at rest that delivers: its mark is clean exactly if the raw term, bit 0 of the image, is 0.
+/// A started decoder with its fill complete, so that it delivers: its mark is clean exactly if the raw term, bit 0 of
+/// the image, is 0.
 fn delivering(table: &Table) -> Vec<u64> {
     let mut words = vec![0; table.decoder_words()];
     words[1] = table.delay();
