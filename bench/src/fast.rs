@@ -159,7 +159,7 @@ pub fn decode(t: &Table, words: &mut [u64], received: u16) -> u64 {
     let (mut error, mut kept, mut mark) = (0, 0, 1);
     if register != 0 {
         match least_error(t, register) {
-            Some(e) => (error, mark) = (e, 3),
+            Some(e) => (error, mark) = (e, 3 + 2 * u64::from(e == 1 << (n - 1))),
             None => (kept, mark) = (register >> 1, 2 + 2 * (register & 1)),
         }
     }

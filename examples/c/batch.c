@@ -25,7 +25,7 @@ enum {
 static const uint16_t infos[BLOCKS] = {3, 3, 4, 4, 5, 5, 6, 7, 7, 6, 6, 5, 4, 4, 3, 2, 2, 1, 1, 1, 0, 0, 1, 1, 2,
                                        2, 3, 4, 4, 5, 5, 4, 3, 3}; /* and zeros */
 static const uint16_t damage[DEPTH] = {5, 8, 15};
-static const char *const marks[] = {"nothing yet", "clean", "held", "corrected", "doubtful"};
+static const char *const marks[] = {"nothing yet", "clean", "held", "corrected", "doubtful", "parity"};
 
 /* Prints the deliveries of a batch whose first block is block number `first`; returns how many of them are wrong. */
 static int print_entries(const uint32_t *entries, size_t taken, size_t first)

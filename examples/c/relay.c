@@ -20,7 +20,7 @@ enum {
 
 static const uint16_t levels[LEVELS] = {3, 3, 4, 4, 5, 5, 6, 7, 7, 6, 6, 5, 4, 4, 3, 2, 2, 1};
 static const uint16_t damage[DEPTH] = {5, 8, 15};
-static const char *const marks[] = {"nothing yet", "clean", "held", "corrected", "doubtful"};
+static const char *const marks[] = {"nothing yet", "clean", "held", "corrected", "doubtful", "parity"};
 
 static int refused(const char *call, uint64_t number)
 {

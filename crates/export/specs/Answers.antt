@@ -6,7 +6,7 @@
 --   decodedOf ns      of a decoder's step: number, information, the mark's number, e or 0
 --   readingOf ns      of reading: number; the place of refusals 1 to 9; l, e0 and e1 of 10
 --   writtenOf ns      of writing: number; how many bytes were written; l, e0 and e1 of 10
---   MARK-RANGE        a mark's number is at most 4
+--   MARK-RANGE        a mark's number is at most 5
 use mathlib.Core.List.{List, [], _∷_}
 use Prim.Native.Nat.{ℕ, _≤_}
 use lib.ListN.{getD}
@@ -41,6 +41,6 @@ writtenOf ns =
     let r = readingOf ns in
     record { refused = r .refused; length = r .place; l = r .l; e0 = r .e0; e1 = r .e1 }
 
--- 0 to 4, as CR 1 of 02 numbers them; the numbers of refusals have `REFUSED-CALLS`
+-- 0 to 5, as CR 1 and CR 4 of 02 number them; the numbers of refusals have `REFUSED-CALLS`
 abbrev pub MARK-RANGE : Type 0
-MARK-RANGE = (a : DecodeAnswer) → decodedOf (decodeNumbers a) .mark ≤ 4
+MARK-RANGE = (a : DecodeAnswer) → decodedOf (decodeNumbers a) .mark ≤ 5

@@ -34,6 +34,12 @@ fn delivered(d: Delivered) -> BurstDecoded
             mark: 3,
             error: e as u64,
         },
+        Mark::Parity(e) => BurstDecoded {
+            refused: 0,
+            info,
+            mark: 5,
+            error: e as u64,
+        },
         Mark::Doubtful => BurstDecoded {
             refused: 0,
             info,

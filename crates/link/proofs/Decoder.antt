@@ -75,7 +75,8 @@ pub record DecoderStep (n N m : ℕ) (infos : List ℕ) (s : List ℕ) (r : ℕ)
   pub answers : m * (N - 1) ≤ fillOf s → answer
       ≡ Delivery (record {
         info = delayedIn N s 0 ⊕ errorOf (found (infos ++ (1 ∷ [])) (registerIn n N infos s r)) % 2 ^ (n - 1);
-        mark = markOf (found (infos ++ (1 ∷ [])) (registerIn n N infos s r)) (registerIn n N infos s r);
+        mark =
+            markOf (2 ^ (n - 1)) (found (infos ++ (1 ∷ [])) (registerIn n N infos s r)) (registerIn n N infos s r);
       })
 
 -- a part of a list put in place of another of its length

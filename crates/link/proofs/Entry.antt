@@ -17,7 +17,7 @@ use lib.Pow.{pow-pos, pow-mono}
 use Rattle.span.proofs.Word.{xor-lt}
 use Rattle.tables.specs.declared.table.Table.{Table}
 use Rattle.link.specs.declared.decode.Mark.{Mark}
-use Rattle.link.specs.declared.decode.Mark.the-variants.{Clean, Held, Corrected, Doubtful}
+use Rattle.link.specs.declared.decode.Mark.the-variants.{Clean, Held, Corrected, Doubtful, Parity}
 use Rattle.link.specs.declared.decode.DecodeAnswer.the-variants.{Delivery, NothingYet}
 use Rattle.link.specs.Memory.{turnOf, fillOf, delayOf, delayedOf}
 use Rattle.link.specs.Step.{errorOf}
@@ -67,11 +67,12 @@ entry-is t s r mark info p q = go (ltb (fillOf s) (delayOf t))
     go true = refl
     go false = ap₂ (λ (m : Mark) (i : ℕ). decodeEntry (markNumber m) i ∷ []) p q
 
-mark-most : (m : Mark) → markNumber m ≤ 4
+mark-most : (m : Mark) → markNumber m ≤ 5
 mark-most Clean = omega arith
 mark-most Held = omega arith
 mark-most (Corrected e) = omega arith
 mark-most Doubtful = omega arith
+mark-most (Parity e) = omega arith
 
 decoded-entry : (t : Table) (s : List ℕ) (r : ℕ) → decoderFault t s r ≡ 0
     → (e : ℕ) × (decodeEntries (decodeAnswer t s r) ≡ e ∷ []) × (e < 2 ^ 32)

@@ -4,14 +4,16 @@
 --   error-found, error-missing   from the relation among rows and register
 --   zero-found                   the register 0 is the image of 0
 --   found-lt, found-some         an error block that was found is below 2^n, and not 0 unless the register is
---   verdict-zero .. verdict-held   error, word that stays, and mark in the four cases of a register
+--   mark-clean, mark-parity, mark-corrected   the mark of an error block, by its value
+--   verdict-found .. verdict-held   error, word that stays, and mark in the three cases of a register
 use mathlib.Core.Path.{_≡_, refl, sym, ap, _∙_, subst}
 use mathlib.Core.Bool.{Bool, true, false, cond}
 use mathlib.Core.Logic.{_≢_}
 use mathlib.Core.List.{List, [], _∷_, _++_}
 use Prim.Native.Nat.{ℕ, _+_, _-_, _/_, _^_, _≤_, _<_, zero-le}
 use native.Mathlib.Omega.{arith}
-use borrow.Author.Tests.{ne-eqb}
+use borrow.Author.Tests.{eq-eqb, ne-eqb}
+use lib.Dec.{eqb}
 use lib.ListN.{length, take, length-append}
 use lib.Pow.{pow-pos, pow-mono}
 use lib.Seq.{take-all}
@@ -23,8 +25,9 @@ use Rattle.span.specs.Relation.{leastRelation, leastCoefficients, raised, IsLea
 use Rattle.span.proofs.Combination.{combination-zero}
 use Rattle.span.proofs.Relation.{least-coefficients, least-unique, least-raised}
 use Rattle.link.specs.declared.decode.Mark.{Mark}
-use Rattle.link.specs.declared.decode.Mark.the-variants.{Clean, Corrected, Doubtful, Held}
-use Rattle.link.specs.Step.{errorOf, keptOf, markOf}
+use Rattle.link.specs.declared.decode.Mark.the-variants.{Clean, Corrected, Parity, Doubtful, Held}
+use Rattle.link.specs.Step.{errorOf, keptOf, markFound, markOf}
+use Rattle.link.proofs.Refusals.{picked, passed}
 
 -- the words that count are the rows and the register
 ended : (rows words : List ℕ) (n x : ℕ) → length rows ≡ n → n ≤ 16 → take (n + 1) words ≡ rows ++ (x ∷ [])
@@ -83,30 +86,43 @@ error-lt rows x h = go (leastCoefficients rows x) refl
         omega arith
     go Missing q = omega arith
 
+-- ---- the mark of an error block that was found
+
+module _ (parity e : ℕ) where
+  pub mark-clean : e ≡ 0 → Clean ≡ markFound parity e
+  mark-clean none = picked (eqb e 0) Clean (cond (eqb e parity) (Parity e) (Corrected e)) (eq-eqb e 0 none)
+
+  pub mark-parity : e ≢ 0 → e ≡ parity → Parity e ≡ markFound parity e
+  mark-parity some same =
+      picked (eqb e parity) (Parity e) (Corrected e) (eq-eqb e parity same)
+      ∙ passed (eqb e 0) Clean (cond (eqb e parity) (Parity e) (Corrected e)) (ne-eqb e 0 some)
+
+  pub mark-corrected : e ≢ 0 → e ≢ parity → Corrected e ≡ markFound parity e
+  mark-corrected some other =
+      passed (eqb e parity) (Parity e) (Corrected e) (ne-eqb e parity other)
+      ∙ passed (eqb e 0) Clean (cond (eqb e parity) (Parity e) (Corrected e)) (ne-eqb e 0 some)
+
 -- ---- error, word that stays, and mark
 
-abbrev VerdictOf : Least → ℕ → ℕ → ℕ → Mark → Type 0
-VerdictOf f x error kept mark = (error ≡ errorOf f) × ((kept ≡ keptOf f x) × (mark ≡ markOf f x))
+abbrev VerdictOf : ℕ → Least → ℕ → ℕ → ℕ → Mark → Type 0
+VerdictOf parity f x error kept mark = (error ≡ errorOf f) × ((kept ≡ keptOf f x) × (mark ≡ markOf parity f x))
 
-pub verdict-zero : (f : Least) (x : ℕ) → f ≡ Found 0 → VerdictOf f x 0 0 Clean
-verdict-zero f x e = subst (λ (g : Least). VerdictOf g x 0 0 Clean) (sym e) (refl, (refl, refl))
-
-pub verdict-found : (f : Least) (x e : ℕ) → f ≡ Found e → e ≢ 0 → VerdictOf f x e 0 (Corrected e)
-verdict-found f x e h some =
-    subst (λ (g : Least). VerdictOf g x e 0 (Corrected e)) (sym h) (refl, (refl, ap corrected (sym (ne-eqb e 0 some))))
-  where
-    corrected : Bool → Mark
-    corrected b = cond b Clean (Corrected e)
+pub verdict-found : (parity : ℕ) (f : Least) (x e : ℕ) (mark : Mark) → f ≡ Found e → mark ≡ markFound parity e
+    → VerdictOf parity f x e 0 mark
+verdict-found parity f x e mark h is =
+    subst (λ (g : Least). VerdictOf parity g x e 0 mark) (sym h) (refl, (refl, is))
 
 missing-mark : Bool → Mark
 missing-mark b = cond b Doubtful Held
 
-pub verdict-doubtful : (f : Least) (x : ℕ) → f ≡ Missing → odd x ≡ true → VerdictOf f x 0 (x / 2) Doubtful
+pub verdict-doubtful : (parity : ℕ) (f : Least) (x : ℕ) → f ≡ Missing → odd x ≡ true
+    → VerdictOf parity f x 0 (x / 2) Doubtful
 unfolding missing-mark
-verdict-doubtful f x e o =
-    subst (λ (g : Least). VerdictOf g x 0 (x / 2) Doubtful) (sym e) (refl, (refl, ap missing-mark (sym o)))
+verdict-doubtful parity f x e o =
+    subst (λ (g : Least). VerdictOf parity g x 0 (x / 2) Doubtful) (sym e) (refl, (refl, ap missing-mark (sym o)))
 
-pub verdict-held : (f : Least) (x : ℕ) → f ≡ Missing → odd x ≡ false → VerdictOf f x 0 (x / 2) Held
+pub verdict-held : (parity : ℕ) (f : Least) (x : ℕ) → f ≡ Missing → odd x ≡ false
+    → VerdictOf parity f x 0 (x / 2) Held
 unfolding missing-mark
-verdict-held f x e o =
-    subst (λ (g : Least). VerdictOf g x 0 (x / 2) Held) (sym e) (refl, (refl, ap missing-mark (sym o)))
+verdict-held parity f x e o =
+    subst (λ (g : Least). VerdictOf parity g x 0 (x / 2) Held) (sym e) (refl, (refl, ap missing-mark (sym o)))

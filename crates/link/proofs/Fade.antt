@@ -27,7 +27,7 @@ use Rattle.link.specs.declared.decode.DecodeAnswer.the-variants.{Deliver
 use Rattle.link.specs.Memory.{joining, turnOf, pendingAt, fillOf}
 use Rattle.link.specs.Step.{found, errorOf, keptOf, markOf}
 use Rattle.link.proofs.Suitable.{Corrects}
-use Rattle.link.proofs.Step.{both-half, both-odd, coder-info}
+use Rattle.link.proofs.Step.{both-half, both-odd, coder-info, NotDoubtful}
 use Rattle.span.proofs.Masks.{topped-lt}
 use Rattle.link.proofs.Sequence.{Stream, guard-clean, guard-syndrome, stream-judged}
 use Rattle.link.proofs.Interleaving.{place-first, place-next, place-earlier}
@@ -197,7 +197,7 @@ module _ {n N m : ℕ} {infos : List ℕ} {S M : ℕ → List ℕ} {R B C : ℕ 
     found-at : (p x : ℕ) → p < count → start * m ≤ p → ((q : ℕ) → q + m * (N - 1) ≡ p → er q ≡ x)
         → (p < m * (N - 1) → x ≡ 0)
         → (errorOf (found rows (registerIn n N infos (S p) (R p))) ≡ x)
-        × (markOf (found rows (registerIn n N infos (S p) (R p))) (registerIn n N infos (S p) (R p)) ≢ Doubtful)
+        × NotDoubtful (found rows (registerIn n N infos (S p) (R p))) (registerIn n N infos (S p) (R p))
     found-at p x h late leaves none =
         let some = l .m-from in
         let r = p % m in
@@ -222,7 +222,7 @@ module _ {n N m : ℕ} {infos : List ℕ} {S M : ℕ → List ℕ} {R B C : ℕ 
         ≡ registerIn n N infos (S p) (R p) =
         sym (register-is (r + k * m) inside) ∙ ap (λ (y : ℕ). registerIn n N infos (S y) (R y)) here in (
           ap (λ (y : ℕ). errorOf (found rows y)) (sym same) ∙ out .0,
-          subst (λ (y : ℕ). markOf (found rows y) y ≢ Doubtful) same (out .1),
+          subst (λ (y : ℕ). NotDoubtful (found rows y) y) same (out .1),
         )
 
     sure : (p x y : ℕ) → p < count → start * m ≤ p → ((q : ℕ) → q + m * (N - 1) ≡ p → er q ≡ x)
@@ -230,12 +230,13 @@ module _ {n N m : ℕ} {infos : List ℕ} {S M : ℕ → List ℕ} {R B C : ℕ 
         → m * (N - 1) ≤ fillOf (S p) → dl 0 p ⊕ x % 2 ^ (n - 1) ≡ y → Sure (A p) y
     sure p x y h late leaves none full is =
         let f = found-at p x h late leaves none in
-        let mark = markOf (found rows (registerIn n N infos (S p) (R p))) (registerIn n N infos (S p) (R p)) in (
+        let reg = registerIn n N infos (S p) (R p) in
+        let mark = markOf (2 ^ (n - 1)) (found rows reg) reg in (
           mark,
           l .decoding .decodes p h .answers full
               ∙ ap (λ (z : ℕ). Delivery (record { info = z; mark = mark }))
               (ap (λ (e : ℕ). dl 0 p ⊕ e % 2 ^ (n - 1)) (f .0) ∙ is),
-          f .1,
+          f .1 (2 ^ (n - 1)),
         )
 
     pub delivers : (p q : ℕ) → p < count → start * m ≤ p → q + m * (N - 1) ≡ p → Sure (A p) (B q)

@@ -1,13 +1,14 @@
--- The four marks, by the cases of what was found. Assumes nothing.
+-- The five marks: what is found gives the mark, and the mark tells what was found. Assumes nothing.
 use mathlib.Core.Path.{_≡_, refl, sym, ap, _∙_, subst}
 use mathlib.Core.Bool.{Bool, true, false, cond}
 use mathlib.Core.Logic.{_≢_, _↔_}
 use mathlib.Core.List.{List}
-use Prim.Native.Nat.{ℕ, _^_, zero-le}
+use Prim.Native.Nat.{ℕ, _-_, _^_, _<_, zero-le}
 use native.Mathlib.Omega.{arith}
 use borrow.Author.Tests.{eqb-true, eqb-false}
 use lib.Dec.{eqb}
 use lib.ListN.{length}
+use lib.Pow.{pow-pos}
 use Rattle.span.specs.declared.eliminate.Least.{Least}
 use Rattle.span.specs.declared.eliminate.Least.the-variants.{Found, Missing}
 use Rattle.span.specs.Word.{odd}
@@ -16,109 +17,68 @@ use Rattle.span.specs.Relation.{IsLeast}
 use Rattle.span.proofs.Combination.{combination-zero}
 use Rattle.span.proofs.Relation.{least-coefficients, least-unique}
 use Rattle.link.specs.declared.decode.Mark.{Mark}
-use Rattle.link.specs.declared.decode.Mark.the-variants.{Clean, Corrected, Doubtful, Held}
+use Rattle.link.specs.declared.decode.Mark.the-variants.{Clean, Corrected, Parity, Doubtful, Held}
 use Rattle.link.specs.Step.{found, markOf}
-use Rattle.link.specs.Marks.{NoError, MARKS}
-use Rattle.link.proofs.Error.{zero-found}
-
-never : {X : Type 0} (f : Least) (e : ℕ) → f ≡ Found e → f ≡ Missing → X
-never f e p q = let z : _≡_ {A = ℕ} 0 1 = cc in absurd (omega arith)
+use Rattle.link.specs.Marks.{NoError, LeastError, MARKS}
+use Rattle.link.proofs.Refusals.{picked, passed}
+use Rattle.link.proofs.Error.{zero-found, mark-parity, mark-corrected}
 
 module _ (rows : List ℕ) (x : ℕ) where
-  abbrev Least-is : Least → Type 0
-  Least-is f = IsLeast (λ (c : ℕ). combination rows c ≡ x) 0 (2 ^ length rows) f
+  least : (f : Least) → found rows x ≡ f → IsLeast (λ (c : ℕ). combination rows c ≡ x) 0 (2 ^ length rows) f
+  least f e = subst (IsLeast (λ (c : ℕ). combination rows c ≡ x) 0 (2 ^ length rows)) e (least-coefficients rows x)
 
-  least : (f : Least) → found rows x ≡ f → Least-is f
-  least f e = subst Least-is e (least-coefficients rows x)
-
-  found-least : (e : ℕ) → Least-is (Found e) → found rows x ≡ Found e
-  found-least e l =
-      least-unique (λ (c : ℕ). combination rows c ≡ x) 0 (2 ^ length rows) (found rows x) (Found e)
-      (least-coefficients rows x) l
+  found-least : (f : Least) → IsLeast (λ (c : ℕ). combination rows c ≡ x) 0 (2 ^ length rows) f → found rows x ≡ f
+  found-least f l =
+      least-unique (λ (c : ℕ). combination rows c ≡ x) 0 (2 ^ length rows) (found rows x) f (least-coefficients rows x) l
 
   found-none : NoError rows x → found rows x ≡ Missing
-  found-none n =
-      least-unique (λ (c : ℕ). combination rows c ≡ x) 0 (2 ^ length rows) (found rows x) Missing
-      (least-coefficients rows x) (λ d from to p. n d to p)
+  found-none n = found-least Missing (λ d from to p. n d to p)
 
   none-found : found rows x ≡ Missing → NoError rows x
   none-found e c below p = least Missing e c zero-le below p
 
-  zero-clean : x ≡ 0 → found rows x ≡ Found 0
-  zero-clean e = ap (found rows) e ∙ zero-found rows
+  module _ (parity : ℕ) (some : 0 < parity) where
+    abbrev Meaning : Mark → Type 0
+    Meaning Clean = x ≡ 0
+    Meaning (Corrected e) = (e ≢ 0) × (e ≢ parity) × LeastError rows x e
+    Meaning (Parity e) = (e ≡ parity) × LeastError rows x e
+    Meaning Doubtful = NoError rows x × (odd x ≡ true)
+    Meaning Held = NoError rows x × (odd x ≡ false)
 
-  clean-zero : found rows x ≡ Found 0 → x ≡ 0
-  clean-zero e = sym (least (Found 0) e .2) ∙ combination-zero rows
+    meant : (f : Least) → found rows x ≡ f → Meaning (markOf parity f x)
+    meant (Found e) h = go (eqb e 0) refl (eqb e parity) refl
+      where
+        go : (b : Bool) → eqb e 0 ≡ b → (c : Bool) → eqb e parity ≡ c
+            → Meaning (cond b Clean (cond c (Parity e) (Corrected e)))
+        go true p c q = sym (least (Found e) h .2) ∙ ap (combination rows) (eqb-true e 0 p) ∙ combination-zero rows
+        go false p true q = (eqb-true e parity q, least (Found e) h)
+        go false p false q = (eqb-false e 0 p, eqb-false e parity q, least (Found e) h)
+    meant Missing h = go (odd x) refl
+      where
+        go : (b : Bool) → odd x ≡ b → Meaning (cond b Doubtful Held)
+        go true q = (none-found h, q)
+        go false q = (none-found h, q)
 
-  abbrev Told : Mark → Type 0
-  Told mark =
-      ((mark ≡ Clean) ↔ (x ≡ 0)) × ((e : ℕ) → (mark ≡ Corrected e) ↔ ((e ≢ 0) × Least-is (Found e)))
-      × ((mark ≡ Doubtful) ↔ (NoError rows x × (odd x ≡ true))) × ((mark ≡ Held) ↔ (NoError rows x × (odd x ≡ false)))
+    -- the mark of what is found
+    by-found : (f : Least) (mark : Mark) → found rows x ≡ f → mark ≡ markOf parity f x
+        → markOf parity (found rows x) x ≡ mark
+    by-found f mark h e = ap (λ (g : Least). markOf parity g x) h ∙ sym e
 
-  told-clean : found rows x ≡ Found 0 → Told Clean
-  told-clean h = (
-    (λ m. clean-zero h, λ e. refl),
-    λ c. (
-      λ m. let z : _≡_ {A = ℕ} 0 1 = cc in absurd (omega arith),
-      λ l. let q = found-least c (l .1) in let z : c ≡ 0 = cc in absurd (l .0 z),
-    ),
-    (λ m. let z : _≡_ {A = ℕ} 0 1 = cc in absurd (omega arith), λ n. never (found rows x) 0 h (found-none (n .0))),
-    (λ m. let z : _≡_ {A = ℕ} 0 1 = cc in absurd (omega arith), λ n. never (found rows x) 0 h (found-none (n .0))),
-  )
+    given : (mark : Mark) → Meaning mark → markOf parity (found rows x) x ≡ mark
+    given Clean m = by-found (Found 0) Clean (ap (found rows) m ∙ zero-found rows) refl
+    given (Corrected e) m =
+        by-found (Found e) (Corrected e) (found-least (Found e) (m .2)) (mark-corrected parity e (m .0) (m .1))
+    given (Parity e) m =
+        let same = m .0 in
+        by-found (Found e) (Parity e) (found-least (Found e) (m .1))
+        (mark-parity parity e (λ (z : e ≡ 0). omega arith) same)
+    given Doubtful m = by-found Missing Doubtful (found-none (m .0)) (picked (odd x) Doubtful Held (m .1))
+    given Held m = by-found Missing Held (found-none (m .0)) (passed (odd x) Doubtful Held (m .1))
 
-  told-corrected : (e : ℕ) → e ≢ 0 → found rows x ≡ Found e → Told (Corrected e)
-  told-corrected e some h = (
-    (
-      λ m. let z : _≡_ {A = ℕ} 0 1 = cc in absurd (omega arith),
-      λ p. let q = zero-clean p in let z : e ≡ 0 = cc in absurd (some z),
-    ),
-    λ c. (
-      λ m. let same : e ≡ c = cc in subst (λ (d : ℕ). (d ≢ 0) × Least-is (Found d)) same (some, least (Found e) h),
-      λ l. let q = found-least c (l .1) in let same : e ≡ c = cc in ap Corrected same,
-    ),
-    (λ m. let z : _≡_ {A = ℕ} 0 1 = cc in absurd (omega arith), λ n. never (found rows x) e h (found-none (n .0))),
-    (λ m. let z : _≡_ {A = ℕ} 0 1 = cc in absurd (omega arith), λ n. never (found rows x) e h (found-none (n .0))),
-  )
-
-  told-doubtful : found rows x ≡ Missing → odd x ≡ true → Told Doubtful
-  told-doubtful h o = (
-    (λ m. let z : _≡_ {A = ℕ} 0 1 = cc in absurd (omega arith), λ p. never (found rows x) 0 (zero-clean p) h),
-    λ c. (
-      λ m. let z : _≡_ {A = ℕ} 0 1 = cc in absurd (omega arith),
-      λ l. never (found rows x) c (found-least c (l .1)) h,
-    ),
-    (λ m. (none-found h, o), λ n. refl),
-    (
-      λ m. let z : _≡_ {A = ℕ} 0 1 = cc in absurd (omega arith),
-      λ n. let q = n .1 in let z : _≡_ {A = ℕ} 0 1 = cc in absurd (omega arith),
-    ),
-  )
-
-  told-held : found rows x ≡ Missing → odd x ≡ false → Told Held
-  told-held h o = (
-    (λ m. let z : _≡_ {A = ℕ} 0 1 = cc in absurd (omega arith), λ p. never (found rows x) 0 (zero-clean p) h),
-    λ c. (
-      λ m. let z : _≡_ {A = ℕ} 0 1 = cc in absurd (omega arith),
-      λ l. never (found rows x) c (found-least c (l .1)) h,
-    ),
-    (
-      λ m. let z : _≡_ {A = ℕ} 0 1 = cc in absurd (omega arith),
-      λ n. let q = n .1 in let z : _≡_ {A = ℕ} 0 1 = cc in absurd (omega arith),
-    ),
-    (λ m. (none-found h, o), λ n. refl),
-  )
-
-  told : (f : Least) → found rows x ≡ f → Told (markOf f x)
-  told (Found e) h = go (eqb e 0) refl
-    where
-      go : (b : Bool) → eqb e 0 ≡ b → Told (cond b Clean (Corrected e))
-      go true q = told-clean (h ∙ ap Found (eqb-true e 0 q))
-      go false q = told-corrected e (eqb-false e 0 q) h
-  told Missing h = go (odd x) refl
-    where
-      go : (b : Bool) → odd x ≡ b → Told (cond b Doubtful Held)
-      go true q = told-doubtful h q
-      go false q = told-held h q
+    told : (mark : Mark) → (markOf parity (found rows x) x ≡ mark) ↔ Meaning mark
+    told mark = (λ e. subst Meaning e (meant (found rows x) refl), given mark)
 
 pub marks : MARKS
-marks rows x = told rows x (found rows x) refl
+marks n rows x =
+    let t = told rows x (2 ^ (n - 1)) (pow-pos (n - 1)) in
+    (t Clean, λ e. t (Corrected e), λ e. t (Parity e), t Doubtful, t Held)

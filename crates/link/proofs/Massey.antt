@@ -225,17 +225,17 @@ module _ {n N m : ℕ} {infos : List ℕ} {S : ℕ → List ℕ} {R : ℕ → �
   pub decoder-delivers : (p q : ℕ) → p < count → q + m * (N - 1) ≡ p
       → A p ≡ Delivery (record {
         info = R q % 2 ^ (n - 1) ⊕ errorOf (error p) % 2 ^ (n - 1);
-        mark = markOf (error p) (register p);
+        mark = markOf (2 ^ (n - 1)) (error p) (register p);
       })
   decoder-delivers p q h e =
       let v = judges p h in
       l .decodes p h .answers (fill-complete l p h (omega arith))
       ∙ ap₂ (λ (f : Least) (x : ℕ).
-      Delivery (record { info = delayedIn N (S p) 0 ⊕ errorOf f % 2 ^ (n - 1); mark = markOf f x })) (sym (v .found-is))
-      (sym (v .register-is))
+      Delivery (record { info = delayedIn N (S p) 0 ⊕ errorOf f % 2 ^ (n - 1); mark = markOf (2 ^ (n - 1)) f x }))
+      (sym (v .found-is)) (sym (v .register-is))
       ∙ ap (λ (x : ℕ). Delivery (record {
         info = x ⊕ errorOf (error p) % 2 ^ (n - 1);
-        mark = markOf (error p) (register p);
+        mark = markOf (2 ^ (n - 1)) (error p) (register p);
       })) (oldest l p q h e)
 
 -- ---- runs from started memories
@@ -321,7 +321,7 @@ deliveries t s ds tables p late inside =
     (omega arith) (omega arith)
     ∙ ap (λ (k : ℕ). Delivery (record {
       info = information (t .symbols) (takenAt taken k .block) ⊕ information (t .symbols) (errorOf error);
-      mark = markOf error (registerAt s ds (p - 1));
+      mark = markOf (2 ^ (t .symbols - 1)) error (registerAt s ds (p - 1));
     })) there
 
 pub waiting : WAITING

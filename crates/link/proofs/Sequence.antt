@@ -17,10 +17,9 @@ use Rattle.span.specs.Word.{_⊕_, odd, digit}
 use Rattle.span.specs.Combination.{combination}
 use Rattle.span.proofs.Word.{xor-zero-l, xor-zero-r, odd-of}
 use Rattle.span.proofs.Combination.{combination-zero}
-use Rattle.link.specs.declared.decode.Mark.the-variants.{Doubtful}
-use Rattle.link.specs.Step.{found, errorOf, keptOf, markOf}
+use Rattle.link.specs.Step.{found, errorOf, keptOf}
 use Rattle.link.proofs.Suitable.{Corrects}
-use Rattle.link.proofs.Step.{leaving, staying}
+use Rattle.link.proofs.Step.{NotDoubtful, leaving, staying}
 
 abbrev pub joint : List ℕ → (ℕ → ℕ) → (ℕ → ℕ) → ℕ → ℕ
 joint rows D e k = D k ⊕ combination rows (e k)
@@ -131,7 +130,7 @@ module _ {n w : ℕ} {rows : List ℕ} {D s e : ℕ → ℕ} {count : ℕ} (S : 
       → joint rows D e k ≡ combination rows (e j) / 2 ^ a → s k ≡ combination rows (e j) % 2 ^ a * 2 ^ l
       → ((i d : ℕ) → i + d ≡ k → d ≤ w → i ≢ j → e i ≡ 0)
       → (errorOf (found rows (registered w rows D e s k)) ≡ x)
-      × (markOf (found rows (registered w rows D e s k)) (registered w rows D e s k) ≢ Doubtful)
+      × NotDoubtful (found rows (registered w rows D e s k)) (registered w rows D e s k)
   judged k x j a zero h leaves none whole place rest lower others =
       let all : a ≡ w = omega arith in
       let out = leaving n w rows (S .code) (e j) (joint rows D e k) (s k) (S .error-lt j (omega arith))
@@ -214,7 +213,7 @@ module _ {n w : ℕ} {rows : List ℕ} {D s e : ℕ → ℕ} {count : ℕ} (S : 
       -- not doubtful
       pub stream-judged : (k x : ℕ) → c ≤ k → k < count → ((i : ℕ) → i + w ≡ k → e i ≡ x) → (k < w → x ≡ 0)
           → (errorOf (found rows (registered w rows D e s k)) ≡ x)
-          × (markOf (found rows (registered w rows D e s k)) (registered w rows D e s k) ≢ Doubtful)
+          × NotDoubtful (found rows (registered w rows D e s k)) (registered w rows D e s k)
       stream-judged k x from h leaves none =
           let at : c + (k - c) ≡ k = omega arith in
           let m = subst Mid at (mid (k - c) (omega arith)) in

@@ -22,7 +22,7 @@ use Rattle.span.specs.Relation.{leastCoefficients}
 use Rattle.span.proofs.Word.{xor-self-bool, xor-assoc, xor-swap, xor-zero-r, xor-half, odd-xor, odd-digit, odd-mod}
 use Rattle.span.proofs.Word.{odd-of, xor-false-r, bit-odd, shifted-mod, shifted-inside, digit-half}
 use Rattle.span.proofs.Combination.{combination-last, combination-low, combination-xor}
-use Rattle.link.specs.declared.decode.Mark.the-variants.{Clean, Corrected, Doubtful, Held}
+use Rattle.link.specs.declared.decode.Mark.the-variants.{Clean, Corrected, Parity, Doubtful, Held}
 use Rattle.link.specs.Memory.{joining}
 use Rattle.link.specs.Step.{found, errorOf, keptOf, markOf}
 use Rattle.link.proofs.Suitable.{Corrects}
@@ -104,15 +104,20 @@ module _ (infos : List ℕ) (ν : ℕ) (size : length infos ≡ ν) where
 
 -- ---- what a step finds
 
+-- the mark is not doubtful, whichever error is the parity symbol
+abbrev pub NotDoubtful : Least → ℕ → Type 0
+NotDoubtful f x = (parity : ℕ) → markOf parity f x ≢ Doubtful
+
 -- a step removes the error, keeps that word, and is sure
 pub record Outcome (f : Least) (x error kept : ℕ) : Type 0 where
   pub error-is : errorOf f ≡ error
   pub kept-is : keptOf f x ≡ kept
-  pub sure : markOf f x ≢ Doubtful
+  pub sure : NotDoubtful f x
 
-mark-found : (s : Bool) (e : ℕ) → cond s Clean (Corrected e) ≢ Doubtful
-mark-found true e h = let z : _≡_ {A = ℕ} 0 1 = cc in omega arith
-mark-found false e h = let z : _≡_ {A = ℕ} 0 1 = cc in omega arith
+mark-found : (s p : Bool) (e : ℕ) → cond s Clean (cond p (Parity e) (Corrected e)) ≢ Doubtful
+mark-found true p e h = let z : _≡_ {A = ℕ} 0 1 = cc in omega arith
+mark-found false true e h = let z : _≡_ {A = ℕ} 0 1 = cc in omega arith
+mark-found false false e h = let z : _≡_ {A = ℕ} 0 1 = cc in omega arith
 
 mark-missing : (s : Bool) → s ≡ false → cond s Doubtful Held ≢ Doubtful
 mark-missing true e h = let z : _≡_ {A = ℕ} 0 1 = cc in omega arith
@@ -121,12 +126,12 @@ mark-missing false e h = let z : _≡_ {A = ℕ} 0 1 = cc in omega arith
 outcome-found : (f : Least) (x e : ℕ) → f ≡ Found e → Outcome f x e 0
 outcome-found f x e q =
     subst (λ (g : Least). Outcome g x e 0) (sym q)
-    (record { error-is = refl; kept-is = refl; sure = mark-found (eqb e 0) e })
+    (record { error-is = refl; kept-is = refl; sure = λ parity. mark-found (eqb e 0) (eqb e parity) e })
 
 outcome-missing : (f : Least) (x : ℕ) → f ≡ Missing → odd x ≡ false → Outcome f x 0 (x / 2)
 outcome-missing f x q even =
     subst (λ (g : Least). Outcome g x 0 (x / 2)) (sym q)
-    (record { error-is = refl; kept-is = refl; sure = mark-missing (odd x) even })
+    (record { error-is = refl; kept-is = refl; sure = λ parity. mark-missing (odd x) even })
 
 module _ (n w : ℕ) (rows : List ℕ) (code : Corrects n w rows) where
   -- The error block x came a blocks ago, and l are to come before it leaves: v is what is left of its image, and its

@@ -65,13 +65,13 @@ module _ (t : Table) (s : List ℕ) (r w : ℕ) (room : t .symbols - 1 ≤ lengt
     info-is =
         ap (λ (l : Least). delayedOf t s (turnOf s) 0 ⊕ information (t .symbols) (errorOf l)) found-is
 
-    pub mark-is : markOf f x ≡ delivered t s r .mark
+    pub mark-is : markOf (2 ^ (t .symbols - 1)) f x ≡ delivered t s r .mark
     unfolding delivered decoderFound decoderRegister
-    mark-is = ap₂ markOf found-is is
+    mark-is = ap₂ (markOf (2 ^ (t .symbols - 1))) found-is is
 
   pub step-words : (x top : ℕ) → x ≡ syndromeOf t s (turnOf s) + sel (odd w) top → top ≡ 2 ^ (t .span - 1)
       → (f : Least) → f ≡ found (rowsOf t) x → (error kept : ℕ) (mark : Mark)
-      → (error ≡ errorOf f) × ((kept ≡ keptOf f x) × (mark ≡ markOf f x)) → (entry : ℕ) (after : List ℕ)
+      → (error ≡ errorOf f) × ((kept ≡ keptOf f x) × (mark ≡ markOf (2 ^ (t .symbols - 1)) f x)) → (entry : ℕ) (after : List ℕ)
       → (entry ≡ cond (ltb (fillOf s) (delayOf t)) (decodeEntry 0 0)
       (decodeEntry (markNumber mark) (delayedOf t s (turnOf s) 0 ⊕ information (t .symbols) error)))
       × (after ≡ advanced (t .span) (t .depth) s (w / 2) kept (information (t .symbols) r))

@@ -20,7 +20,7 @@ use Rattle.span.specs.declared.eliminate.Least.{Least}
 use Rattle.tables.specs.declared.table.Table.{Table}
 use Rattle.tables.specs.Table.{table}
 use Rattle.link.specs.declared.decode.Mark.{Mark}
-use Rattle.link.specs.declared.decode.Mark.the-variants.{Clean, Held, Corrected, Doubtful}
+use Rattle.link.specs.declared.decode.Mark.the-variants.{Clean, Held, Corrected, Doubtful, Parity}
 use Rattle.link.specs.declared.decode.Delivered.{Delivered}
 use Rattle.link.specs.declared.decode.DecodeAnswer.{DecodeAnswer}
 use Rattle.link.specs.declared.decode.DecodeAnswer.the-variants.{Delivery, NothingYet, Refused}
@@ -86,18 +86,20 @@ unfoldable pub decodeMemory : Table → List ℕ → ℕ → List ℕ
 decodeMemory t s r = leaves (decoderFault t s r) (decoderNext t s r) s
 
 -- "Marks: clean ..; corrected, carrying e ..; doubtful ..; held", numbered as 02, CR 1: "0 nothing yet, 1 clean, 2
--- held, 3 corrected, 4 doubtful"
+-- held, 3 corrected, 4 doubtful", and CR 4: "the batch entry has 5"
 abbrev pub markNumber : Mark → ℕ
 markNumber Clean = 1
 markNumber Held = 2
 markNumber (Corrected e) = 3
 markNumber Doubtful = 4
+markNumber (Parity e) = 5
 
 abbrev pub markError : Mark → ℕ
 markError Clean = 0
 markError Held = 0
 markError (Corrected e) = e
 markError Doubtful = 0
+markError (Parity e) = e
 
 -- "delivered in a record with its mark": information, mark, and e or 0
 abbrev pub recordNumbers : Delivered → List ℕ

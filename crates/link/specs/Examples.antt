@@ -19,7 +19,7 @@ use Rattle.link.specs.Memory.{started}
 use Rattle.link.specs.declared.code.CodeAnswer.{CodeAnswer}
 use Rattle.link.specs.declared.code.CodeAnswer.the-variants.{Coded}
 use Rattle.link.specs.Coder.{codeAnswer, codeMemory}
-use Rattle.link.specs.declared.decode.Mark.the-variants.{Clean, Held, Corrected, Doubtful}
+use Rattle.link.specs.declared.decode.Mark.the-variants.{Clean, Held, Parity, Doubtful}
 use Rattle.link.specs.declared.decode.DecodeAnswer.{DecodeAnswer}
 use Rattle.link.specs.declared.decode.DecodeAnswer.the-variants.{NothingYet}
 use Rattle.link.specs.Decoder.{decodeAnswer, decodeMemory}
@@ -85,10 +85,10 @@ examples =
     ∷ decodes bytesOfZ (started 7) (2 ∷ 2 ∷ 0 ∷ 0 ∷ [])
     (NothingYet ∷ NothingYet ∷ NothingYet ∷ delivers 0 Doubtful ∷ [])
     -- T12: "Z, fill 3, pending word 4, all else 0, receives zeros: calls 1 to 5 deliver 0, call 6 delivers 0 marked
-    -- corrected 2, call 7 is clean."
+    -- corrected 2, call 7 is clean." 02, CR 4: "T12's sixth call then ends with that mark", parity.
     ∷ decodes bytesOfZ (0 ∷ 3 ∷ 4 ∷ 0 ∷ 0 ∷ 0 ∷ 0 ∷ []) (replicate 7 0)
     (delivers 0 Clean ∷ delivers 0 Clean ∷ delivers 0 Held ∷ delivers 0 Held ∷ delivers 0 Held
-    ∷ delivers 0 (Corrected 2) ∷ delivers 0 Clean ∷ [])
+    ∷ delivers 0 (Parity 2) ∷ delivers 0 Clean ∷ [])
     ∷ []
 
 abbrev pub EXAMPLES : Type 0

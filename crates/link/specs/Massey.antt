@@ -210,7 +210,7 @@ DELIVERY =
     takenAt taken p .answer
     ≡ Delivery (record {
       info = information (t .symbols) (takenAt taken (p - delayOf t) .block) ⊕ information (t .symbols) (errorOf found);
-      mark = markOf found register;
+      mark = markOf (2 ^ (t .symbols - 1)) found register;
     })
 
 -- 01, "if not, the answer is "nothing yet" and fill grows by one": from any memory, by its fill; from a started one,

@@ -8,7 +8,8 @@
 --                                 syndrome word
 --   found rows x                  the least error block whose image is the register, or none
 --   errorOf f, keptOf f x         the error, and the syndrome word that stays
---   markOf f x                    the mark
+--   markFound parity e            the mark of an error block that was found; `parity` is the parity symbol alone
+--   markOf parity f x             the mark
 --   streamFound, streamNext, streamInfo, streamMark   the error found, the stream's part after the step, and
 --                                                     information and mark of its record
 use mathlib.Core.Bool.{Bool, cond, xor}
@@ -23,7 +24,7 @@ use Rattle.span.specs.Relation.{leastCoefficients}
 use Rattle.tables.specs.Table.{codeRows}
 use Rattle.link.specs.Memory.{joining, nextPending}
 use Rattle.link.specs.declared.decode.Mark.{Mark}
-use Rattle.link.specs.declared.decode.Mark.the-variants.{Clean, Corrected, Doubtful, Held}
+use Rattle.link.specs.declared.decode.Mark.the-variants.{Clean, Corrected, Parity, Doubtful, Held}
 
 -- symbol n is the parity, of weight 2^(n−1); the information is what is below it
 abbrev pub information : ℕ → ℕ → ℕ
@@ -62,10 +63,14 @@ keptOf (Found e) x = 0
 keptOf Missing x = x / 2
 
 -- "Marks: clean (register 0); corrected, carrying e (e not 0); doubtful (no e, bit 0 of the register is 1); held (no e,
--- bit 0 is 0)." An error of 0 has the register 0.
-abbrev pub markOf : Least → ℕ → Mark
-markOf (Found e) x = cond (eqb e 0) Clean (Corrected e)
-markOf Missing x = cond (odd x) Doubtful Held
+-- bit 0 is 0)." An error of 0 has the register 0. 02, CR 4: "When e is exactly 2^(n−1) the mark is now "parity" and not
+-- "corrected""; it carries e too.
+abbrev pub markFound : ℕ → ℕ → Mark
+markFound parity e = cond (eqb e 0) Clean (cond (eqb e parity) (Parity e) (Corrected e))
+
+abbrev pub markOf : ℕ → Least → ℕ → Mark
+markOf parity (Found e) x = markFound parity e
+markOf parity Missing x = cond (odd x) Doubtful Held
 
 -- lines 3 and 4 on the words of a stream: what is found; the part after the step, in which `stay` are the delayed
 -- blocks but the oldest; and information and mark of the record, "the oldest delayed block, corrected by e". The
@@ -82,4 +87,4 @@ abbrev pub streamInfo : ℕ → ℕ → List ℕ → ℕ → ℕ → ℕ → ℕ
 streamInfo n N rows p s oldest r = oldest ⊕ information n (errorOf (streamFound n N rows p s r))
 
 abbrev pub streamMark : ℕ → ℕ → List ℕ → ℕ → ℕ → ℕ → Mark
-streamMark n N rows p s r = markOf (streamFound n N rows p s r) (streamRegister n N rows p s r)
+streamMark n N rows p s r = markOf (2 ^ (n - 1)) (streamFound n N rows p s r) (streamRegister n N rows p s r)

@@ -19,7 +19,7 @@ ghost use Rattle.span.specs.Combination.{combination};
 ghost use Rattle.tables.specs.Lent.{withRows, lent};
 ghost use Rattle.tables.specs.Table.{table, codeRows};
 ghost use Rattle.link.specs.Memory.{turnOf, streamAt, delayedOf, decoderWords};
-ghost use Rattle.link.specs.Step.{information, found, errorOf, keptOf, markOf};
+ghost use Rattle.link.specs.Step.{information, found, errorOf, keptOf, markFound, markOf};
 ghost use Rattle.link.specs.Refusals.{someAbove, decoderMalformed, decoderFault};
 ghost use Rattle.link.specs.Decoder.{advanced, decoderNext, delivery, Decodes};
 
@@ -27,6 +27,8 @@ pub enum Mark {
     Clean,
     // The error block that was removed.
     Corrected(u16),
+    // The same where it is the parity symbol alone: the information stood as it was received.
+    Parity(u16),
     Doubtful,
     Held,
 }
@@ -190,25 +192,32 @@ fn least_error(rows: &[u64], n: usize, x: u64) -> Least
     Least::Missing
 }
 
+// The mark of an error block that was found; `parity` is the block that is the parity symbol alone.
+fn mark_found(e: u64, parity: u64) -> Mark
+    requires { ⌜ e < 2 ^ 16 ⌝ }
+    ensures { λ r. ⌜ r ≡ markFound parity e ⌝ }
+{
+    if e == 0 {
+        return Mark::Clean;
+    }
+    if e == parity {
+        return Mark::Parity(e as u16);
+    }
+    Mark::Corrected(e as u16)
+}
+
 // Line 3 and the mark, once the error is found or missing.
-pub(crate) fn judged(found: Least, x: u64) -> Verdict
+pub(crate) fn judged(found: Least, x: u64, parity: u64) -> Verdict
     requires { ⌜ errorOf found < 2 ^ 16 ⌝ }
     ensures error { λ r. ⌜ r .error ≡ errorOf found ⌝ }
     ensures kept { λ r. ⌜ r .kept ≡ keptOf found x ⌝ }
-    ensures mark { λ r. ⌜ r .mark ≡ markOf found x ⌝ }
+    ensures mark { λ r. ⌜ r .mark ≡ markOf parity found x ⌝ }
 {
     if let Least::Found(e) = found {
-        if e == 0 {
-            return Verdict {
-                error: 0,
-                kept: 0,
-                mark: Mark::Clean,
-            };
-        }
         return Verdict {
             error: e as u16,
             kept: 0,
-            mark: Mark::Corrected(e as u16),
+            mark: mark_found(e, parity),
         };
     }
     let kept = x >> 1;
@@ -310,7 +319,7 @@ fn taken(t: Table, rows: &[u64], state: &mut [u64], received: u64) -> DecodeAnsw
     let n = t.symbols;
     let fill = state[1];
     let x = terms(state, t.span, one_at(t.span - 1), image(rows, n, received));
-    let v = judged(explain(rows, n, x.register), x.register);
+    let v = judged(explain(rows, n, x.register), x.register, one_at(n - 1));
     let error = v.error as u64;
     let mark = v.mark;
     let oldest = keep(

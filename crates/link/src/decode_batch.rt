@@ -15,7 +15,6 @@ use span::bound::min;
 use span::dual::dual_basis;
 use span::dual::least_by;
 use span::dual::together;
-use span::eliminate::Least;
 use span::lookup::look_up;
 use span::lookup::lookup_of;
 use tables::table::Table;
@@ -79,6 +78,7 @@ fn entry(mark: Mark, info: u64) -> u32
         Mark::Clean => 65536 + low,
         Mark::Held => 131072 + low,
         Mark::Corrected(_) => 196608 + low,
+        Mark::Parity(_) => 327680 + low,
         Mark::Doubtful => 262144 + low,
     }
 }
@@ -128,6 +128,7 @@ fn fill_judged(t: Table, rows: &[u64], state: &mut [u64], blocks: &[u16], out: &
     let ones = together(&b.checks, b.size);
     let most = mask(t.symbols);
     let top = one_at(t.span - 1);
+    let parity = one_at(t.symbols - 1);
     let end = min(blocks.len(), out.len());
     let mut i = 0;
     while i < end {
@@ -150,7 +151,7 @@ fn fill_judged(t: Table, rows: &[u64], state: &mut [u64], blocks: &[u16], out: &
             t.span,
             t.depth,
             x.w,
-            judged(found, x.register),
+            judged(found, x.register, parity),
             received,
         );
         i += 1;
@@ -189,7 +190,11 @@ fn fill_clean(t: Table, rows: &[u64], state: &mut [u64], blocks: &[u16], out: &m
             t.span,
             t.depth,
             x.w,
-            judged(Least::Found(0), 0),
+            Verdict {
+                error: 0,
+                kept: 0,
+                mark: Mark::Clean,
+            },
             received,
         );
         i += 1;

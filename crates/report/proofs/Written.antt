@@ -11,7 +11,7 @@ use borrow.Author.Tests.{le-leb, lt-leb, leb-true, leb-false}
 use lib.ListN.{length, take, drop, set, length-append, take-append-drop}
 use lib.Seq.{set-split, length-take-le, take-at, drop-at, drop-drop}
 use Rattle.link.specs.declared.decode.Mark.{Mark}
-use Rattle.link.specs.declared.decode.Mark.the-variants.{Clean, Held, Corrected, Doubtful}
+use Rattle.link.specs.declared.decode.Mark.the-variants.{Clean, Held, Corrected, Doubtful, Parity}
 use Rattle.link.specs.declared.decode.Delivered.{Delivered}
 use Rattle.link.specs.Decoder.{markError}
 use Rattle.report.specs.Text.{markWord}
@@ -109,6 +109,7 @@ pub word-length : (m : Mark) → length (markWord m ++ (space ∷ [])) ≤ 10
 word-length Clean = omega arith
 word-length Held = omega arith
 word-length (Corrected e) = omega arith
+word-length (Parity e) = omega arith
 word-length Doubtful = omega arith
 
 pub line-fields : (k : ℕ) (d : Delivered)

@@ -17,7 +17,7 @@ use mathlib.Core.List.{List, [], _∷_, _++_}
 use Prim.Native.Nat.{ℕ, zero, suc, _+_, _/_, _%_, _≤_, _<_}
 use lib.Dec.{ltb}
 use Rattle.link.specs.declared.decode.Mark.{Mark}
-use Rattle.link.specs.declared.decode.Mark.the-variants.{Clean, Held, Corrected, Doubtful}
+use Rattle.link.specs.declared.decode.Mark.the-variants.{Clean, Held, Corrected, Doubtful, Parity}
 use Rattle.link.specs.declared.decode.Delivered.{Delivered}
 use Rattle.link.specs.Decoder.{markError}
 
@@ -52,12 +52,13 @@ headerLine =
     98 ∷ 108 ∷ 111 ∷ 99 ∷ 107 ∷ space ∷ 105 ∷ 110 ∷ 102 ∷ 111 ∷ space ∷ 109 ∷ 97 ∷ 114 ∷ 107 ∷ space
     ∷ 101 ∷ 114 ∷ 114 ∷ 111 ∷ 114 ∷ newline ∷ []
 
--- its word, in bytes: 01 has "clean", "held", "corrected" and "doubtful"
+-- its word, in bytes: 01 has "clean", "held", "corrected" and "doubtful", and 02, CR 4, "parity"
 abbrev pub markWord : Mark → List ℕ
 markWord Clean = 99 ∷ 108 ∷ 101 ∷ 97 ∷ 110 ∷ []
 markWord Held = 104 ∷ 101 ∷ 108 ∷ 100 ∷ []
 markWord (Corrected e) = 99 ∷ 111 ∷ 114 ∷ 114 ∷ 101 ∷ 99 ∷ 116 ∷ 101 ∷ 100 ∷ []
 markWord Doubtful = 100 ∷ 111 ∷ 117 ∷ 98 ∷ 116 ∷ 102 ∷ 117 ∷ 108 ∷ []
+markWord (Parity e) = 112 ∷ 97 ∷ 114 ∷ 105 ∷ 116 ∷ 121 ∷ []
 
 -- "number from 0, information, mark, e or 0"
 unfoldable pub lineOf : ℕ → Delivered → List ℕ

@@ -65,6 +65,7 @@ fn word(out: &mut [u8], at: usize, mark: Mark) -> usize
     match mark {
         Mark::Clean => put_bytes(out, at, b"clean "),
         Mark::Corrected(_) => put_bytes(out, at, b"corrected "),
+        Mark::Parity(_) => put_bytes(out, at, b"parity "),
         Mark::Doubtful => put_bytes(out, at, b"doubtful "),
         Mark::Held => put_bytes(out, at, b"held "),
     }
@@ -77,6 +78,7 @@ fn error_of(mark: Mark) -> u16
     match mark {
         Mark::Clean => 0,
         Mark::Corrected(e) => e,
+        Mark::Parity(e) => e,
         Mark::Doubtful => 0,
         Mark::Held => 0,
     }

@@ -1,6 +1,6 @@
 //! Drawn cases: tables, table bytes, memories, fades and inputs of the listing program, repeatable from a seed.
 
-use crate::oracle::{code, image, is_below, make_table, shifted_image, unsuitable, Table, MOST_ROWS};
+use crate::oracle::{code, image, is_below, make_table, shifted_image, unsuitable, Table, MARKS, MOST_ROWS};
 
 /// The xorshift generator.
 pub struct Draw(u64);
@@ -364,6 +364,14 @@ pub fn well_formed_decoder(draw: &mut Draw, table: &Table) -> Vec<u64> {
     words
 }
 
+/// A decoder memory of depth 1 whose next register this is, if the parity alone is received as returned.
+pub fn memory_before(table: &Table, register: u64) -> (Vec<u64>, u16) {
+    let mut words = vec![0; table.decoder_words()];
+    words[1] = table.delay();
+    words[3] = register & (u64::MAX >> (65 - table.span));
+    (words, ((register >> (table.span - 1)) << (table.n - 1)) as u16)
+}
+
 /// A word that is 2^bits or more: the least such, the greatest, or any.
 pub fn too_large(draw: &mut Draw, bits: u64) -> u64 {
     match draw.below(3) {
@@ -436,40 +444,78 @@ pub fn too_large_block(draw: &mut Draw, bits: u64) -> Option<u16> {
 
 // ---- Fades ----
 
+/// 2 × m × (N − 1): the right places that a run begins with.
+pub fn double_guard(table: &Table) -> u64 {
+    2 * table.delay()
+}
+
+/// 2 × m × (N − 2) right places, which do for what is due after the double guard. The papers do not say so.
+pub fn short_guard(table: &Table) -> u64 {
+    2 * table.depth * (table.span - 2)
+}
+
 /// The errors of the places in turn: bursts of at most m places, at least m × (N − 1) right places between
-/// them, and 2 × m × (N − 1) right ones at first.
+/// them, and at first as many right ones as the run's guard has.
 pub struct Fades {
     n: u64,
     depth: u64,
-    guard: u64,
+    between: u64,
     right: u64,
     burst: Vec<u64>,
-    pub bursts: u64,
+    place: u64,
+    /// The places, from 1, at which bursts began.
+    pub bursts: Vec<u64>,
 }
 
 impl Fades {
-    pub fn new(draw: &mut Draw, table: &Table) -> Fades {
-        let guard = table.delay();
-        let right = 2 * guard + slack(draw, table.depth);
-        Fades { n: table.n, depth: table.depth, guard, right, burst: Vec::new(), bursts: 0 }
+    pub fn new(draw: &mut Draw, table: &Table, guard: u64) -> Fades {
+        let right = guard + slack(draw, table.depth);
+        let (n, depth, between) = (table.n, table.depth, table.delay());
+        Fades { n, depth, between, right, burst: Vec::new(), place: 0, bursts: Vec::new() }
     }
 
     /// The error of the next place; 0 leaves it right.
     pub fn next_error(&mut self, draw: &mut Draw) -> u64 {
+        self.place += 1;
         if self.right > 0 {
             self.right -= 1;
             return 0;
         }
         if self.burst.is_empty() {
             self.burst = burst(draw, self.n, self.depth);
-            self.bursts += 1;
+            self.bursts.push(self.place);
         }
         let error = self.burst.pop().unwrap_or(0);
         if self.burst.is_empty() {
-            self.right = self.guard + slack(draw, self.depth);
+            self.right = self.between + slack(draw, self.depth);
         }
         error
     }
+}
+
+/// What is claimed of a run with fades, held to the information sent and to the information and the mark's number of
+/// each answer: every delivery after the double guard is right and not doubtful; and if the run began with all of
+/// that guard, those of its last m places, whose marks are counted, are right and clean or parity. Tells of the first
+/// place, from 1, that is not so.
+pub fn first_wrong_delivery(
+    table: &Table,
+    guard: u64,
+    infos: &[u16],
+    answers: &[(u64, u64)],
+    guard_end: &mut [u64; MARKS],
+) -> Option<String> {
+    let (delay, double) = (table.delay(), double_guard(table));
+    let first = if guard < double { double + 1 } else { double - table.depth + 1 };
+    (first..=answers.len() as u64).find_map(|p| {
+        let (info, mark) = answers[p as usize - 1];
+        let due = infos[(p - delay) as usize - 1];
+        let marks: &[u64] = if p > double { &[1, 2, 3, 5] } else { &[1, 5] }; // 4 is doubtful
+        let right = info == u64::from(due) && marks.contains(&mark);
+        if right && p <= double {
+            guard_end[mark as usize] += 1;
+        }
+        (!right).then(|| format!("place {p}: {due} is due, with a mark of {marks:?}, got {info}, {mark}"))
+    })
 }
 
 /// Right places beyond those that must be; most often none.

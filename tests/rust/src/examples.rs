@@ -218,8 +218,9 @@ fn with_zeros(words: &[u64], zeros: usize) -> Vec<u64> {
 }
 
 /// A stream of Z has 5 words in the decoder: pending, syndrome, 3 delayed blocks.
-pub fn step_cases() -> [StepCase; 32] {
+pub fn step_cases() -> [StepCase; 37] {
     let (z1, z2) = (z(1), z(2));
+    let t7 = Table::new(3, 6, 1, &[56, 34]);
     let n2_span2 = Table::new(2, 2, 1, &[2]);
     let more_rows = Table::new(2, 4, 1, &[10, 255, 1]);
     let n16 = Table::new(16, 2, 1, &[]);
@@ -227,6 +228,13 @@ pub fn step_cases() -> [StepCase; 32] {
     [
         // a correction takes from the oldest block; the youngest joins as received
         decodes(&z1, &[0, 3, 0, 2, 1, 0, 0], 3, [0, 3, 1], &[0, 3, 5, 0, 0, 0, 1]),
+        // the parity alone is wrong: the information stays. With an information symbol it is a correction, and so is
+        // the symbol next to it; an e of 16 bits
+        decodes(&z1, &[0, 3, 0, 1, 1, 0, 0], 0, [1, 5, 2], &[0, 3, 0, 0, 0, 0, 0]),
+        decodes(&z1, &[0, 3, 0, 3, 1, 0, 0], 2, [0, 3, 3], &[0, 3, 0, 0, 0, 0, 0]),
+        decodes(&t7, &[0, 5, 0, 1, 3, 0, 0, 0, 0], 0, [3, 5, 4], &[0, 5, 0, 0, 0, 0, 0, 0, 0]),
+        decodes(&t7, &[0, 5, 0, 2, 3, 0, 0, 0, 0], 4, [1, 3, 2], &[0, 5, 0, 0, 0, 0, 0, 0, 0]),
+        decodes(&n16, &[0, 1, 0, 1, 7], 0, [7, 5, 32768], &[0, 1, 0, 0, 0]),
         // no error found: the word is halved, not cleared
         decodes(&z1, &[0, 3, 0, 3, 1, 0, 0], 0, [1, 4, 0], &[0, 3, 0, 1, 0, 0, 0]),
         // before the fill is complete the register, here 10, is judged and cleared too; and a received parity

@@ -373,6 +373,42 @@ pub enum Mark {
     Held,
     Corrected(u64),
     Doubtful,
+    Parity(u64),
+}
+
+/// One past the greatest number of a mark.
+pub const MARKS: usize = 6;
+
+impl Mark {
+    /// The number in an answer and in an entry, where 0 is "nothing yet".
+    pub fn number(self) -> u64 {
+        match self {
+            Mark::Clean => 1,
+            Mark::Held => 2,
+            Mark::Corrected(_) => 3,
+            Mark::Doubtful => 4,
+            Mark::Parity(_) => 5,
+        }
+    }
+
+    /// The e that was found, or 0.
+    pub fn error(self) -> u64 {
+        match self {
+            Mark::Corrected(e) | Mark::Parity(e) => e,
+            Mark::Clean | Mark::Held | Mark::Doubtful => 0,
+        }
+    }
+
+    /// As the listing program prints it.
+    fn word(self) -> &'static str {
+        match self {
+            Mark::Clean => "clean",
+            Mark::Held => "held",
+            Mark::Corrected(_) => "corrected",
+            Mark::Doubtful => "doubtful",
+            Mark::Parity(_) => "parity",
+        }
+    }
 }
 
 #[derive(Clone, Copy, Debug, PartialEq, Eq)]
@@ -440,9 +476,10 @@ pub fn least_error(table: &Table, register: u64) -> Option<u64> {
     }
 }
 
-fn mark_of(register: u64, error: Option<u64>) -> Mark {
+fn mark_of(table: &Table, register: u64, error: Option<u64>) -> Mark {
     match error {
         Some(0) => Mark::Clean,
+        Some(e) if e == 1 << (table.n - 1) => Mark::Parity(e),
         Some(e) => Mark::Corrected(e),
         None if register & 1 == 1 => Mark::Doubtful,
         None => Mark::Held,
@@ -477,7 +514,7 @@ pub fn decode(table: &Table, words: &mut [u64], received: u64) -> Result<Option<
     }
     let wrong_information = error.unwrap_or(0) % (1 << (table.n - 1));
     let info = oldest ^ wrong_information;
-    Ok(Some(Delivered { info, mark: mark_of(register, error) }))
+    Ok(Some(Delivered { info, mark: mark_of(table, register, error) }))
 }
 
 // ---- Batches ----
@@ -504,20 +541,11 @@ pub fn code_batch(table: &Table, words: &mut [u64], infos: &[u16], entries: &mut
     batch(infos, entries, |info| code(table, words, info).map(|block| block as u32))
 }
 
-fn mark_number(mark: Mark) -> u32 {
-    match mark {
-        Mark::Clean => 1,
-        Mark::Held => 2,
-        Mark::Corrected(_) => 3,
-        Mark::Doubtful => 4,
-    }
-}
-
 /// An entry has the information in its low 16 bits and the mark's number above them; "nothing yet" is 0.
 pub fn decode_batch(table: &Table, words: &mut [u64], received: &[u16], entries: &mut [u32]) -> usize {
     batch(received, entries, |block| {
         let delivered = decode(table, words, block)?;
-        Ok(delivered.map_or(0, |Delivered { info, mark }| mark_number(mark) << 16 | info as u32))
+        Ok(delivered.map_or(0, |Delivered { info, mark }| (mark.number() << 16 | info) as u32))
     })
 }
 
@@ -561,13 +589,8 @@ pub fn write_table(table: &Table, bytes: &mut [u8]) -> Result<usize, WriteRefusa
 // ---- The listing program ----
 
 fn listing_line(number: u64, delivered: Delivered) -> String {
-    let (mark, error) = match delivered.mark {
-        Mark::Clean => ("clean", 0),
-        Mark::Held => ("held", 0),
-        Mark::Corrected(e) => ("corrected", e),
-        Mark::Doubtful => ("doubtful", 0),
-    };
-    format!("{number} {} {mark} {error}\n", delivered.info)
+    let Delivered { info, mark } = delivered;
+    format!("{number} {info} {} {}\n", mark.word(), mark.error())
 }
 
 /// The lines after the header, and the refusal that stopped them.

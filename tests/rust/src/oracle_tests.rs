@@ -86,11 +86,30 @@ fn t11_doubtful() {
 fn t12_the_unneeded_parity_mark() {
     let mut words = vec![0, 3, 4, 0, 0, 0, 0];
     let answers: Vec<_> = (0..7).map(|_| decode(&z(1), &mut words, 0)).collect();
-    for answer in &answers {
-        assert!(matches!(answer, Ok(Some(Delivered { info: 0, .. }))), "{answer:?}");
+    use Mark::{Clean, Held, Parity};
+    let marks = [Clean, Clean, Held, Held, Held, Parity(2), Clean];
+    assert_eq!(answers, marks.map(|mark| Ok(Some(Delivered { info: 0, mark }))));
+}
+
+#[test]
+fn parity_is_the_mark_of_that_symbol_alone() {
+    use Mark::{Corrected, Parity};
+    let mark_of = |table: &Table, register: u64| {
+        let (mut words, received) = memory_before(table, register);
+        let delivered = decode(table, &mut words, u64::from(received)).expect("well-formed");
+        delivered.expect("the fill is complete").mark
+    };
+    for n in 2..=16 {
+        let table = make_table(n, 1).expect("in range");
+        let mark = |e| mark_of(&table, image(&table, e));
+        let parity = 1 << (n - 1);
+        assert_eq!(mark(parity), Parity(parity), "n = {n}");
+        for e in [parity / 2, parity + 1, parity - 1, 2 * parity - 1] {
+            assert_eq!(mark(e), Corrected(e), "n = {n}");
+        }
     }
-    assert_eq!(answers[5], Ok(Some(Delivered { info: 0, mark: Mark::Corrected(2) })));
-    assert_eq!(answers[6], Ok(Some(Delivered { info: 0, mark: Mark::Clean })));
+    // row 1 is the parity's too: the least e is 1
+    assert_eq!(mark_of(&Table::new(2, 4, 1, &[1]), 1), Corrected(1));
 }
 
 /// What entries hold before a batch; no batch writes such a number.
@@ -106,7 +125,7 @@ fn t10_to_t12_by_the_batch() {
     assert_eq!(entries, [0, 0, 0, 4 << 16, 2, KEPT, KEPT]);
     decoder = [0, 3, 4, 0, 0, 0, 0];
     assert_eq!(decode_batch(&z(1), &mut decoder, &[0; 7], &mut entries), 7);
-    assert_eq!(entries.map(|entry| entry >> 16), [1, 1, 2, 2, 2, 3, 1]);
+    assert_eq!(entries.map(|entry| entry >> 16), [1, 1, 2, 2, 2, 5, 1]);
     assert_eq!(decoder, [0, 3, 0, 0, 0, 0, 0]);
 }
 
@@ -222,6 +241,19 @@ fn listing_example() {
 }
 
 #[test]
+fn listing_of_every_mark() {
+    let listed = |blocks: &[u8]| {
+        let input: Vec<u8> = blocks.iter().flat_map(|&block| [block, 0]).collect();
+        listing(&[&[2, 1], &input[..]].concat())
+    };
+    let header = "block info mark error\n";
+    assert_eq!(listed(&[2, 0, 0, 0, 0]), format!("{header}0 0 parity 2\n1 0 clean 0\n"));
+    assert_eq!(listed(&[3, 0, 0, 0]), format!("{header}0 0 corrected 3\n"));
+    assert_eq!(listed(&[2, 2, 0, 0]), format!("{header}0 0 doubtful 0\n"));
+    assert_eq!(listed(&[0, 2, 0, 0]), format!("{header}0 0 held 0\n"));
+}
+
+#[test]
 fn listing_short_and_refused() {
     let header = "block info mark error\n";
     assert_eq!(listing(&[]), header);
@@ -327,36 +359,51 @@ fn well_and_malformed_memories_are_as_meant() {
     }
 }
 
-/// Demand 3 on one run; returns the bursts met.
-fn run_of_fades(draw: &mut Draw, table: &Table, places: u64) -> u64 {
+/// What is claimed of one run; returns the bursts met, and counts the marks at the double guard's end.
+fn run_of_fades(
+    draw: &mut Draw,
+    table: &Table,
+    guard: u64,
+    places: u64,
+    guard_end: &mut [u64; MARKS],
+) -> usize {
     let mut coder = well_formed_coder(draw, table);
     let mut decoder = well_formed_decoder(draw, table);
-    let mut fades = Fades::new(draw, table);
-    let mut information = Vec::new();
-    for p in 1..=places {
+    let mut fades = Fades::new(draw, table, guard);
+    let (mut infos, mut answers) = (Vec::new(), Vec::new());
+    for _ in 0..places {
         let info = draw.bits(table.n - 1);
-        information.push(info);
+        infos.push(info as u16);
         let sent = code(table, &mut coder, info).expect("well-formed");
         let answer = decode(table, &mut decoder, sent ^ fades.next_error(draw)).expect("well-formed");
-        if p > 2 * table.delay() {
-            let delivered = answer.expect("the fill is complete");
-            assert_eq!(delivered.info, information[(p - table.delay()) as usize - 1], "{table:?} at {p}");
-            assert_ne!(delivered.mark, Mark::Doubtful, "{table:?} at {p}");
-        }
+        answers.push(answer.map_or((0, 0), |Delivered { info, mark }| (info, mark.number())));
     }
-    fades.bursts
+    let wrong = first_wrong_delivery(table, guard, &infos, &answers, guard_end);
+    assert_eq!(wrong, None, "{table:?}");
+    fades.bursts.len()
+}
+
+/// Runs on drawn tables; the marks at the double guard's end.
+fn runs_of_fades(seed: u64, guard: fn(&Table) -> u64) -> [u64; MARKS] {
+    let mut draw = Draw::from_seed(seed);
+    let (mut bursts, mut places, mut guard_end) = (0, 0, [0; MARKS]);
+    while places < 400_000 {
+        let table = any_suitable_table(&mut draw);
+        let length = double_guard(&table) + 4 * (table.delay() + table.depth) + draw.below(100);
+        bursts += run_of_fades(&mut draw, &table, guard(&table), length, &mut guard_end);
+        places += length;
+    }
+    assert!(bursts > 500, "{bursts}");
+    guard_end
 }
 
 #[test]
 fn after_a_fade() {
-    let mut draw = Draw::from_seed(7);
-    let mut bursts = 0;
-    let mut places = 0;
-    while places < 400_000 {
-        let table = any_suitable_table(&mut draw);
-        let length = 2 * table.delay() + 4 * (table.delay() + table.depth) + draw.below(100);
-        bursts += run_of_fades(&mut draw, &table, length);
-        places += length;
-    }
-    assert!(bursts > 500, "{bursts}");
+    let [_, clean, .., parity] = runs_of_fades(7, double_guard);
+    assert!(clean > 100 && parity > 100, "{clean} {parity}");
+}
+
+#[test]
+fn after_a_short_guard() {
+    runs_of_fades(9, short_guard);
 }

@@ -3,7 +3,7 @@
 
 use burst_compare::cases::*;
 use burst_compare::examples::{read_cases, step_cases, write_cases, z, ReadCase, Says, Step, StepCase};
-use burst_compare::oracle::{self, Mark, ReadRefusal, Table, Triple};
+use burst_compare::oracle::{self, Delivered, ReadRefusal, Table, Triple, MARKS};
 use burst_compare::{linked, program, Coded, Decoded, Numbers, Reading};
 use std::fmt::Debug;
 use std::ops::Range;
@@ -23,7 +23,9 @@ const SHOWN_MISMATCHES: usize = 3;
 struct Tally {
     calls: u64,
     refusals: [u64; 16],
-    marks: [u64; 5],
+    marks: [u64; MARKS],
+    /// Of the last m calls of double guards.
+    guard_end: [u64; MARKS],
     batches: batches::Count,
     writing: writing::Count,
     mismatches: u64,
@@ -199,19 +201,13 @@ fn compare_code(tally: &mut Tally, table: &Table, twin: &mut Twin, info: u16) ->
     got
 }
 
-fn plain_decoded(answer: Result<Option<oracle::Delivered>, u64>) -> Decoded {
+fn plain_decoded(answer: Result<Option<Delivered>, u64>) -> Decoded {
     let nothing = Decoded { refused: 0, info: 0, mark: 0, error: 0 };
     match answer {
         Err(refused) => Decoded { refused, ..nothing },
         Ok(None) => nothing,
-        Ok(Some(delivered)) => {
-            let (mark, error) = match delivered.mark {
-                Mark::Clean => (1, 0),
-                Mark::Held => (2, 0),
-                Mark::Corrected(e) => (3, e),
-                Mark::Doubtful => (4, 0),
-            };
-            Decoded { refused: 0, info: delivered.info, mark, error }
+        Ok(Some(Delivered { info, mark })) => {
+            Decoded { refused: 0, info, mark: mark.number(), error: mark.error() }
         }
     }
 }
@@ -412,12 +408,10 @@ fn examples_of_steps(tally: &mut Tally, _: &mut Draw) {
 
     decoder.set(&[0, 3, 4, 0, 0, 0, 0]);
     let answers: Vec<Decoded> = (0..7).map(|_| compare_decode(tally, &z(1), &mut decoder, 0)).collect();
-    let parity_alone = Decoded { refused: 0, info: 0, mark: 3, error: 2 };
-    let clean = Decoded { refused: 0, info: 0, mark: 1, error: 0 };
-    tally.check(answers[5..] == [parity_alone, clean], || format!("T12 answers {answers:?}"));
-    tally.check(answers.iter().all(|answer| answer.info == 0 && answer.mark != 0), || {
-        format!("T12 deliveries {answers:?}")
-    });
+    // One place before the end of its guard of 6 no mark is promised yet: call 5 is held.
+    let due = [(1, 0), (1, 0), (2, 0), (2, 0), (2, 0), (5, 2), (1, 0)];
+    let due = due.map(|(mark, error)| Decoded { refused: 0, info: 0, mark, error });
+    tally.check(answers == due, || format!("T12 answers {answers:?}"));
 }
 
 // ---- Groups: table bytes ----
@@ -786,14 +780,6 @@ fn parity_by_definition(tally: &mut Tally, draw: &mut Draw) {
     }
 }
 
-/// A decoder memory of depth 1 whose next register this is, if the parity alone is received as returned.
-fn memory_before(table: &Table, register: u64) -> (Vec<u64>, u16) {
-    let mut words = vec![0; table.decoder_words()];
-    words[1] = table.delay();
-    words[3] = register & (u64::MAX >> (65 - table.span));
-    (words, ((register >> (table.span - 1)) << (table.n - 1)) as u16)
-}
-
 /// The least error against trying all e, on tables with dependent rows among them.
 fn least_error_by_trying(tally: &mut Tally, draw: &mut Draw) {
     for round in 0..16_000 {
@@ -807,27 +793,32 @@ fn least_error_by_trying(tally: &mut Tally, draw: &mut Draw) {
         tally.check(both, || format!("two ways differ: {table:?} {register}"));
         let (words, received) = memory_before(&table, register);
         let decoded = compare_decode(tally, &table, &mut Twin::new(words), received);
-        let found = matches!(decoded.mark, 1 | 3).then_some(decoded.error);
+        let found = matches!(decoded.mark, 1 | 3 | 5).then_some(decoded.error);
         tally.check(found == least, || format!("least error {least:?}, got {decoded:?}"));
     }
 }
 
 // ---- Groups: demand 3 ----
 
+fn made_table(tally: &mut Tally, n: u64, depth: u64) -> Table {
+    compare_make(tally, n, depth);
+    oracle::make_table(n, depth).expect("in range")
+}
+
 /// A table that reading or making returned, as the linked functions return it.
 fn accepted_table(tally: &mut Tally, draw: &mut Draw) -> Table {
     let table = any_suitable_table(draw);
     if draw.once_in(3) {
-        compare_make(tally, table.n, table.depth);
-        return oracle::make_table(table.n, table.depth).unwrap_or(table);
+        return made_table(tally, table.n, table.depth);
     }
     let bytes = table_bytes(draw, &table);
     expect_reading(tally, &bytes, 0, 0);
     table
 }
 
-/// One run: the coder and the decoder from memories of their own, refused steps in between.
-fn run_of_fades(tally: &mut Tally, draw: &mut Draw, table: &Table, places: u64) -> u64 {
+/// One run, whose first wrong place comes after this guard: the coder and the decoder from memories of their own,
+/// refused steps in between. Returns the places at which bursts began.
+fn run_of_fades(tally: &mut Tally, draw: &mut Draw, table: &Table, guard: u64, places: u64) -> Vec<u64> {
     let mut coder = Twin::new(well_formed_coder(draw, table));
     let mut decoder = Twin::new(well_formed_decoder(draw, table));
     if draw.once_in(4) {
@@ -836,9 +827,8 @@ fn run_of_fades(tally: &mut Tally, draw: &mut Draw, table: &Table, places: u64) 
     if draw.once_in(4) {
         DECODER.compare_start(tally, table, &mut decoder);
     }
-    let delay = table.delay();
-    let mut fades = Fades::new(draw, table);
-    let mut information = Vec::new();
+    let mut fades = Fades::new(draw, table, guard);
+    let (mut infos, mut answers) = (Vec::new(), Vec::new());
     for p in 1..=places {
         if draw.once_in(16) {
             CODER.refused_step(tally, draw, table, &mut coder);
@@ -846,20 +836,17 @@ fn run_of_fades(tally: &mut Tally, draw: &mut Draw, table: &Table, places: u64) 
         if draw.once_in(16) {
             DECODER.refused_step(tally, draw, table, &mut decoder);
         }
-        let info = draw.bits(table.n - 1);
-        information.push(info);
-        let sent = compare_code(tally, table, &mut coder, info as u16);
+        let info = draw.bits(table.n - 1) as u16;
+        infos.push(info);
+        let sent = compare_code(tally, table, &mut coder, info);
         let taken = sent.block ^ fades.next_error(draw);
         let answer = compare_decode(tally, table, &mut decoder, taken as u16);
+        answers.push((answer.info, answer.mark));
         tally
             .check(sent.refused == 0 && answer.refused == 0, || format!("refused at place {p} of {table:?}"));
-        if p > 2 * delay {
-            let due = information[(p - delay) as usize - 1];
-            let claim = answer.info == due && matches!(answer.mark, 1..=3);
-            tally
-                .check(claim, || format!("demand 3 at place {p} of {table:?}: {due} is due, got {answer:?}"));
-        }
     }
+    let wrong = first_wrong_delivery(table, guard, &infos, &answers, &mut tally.guard_end);
+    tally.check(wrong.is_none(), || format!("after a guard of {guard}, {wrong:?}: {table:?}"));
     fades.bursts
 }
 
@@ -867,12 +854,42 @@ fn after_a_fade(tally: &mut Tally, draw: &mut Draw) {
     let (mut places, mut bursts) = (0, 0);
     while places < 3_000_000 {
         let table = accepted_table(tally, draw);
-        let length = 2 * table.delay() + draw.between(3, 6) * (table.delay() + table.depth);
+        let guard = double_guard(&table);
+        let length = guard + draw.between(3, 6) * (table.delay() + table.depth);
         let length = length.max(1500);
-        bursts += run_of_fades(tally, draw, &table, length);
+        bursts += run_of_fades(tally, draw, &table, guard, length).len();
         places += length;
     }
     tally.check(bursts > 10_000, || format!("only {bursts} bursts in {places} places"));
+}
+
+/// What is due after the double guard, with 2 × m right places fewer. Made tables of few symbols half of the time:
+/// a register is an image of theirs most often.
+fn after_a_short_guard(tally: &mut Tally, draw: &mut Draw) {
+    let (mut at_once, mut within) = (0, 0);
+    for round in 0..4_000 {
+        let (n, depth) = (2 + round / 2 % 4, draw.between(1, 4));
+        let table = if round % 2 == 0 { made_table(tally, n, depth) } else { accepted_table(tally, draw) };
+        let (guard, double) = (short_guard(&table), double_guard(&table));
+        let length = double + draw.between(1, 3) * (table.delay() + table.depth);
+        let first = run_of_fades(tally, draw, &table, guard, length).first().copied();
+        at_once += u64::from(first == Some(guard + 1));
+        within += u64::from(first.is_some_and(|place| (guard + 2..=double).contains(&place)));
+    }
+    tally.check(at_once > 1_000 && within > 500, || {
+        format!("only {at_once} first bursts at once, {within} later within the double guard")
+    });
+}
+
+/// With one place less it does not hold: on Z, after 3 right places, place 7 delivers the error of place 4.
+fn shorter_guard_fails(tally: &mut Tally, _: &mut Draw) {
+    let (mut coder, mut decoder) = (Twin::new(vec![0; 2]), Twin::new(vec![0, 3, 4, 0, 0, 0, 0]));
+    let answers = [0, 0, 0, 1, 0, 0, 0].map(|error| {
+        let sent = compare_code(tally, &z(1), &mut coder, 0).block;
+        compare_decode(tally, &z(1), &mut decoder, sent as u16 ^ error)
+    });
+    let (info, mark) = (answers[6].info, answers[6].mark);
+    tally.check((info, mark) == (1, 2), || format!("after a guard of 3: {answers:?}"));
 }
 
 /// From a malformed memory fewer than m blocks are taken, so demand 3 claims nothing of it.
@@ -905,8 +922,9 @@ fn compare_listing(tally: &mut Tally, input: &[u8]) -> String {
 
 /// Every n to 17 and m to 66, each pair twice, and inputs without an m. The words count the listings that have them.
 fn listings(tally: &mut Tally, draw: &mut Draw) {
-    let mut words = ["clean", "held", "corrected", "doubtful", "refused 11", "refused 15", "odd byte"]
-        .map(|word| (word, 0));
+    let mut words =
+        ["clean", "held", "corrected", "doubtful", "parity", "refused 11", "refused 15", "odd byte"]
+            .map(|word| (word, 0));
     compare_listing(tally, &[]);
     for n in 0..=17 {
         compare_listing(tally, &[n as u8]);
@@ -924,15 +942,25 @@ fn listings(tally: &mut Tally, draw: &mut Draw) {
 
 // ---- Everything reached ----
 
+fn guard_end_line([_, clean, .., parity]: [u64; MARKS], how: &str) -> String {
+    format!("last m calls of double guards {how}: {} checked, {clean} clean, {parity} parity", clean + parity)
+}
+
+fn check_guard_end(tally: &mut Tally, marks: [u64; MARKS], how: &str) {
+    let reached = marks[1] > 0 && marks[5] > 0;
+    tally.check(reached, || format!("not both marks in the {}", guard_end_line(marks, how)));
+}
+
 fn everything_reached(tally: &mut Tally, _: &mut Draw) {
     for number in 1..=15 {
         let reached = tally.refusals[number] > 0;
         tally.check(reached, || format!("refusal {number} was not reached"));
     }
-    for mark in 0..=4 {
+    for mark in 0..MARKS {
         let reached = tally.marks[mark] > 0;
         tally.check(reached, || format!("mark {mark} was not reached"));
     }
+    check_guard_end(tally, tally.guard_end, "in single calls");
     batches::everything_reached(tally);
     writing::everything_reached(tally);
     let calls = tally.calls - tally.batches.batches;
@@ -988,7 +1016,7 @@ fn check_step(tally: &mut Tally, StepCase { table, memory, step, after }: &StepC
 
 type Group = (&'static str, fn(&mut Tally, &mut Draw));
 
-const GROUPS: [Group; 45] = [
+const GROUPS: [Group; 47] = [
     ("examples of tables", examples_of_tables),
     ("examples of steps", examples_of_steps),
     ("bytes of every refusal and place", bytes_of_every_refusal),
@@ -1033,6 +1061,8 @@ const GROUPS: [Group; 45] = [
     ("images: all error blocks, by decoder calls", images::by_decoder_calls),
     ("images: all error blocks, by batches of the coder", images::by_coder_batches),
     ("images: all error blocks, by batches of the decoder", images::by_decoder_batches),
+    ("short guard", after_a_short_guard),
+    ("short guard, one place less", shorter_guard_fails),
     ("everything reached", everything_reached),
 ];
 
@@ -1089,7 +1119,8 @@ fn main() {
     let failed = read_cases.len() + write_cases.len() + step_cases.len() + GROUPS.len() - passed;
     println!("{} calls compared", tally.calls);
     println!("refusals 1 to 15: {:?}", &tally.refusals[1..]);
-    println!("marks 0 to 4: {:?}", tally.marks);
+    println!("marks 0 to 5: {:?}", tally.marks);
+    println!("{}", guard_end_line(tally.guard_end, "in single calls"));
     println!("{}", tally.batches);
     println!("{}", tally.writing);
     println!("{passed} passed, {failed} failed");

@@ -20,7 +20,9 @@ pub struct Count {
     blocks: u64,
     coder_ends: [u64; 16],
     decoder_ends: [u64; 16],
-    marks: [u64; 5],
+    marks: [u64; MARKS],
+    /// Of the last m entries of double guards.
+    guard_end: [u64; MARKS],
 }
 
 impl Count {
@@ -40,13 +42,14 @@ impl Count {
 
 impl fmt::Display for Count {
     fn fmt(&self, f: &mut fmt::Formatter) -> fmt::Result {
-        let Count { batches, blocks, coder_ends, decoder_ends, marks } = self;
+        let Count { batches, blocks, coder_ends, decoder_ends, marks, guard_end } = self;
         writeln!(f, "{batches} batches compared, {blocks} blocks taken")?;
         for (name, ends) in [("coder", coder_ends), ("decoder", decoder_ends)] {
             let ends = ENDS.map(|end| ends[end]);
             writeln!(f, "{name} batches by end (list taken, room filled, refusals 12 to 15): {ends:?}")?;
         }
-        write!(f, "marks 0 to 4 in entries: {marks:?}")
+        writeln!(f, "marks 0 to 5 in entries: {marks:?}")?;
+        write!(f, "{}", guard_end_line(*guard_end, "in entries"))
     }
 }
 
@@ -56,10 +59,11 @@ pub fn everything_reached(tally: &mut Tally) {
         let reached = coder_ends[end] > 0 && decoder_ends[end] > 0;
         tally.check(reached, || format!("end {end} of a batch was not reached by coder and decoder"));
     }
-    for mark in 0..=4 {
+    for mark in 0..MARKS {
         let reached = tally.batches.marks[mark] > 0;
         tally.check(reached, || format!("mark {mark} was not reached in an entry"));
     }
+    check_guard_end(tally, tally.batches.guard_end, "in entries");
     let batches = tally.batches.batches;
     tally.check(batches >= LEAST_BATCHES, || format!("only {batches} batches compared"));
 }
@@ -238,7 +242,7 @@ pub fn examples(tally: &mut Tally, _: &mut Draw) {
     };
     expect(&CODER, &[0; 2], &[1, 1, 0, 0, 0], &[1, 3, 2, 2, 2]);
     expect(&DECODER, &[0; 7], &[2, 2, 0, 0], &[0, 0, 0, 4 << 16]);
-    expect(&DECODER, &[0, 3, 4, 0, 0, 0, 0], &[0; 7], &[1, 1, 2, 2, 2, 3, 1].map(|mark| mark << 16));
+    expect(&DECODER, &[0, 3, 4, 0, 0, 0, 0], &[0; 7], &[1, 1, 2, 2, 2, 5, 1].map(|mark| mark << 16));
     expect(&DECODER, &[0, 3, 0, 0, 1, 0, 1], &[0, 0, 0, 4], &[1 << 16 | 1, 1 << 16, 1 << 16 | 1]);
 }
 
@@ -258,7 +262,7 @@ fn table_for(draw: &mut Draw, n: u64, depth: u64) -> (Table, bool) {
 
 /// What is received of these blocks: all right, with fades, or any.
 fn received(draw: &mut Draw, table: &Table, sent: &[u32], kind: u64) -> Vec<u16> {
-    let mut fades = Fades::new(draw, table);
+    let mut fades = Fades::new(draw, table, double_guard(table));
     let mut take = |&block: &u32| match kind {
         0 => block as u16,
         1 => block as u16 ^ fades.next_error(draw) as u16,
@@ -268,12 +272,12 @@ fn received(draw: &mut Draw, table: &Table, sent: &[u32], kind: u64) -> Vec<u16>
 }
 
 /// Coder and decoder over a run, every n with every m, both cut anywhere. Where the table is suitable and the blocks
-/// are right or have fades, demand 3 holds of the entries.
+/// are right or have fades, demand 3 holds of the entries, and what is claimed of the end of the double guard.
 pub fn any_cut(tally: &mut Tally, draw: &mut Draw) {
     for (n, depth) in (2..=16).flat_map(|n| (1..=64).chain(1..=64).map(move |depth| (n, depth))) {
         let (table, suitable) = table_for(draw, n, depth);
-        let delay = table.delay() as usize;
-        let length = 2 * delay + (draw.below(3) * (table.delay() + depth) + draw.below(200)) as usize;
+        let guard = double_guard(&table);
+        let length = (guard + draw.below(3) * (table.delay() + depth) + draw.below(200)) as usize;
         let infos = CODER.fit_blocks(draw, &table, length);
         let mut coder = Twin::new(well_formed_coder(draw, &table));
         let sent = CODER.compare_cuts(tally, draw, &table, &mut coder, &infos);
@@ -288,11 +292,11 @@ pub fn any_cut(tally: &mut Tally, draw: &mut Draw) {
         let whole = sent.len() == length && entries.len() == length;
         tally.check(whole, || format!("{} of {length} blocks taken: {table:?}", entries.len()));
         if suitable && kind < 2 && whole {
-            let right = |p: &usize| {
-                entries[*p] & 0xFFFF == u32::from(infos[p - delay]) && matches!(entries[*p] >> 16, 1..=3)
-            };
-            let wrong = (2 * delay..length).find(|p| !right(p));
-            tally.check(wrong.is_none(), || format!("demand 3 at place {wrong:?} of {table:?}"));
+            let answer = |&entry: &u32| (u64::from(entry & 0xFFFF), u64::from(entry >> 16));
+            let answers: Vec<_> = entries.iter().map(answer).collect();
+            let guard_end = &mut tally.batches.guard_end;
+            let wrong = first_wrong_delivery(&table, guard, &infos, &answers, guard_end);
+            tally.check(wrong.is_none(), || format!("after a guard of {guard}, {wrong:?}: {table:?}"));
         }
     }
 }

@@ -18,7 +18,7 @@ use Rattle.tables.proofs.Fit.{code-length}
 use Rattle.link.specs.declared.decode.Mark.{Mark}
 use Rattle.link.specs.declared.decode.DecodeAnswer.the-variants.{Delivery, NothingYet}
 use Rattle.link.specs.Memory.{turnOf, fillOf, delayOf, pendingOf, syndromeOf}
-use Rattle.link.specs.Step.{information, errorOf}
+use Rattle.link.specs.Step.{information, errorOf, markOf}
 use Rattle.link.specs.Decoder.{advanced, decoderRegister, decoderNext, delivered, delivery}
 use Rattle.link.proofs.Refusals.{picked, passed}
 use Rattle.link.proofs.Decoder.{DecoderTaken, decoder-taken}
@@ -76,14 +76,22 @@ explain-requires c κs =
     let k = tests here in
     (k .sizes .n-from, k .sizes .n-to, width here)
 
+sub-one-at-2 : tie.Need-sub-one-at-2
+sub-one-at-2 c =
+    let k = tests (c .before .before .before .before .before .before .before .before .before) .sizes .n-from in omega arith
+
+one-at-requires-2 : tie.Need-one-at-requires-2
+one-at-requires-2 c κs =
+    let k = tests (c .before .before .before .before .before .before .before .before .before) .sizes .n-to in omega arith
+
 judged-requires : tie.Need-judged-requires
 judged-requires c κs =
-    let here = c .before .before .before .before .before .before .before .before .before in
+    let here = c .before .before .before .before .before .before .before .before .before .before in
     let a = here .args in
     let k = tests here in
     let size : length (rowsOf (whole here)) ≡ a .t .symbols =
     code-length (a .t .symbols) (a .rows .now) (let n = k .sizes .n-from in omega arith) (width here) in
-    subst (λ (f : Least). errorOf f < 2 ^ 16) (sym (c .explain .ensures))
+    subst (λ (f : Least). errorOf f < 2 ^ 16) (sym (c .before .explain .ensures))
     (error-lt (rowsOf (whole here)) _ (let n = k .sizes .n-to in omega arith))
 
 cast-error : tie.Need-cast-error
@@ -91,25 +99,26 @@ cast-error c = search needs
 
 information-requires : tie.Need-information-requires
 information-requires c κs = let k = tests
-    (c .before .before .before .before .before .before .before .before .before .before .before .before) .sizes in
+    (c .before .before .before .before .before .before .before .before .before .before .before .before .before) .sizes
+    in
     (let n = k .n-from in omega arith, k .n-to)
 
 keep-requires : tie.Need-keep-requires
 keep-requires c κs =
     let here = c .before .before .before .before .before .before .before .before .before .before .before .before .before
-    in
+    .before in
     let a = here .args in
     keep-room (whole here) (a .state .now) (a .received) (tests here)
 
 sub-if1 : tie.Need-sub-if1
 sub-if1 c = let k = tests
     (c .before .before .before .before .before .before .before .before .before .before .before .before .before .before
-    .before .before .before) .sizes .N-from in omega arith
+    .before .before .before .before) .sizes .N-from in omega arith
 
 mul-if1 : tie.Need-mul-if1
 mul-if1 c =
     let here = c .before .before .before .before .before .before .before .before .before .before .before .before .before
-    .before .before .before .before .before in
+    .before .before .before .before .before .before in
     let k = tests here .sizes in
     let m = fit-room (whole here) (k .N-to) (k .m-to) in
     record { fits = omega arith }
@@ -120,21 +129,21 @@ same-length c = search needs
 -- the call's entry from the memory that is kept, and the words of the step
 abbrev entry : tie.After-keep → tie.Start
 entry c = c .before .before .before .before .before .before .before .before .before .before .before .before .before
-    .before
+    .before .before
 
 abbrev register : tie.After-keep → ℕ
-register c = c .before .before .before .before .before .before .terms .result .register
+register c = c .before .before .before .before .before .before .before .terms .result .register
 
 joined : (c : tie.After-keep)
     → let a = entry c .args in
-    c .before .before .before .before .before .before .terms .result .w
+    c .before .before .before .before .before .before .before .terms .result .w
     ≡ pendingOf (whole (entry c)) (a .state .now) (turnOf (a .state .now)) ⊕ combination (rowsOf (whole (entry c)))
     (a .received)
 joined c =
     let a = entry c .args in
-    c .before .before .before .before .before .before .terms .ensures .0
+    c .before .before .before .before .before .before .before .terms .ensures .0
     ∙ ap (λ (x : ℕ). pendingOf (whole (entry c)) (a .state .now) (turnOf (a .state .now)) ⊕ x)
-    (c .before .before .before .before .before .before .before .image .ensures)
+    (c .before .before .before .before .before .before .before .before .image .ensures)
 
 registered : (c : tie.After-keep)
     → let a = entry c .args in
@@ -143,9 +152,9 @@ registered c =
     let here = entry c in
     let a = here .args in
     register-is (whole here) (a .state .now) (a .received) _ (width here) (joined c) (register c)
-    (c .before .before .before .before .before .before .before .before .one-at .result)
-    (c .before .before .before .before .before .before .terms .ensures .1)
-    (c .before .before .before .before .before .before .before .before .one-at .ensures)
+    (c .before .before .before .before .before .before .before .before .before .one-at .result)
+    (c .before .before .before .before .before .before .before .terms .ensures .1)
+    (c .before .before .before .before .before .before .before .before .before .one-at .ensures)
 
 kept : (c : tie.After-keep)
     → let a = entry c .args in
@@ -153,10 +162,10 @@ kept : (c : tie.After-keep)
 kept c =
     let here = entry c in
     let a = here .args in
-    let e = c .before .before .before .before .before .explain in
+    let e = c .before .before .before .before .before .before .explain in
     c .keep .ensures .1
     ∙ ap₂ (λ (k i : ℕ). advanced (a .t .span) (a .t .depth) (a .state .now)
-    (c .before .before .before .before .before .before .terms .result .w / 2) k i)
+    (c .before .before .before .before .before .before .before .terms .result .w / 2) k i)
     (c .before .before .before .before .judged .ensures .1 .0) (c .before .information .ensures)
     ∙ memory-is (whole here) (a .state .now) (a .received) _ (width here) (joined c) (register c) (registered c)
     (e .result) (e .ensures)
@@ -176,7 +185,7 @@ returns c =
 information-requires-2 : tie.Need-information-requires-2
 information-requires-2 c κs = let k = tests
     (c .before .before .before .before .before .before .before .before .before .before .before .before .before .before
-    .before .before .before .before .before) .sizes in (let n = k .n-from in omega arith, k .n-to)
+    .before .before .before .before .before .before) .sizes in (let n = k .n-from in omega arith, k .n-to)
 
 -- the record
 abbrev stepped : tie.After-information2 → tie.After-keep
@@ -191,7 +200,7 @@ corrected c =
     let start = entry here in
     let a = start .args in
     let s = a .state .now in
-    let e = here .before .before .before .before .before .explain in
+    let e = here .before .before .before .before .before .before .explain in
     xor-code (here .keep .result) (c .information2 .result)
     ∙ ap₂ _⊕_ (here .keep .ensures .0)
     (c .information2 .ensures ∙ ap (information (a .t .symbols))
@@ -218,8 +227,9 @@ returns-2 c =
     let a = start .args in
     let t = whole start in
     let s = a .state .now in
-    let e = here .before .before .before .before .before .explain in
+    let e = here .before .before .before .before .before .before .explain in
     let mark = here .before .before .before .before .judged .ensures .1 .1
+    ∙ ap (λ (k : ℕ). markOf k (e .result) (register here)) (here .before .before .before .before .before .one-at2 .ensures)
     ∙ mark-is t s (a .received) _ (width start) (joined here) (register here) (registered here) (e .result)
     (e .ensures) in (
       ap₂ (λ (i : ℕ) (m : Mark). Delivery (record { info = i; mark = m })) (corrected c) mark
@@ -231,6 +241,7 @@ returns-2 c =
 pub taken-spec : {M : Type 1} → statement M
 taken-spec =
     tie.close
-    (tie.spec slice-read-fill sub-one-at one-at-requires image-requires terms-requires explain-requires judged-requires
+    (tie.spec slice-read-fill sub-one-at one-at-requires image-requires terms-requires explain-requires
+    sub-one-at-2 one-at-requires-2 judged-requires
     cast-error information-requires keep-requires sub-if1 mul-if1 same-length returns information-requires-2 cast-t23
     same-length-2 returns-2)

@@ -1,5 +1,5 @@
 -- `link::decode_batch::fill_clean`: block by block (`Going`), as long as the register is 0. Assumes nothing.
-use mathlib.Core.Path.{_≡_, sym, ap, subst, _∙_}
+use mathlib.Core.Path.{_≡_, refl, sym, ap, subst, _∙_}
 use mathlib.Core.List.{[], _∷_}
 use Prim.Native.Nat.{ℕ, _-_, _*_, _^_, _≤_, _<_}
 use native.Mathlib.Omega.{arith}
@@ -15,6 +15,7 @@ use Rattle.span.specs.Combination.{combination}
 use Rattle.span.proofs.Masks.{above-mask}
 use Rattle.tables.specs.Table.{infoRows, rowsOf}
 use Rattle.tables.proofs.Fit.{Fits, fit-facts, code-length}
+use Rattle.link.specs.declared.decode.Mark.the-variants.{Clean}
 use Rattle.link.specs.Memory.{turnOf, pendingOf, syndromeOf}
 use Rattle.link.specs.Batch.{decodeEntries, decodeBatch, Reached}
 use Rattle.link.specs.Refusals.{decoderFault}
@@ -198,22 +199,19 @@ same-length-4 c = search needs
 returns-2 : tie.Need-returns-2 Inv-loop μ-loop
 returns-2 c = come (c .before .before .before .before .before .before .before .before .before .before .before)
 
-judged-requires : tie.Need-judged-requires Inv-loop μ-loop
-judged-requires c κs = search needs
-
 take-block-requires : tie.Need-take-block-requires Inv-loop μ-loop
 take-block-requires c κs =
-    let l = turn (c .before .before .before .before) in
+    let l = turn (c .before .before .before) in
     let s = l .loop .state in
     let k = decoder-taken (whole (entry l)) s (block l)
-    (none (c .before .before .before .before .before .before .before .before)) in
+    (none (c .before .before .before .before .before .before .before)) in
     let r = keep-room (whole (entry l)) s (block l) k in
     let n = k .sizes .n-from in
     (r .0, r .1, r .2, r .3, omega arith, k .sizes .n-to, r .4, oldest-lt (whole (entry l)) s (block l) k)
 
 -- points that the end of a turn looks back to
 abbrev words : tie.After-slice-known3 Inv-loop μ-loop → tie.After-terms Inv-loop μ-loop
-words c = c .before .before .before .before .before .before .before
+words c = c .before .before .before .before .before .before
 
 abbrev looped : tie.After-slice-known3 Inv-loop μ-loop → tie.In-loop Inv-loop μ-loop
 looped c = words c .before .before .before .before .before .before .before .before
@@ -240,7 +238,7 @@ explained : (c : tie.After-slice-known3 Inv-loop μ-loop)
     → Found 0 ≡ found (rowsOf (whole (entry (turn (words c))))) (words c .terms .result .register)
 explained c =
     let R = rowsOf (whole (entry (turn (words c)))) in
-    sym (ap (found R) (c .before .before .before .before .before .if2 .left) ∙ zero-found R)
+    sym (ap (found R) (c .before .before .before .before .if2 .left) ∙ zero-found R)
 
 -- the step's entry and memory
 stepped : (c : tie.After-slice-known3 Inv-loop μ-loop)
@@ -252,11 +250,10 @@ stepped c =
     let x = words c in
     let l = turn x in
     let o = l .before .before .one-at in
-    let j = c .before .before .before .judged in
     let b = c .before .before .take-block in
     step-words (whole (entry l)) (l .loop .state) (block l) (x .terms .result .w) (width (entry l)) (joined x)
     (x .terms .result .register) (o .result) (x .terms .ensures .1) (o .ensures) (Found 0) (explained c)
-    (j .result .error) (j .result .kept) (j .result .mark) (j .ensures) (b .result) (b .last .0) (b .ensures)
+    0 0 Clean (refl, (refl, refl)) (b .result) (b .last .0) (b .ensures)
 
 loop-again : tie.Need-loop-again Inv-loop μ-loop
 loop-again c =
@@ -284,5 +281,5 @@ fill-clean-spec =
     (tie.spec Inv-loop μ-loop error-words-requires slice-aggregate-lookup-of lookup-of-requires mask-requires sub-one-at
     one-at-requires min-requires loop-holds mul-received shared-slice-read-received cast-received declines-requires
     same-length same-length-2 returns look-up-requires terms-requires same-length-3 same-length-4 returns-2
-    judged-requires take-block-requires mul-out slice-write-out add-i loop-less loop-again same-length-5 same-length-6
+    take-block-requires mul-out slice-write-out add-i loop-less loop-again same-length-5 same-length-6
     returns-3)

@@ -20,7 +20,7 @@ use Rattle.tables.proofs.Fit.{Fits, fit-facts, code-length}
 use Rattle.link.specs.Memory.{turnOf, pendingOf, syndromeOf}
 use Rattle.link.specs.Batch.{decodeEntries}
 use Rattle.link.specs.Refusals.{decoderFault}
-use Rattle.link.specs.Step.{found, errorOf}
+use Rattle.link.specs.Step.{found, errorOf, markOf}
 use Rattle.link.specs.Decoder.{decoderNext, delivery}
 use Rattle.link.proofs.Decoder.{decoder-taken}
 use Rattle.link.proofs.Error.{error-lt}
@@ -31,18 +31,18 @@ use Rattle.link.proofs.decode_batch.fill_judged.Statement.{statement}
 use Rattle.link.proofs.decode_batch.fill_judged.Tie as tie
 
 abbrev Inv-loop : tie.InvT-loop
-Inv-loop t rows state₀ blocks out₀ tables b ones most top end i₀ state out i =
+Inv-loop t rows state₀ blocks out₀ tables b ones most top parity end i₀ state out i =
     Going (withRows t rows) state₀ blocks out₀ i state out
 
 abbrev μ-loop : tie.MeasureT-loop
-μ-loop t rows state₀ blocks out₀ tables b ones most top end i₀ state out i = end - i
+μ-loop t rows state₀ blocks out₀ tables b ones most top parity end i₀ state out i = end - i
 
 -- points that the proofs look back to: the call's entry from a turn, and what is known there
 abbrev first : tie.After-b Inv-loop μ-loop → tie.Start Inv-loop μ-loop
 first c = c .before .before .before .before .before .before .before .before .before .before
 
 abbrev entry : tie.At-loop Inv-loop μ-loop → tie.Start Inv-loop μ-loop
-entry c = first (c .before .before .before .before .before .before .before)
+entry c = first (c .before .before .before .before .before .before .before .before .before)
 
 abbrev whole : tie.Start Inv-loop μ-loop → Table
 whole c = withRows (c .args .t) (c .args .rows .now)
@@ -95,12 +95,18 @@ sub-one-at c = let z = facts (first (c .before .before .before .before)) .N-from
 one-at-requires : tie.Need-one-at-requires Inv-loop μ-loop
 one-at-requires c κs = let z = facts (first (c .before .before .before .before)) .N-to in omega arith
 
+sub-one-at-2 : tie.Need-sub-one-at-2 Inv-loop μ-loop
+sub-one-at-2 c = let z = facts (first (c .before .before .before .before .before .before)) .n-from in omega arith
+
+one-at-requires-2 : tie.Need-one-at-requires-2 Inv-loop μ-loop
+one-at-requires-2 c κs = let z = facts (first (c .before .before .before .before .before .before)) .n-to in omega arith
+
 min-requires : tie.Need-min-requires Inv-loop μ-loop
 min-requires c κs = search needs
 
 loop-holds : tie.Need-loop-holds Inv-loop μ-loop
 loop-holds c =
-    let here = first (c .before .before .before .before .before .before) in
+    let here = first (c .before .before .before .before .before .before .before .before) in
     going-start (whole here) (here .args .state .now) (here .args .blocks .now) (here .args .out .now)
 
 -- the turn's block is there, and so is its room
@@ -130,12 +136,12 @@ declines-requires c κs =
 abbrev block : tie.At-loop Inv-loop μ-loop → ℕ
 block c = getD (entry c .args .blocks .now) (c .loop .i) 0
 
-tested : (c : tie.At-loop Inv-loop μ-loop) → ltb (c .before .before .before .before .mask .result) (block c) ≡ leb
+tested : (c : tie.At-loop Inv-loop μ-loop) → ltb (c .before .before .before .before .before .before .mask .result) (block c) ≡ leb
     (2 ^ entry c .args .t .symbols) (block c)
 tested c =
     let n = facts (entry c) .n-to in
-    above-mask (entry c .args .t .symbols) (c .before .before .before .before .mask .result) (block c) (omega arith)
-    (c .before .before .before .before .mask .ensures)
+    above-mask (entry c .args .t .symbols) (c .before .before .before .before .before .before .mask .result) (block c) (omega arith)
+    (c .before .before .before .before .before .before .mask .ensures)
 
 same-length : tie.Need-same-length Inv-loop μ-loop
 same-length c = search needs
@@ -150,7 +156,7 @@ returns c =
     let a = start .args in
     turn-declined (whole start) (a .state .now) (a .blocks .now) (a .out .now) (l .loop .i) (l .loop .state)
     (l .loop .out) (l .loop .inv) (start .pre .0) (start .pre .2) (inside (c .before .before .before .before) .0)
-    (l .before .before .before .before .mask .result) (tested l) (sym (c .before .declines .ensures) ∙ c .if1 .taken)
+    (l .before .before .before .before .before .before .mask .result) (tested l) (sym (c .before .declines .ensures) ∙ c .if1 .taken)
 
 -- no refusal applies
 none : (c : tie.Else1 Inv-loop μ-loop)
@@ -162,7 +168,7 @@ none c =
     let a = start .args in
     turn-taken (whole start) (a .state .now) (a .blocks .now) (a .out .now) (l .loop .i) (l .loop .state)
     (l .loop .out) (l .loop .inv) (start .pre .0) (start .pre .2) (inside (c .before .before .before .before) .0)
-    (l .before .before .before .before .mask .result) (tested l) (sym (c .before .declines .ensures) ∙ c .if1 .left)
+    (l .before .before .before .before .before .before .mask .result) (tested l) (sym (c .before .declines .ensures) ∙ c .if1 .left)
 
 look-up-requires : tie.Need-look-up-requires Inv-loop μ-loop
 look-up-requires c κs = search needs
@@ -173,7 +179,7 @@ terms-requires c κs =
     let s = l .loop .state in
     let u = whole (entry l) in
     let r = terms-room u s (block l) (decoder-taken u s (block l) (none (c .before .before .before))) in
-    let e = sym (l .before .before .one-at .ensures) in (
+    let e = sym (l .before .before .before .before .one-at .ensures) in (
       r .0,
       r .1,
       subst (λ (x : ℕ). syndromeOf u s (turnOf s) < x) e (r .2),
@@ -194,7 +200,7 @@ joined c =
     let l = turn c in
     let u = whole (entry l) in
     let s = l .loop .state in
-    let made = l .before .before .before .before .before .before .before .before .before .before in
+    let made = l .before .before .before .before .before .before .before .before .before .before .before .before in
     let ws = made .before .before .error-words in
     let tables = made .lookup-of in
     let z = size (entry l) in
@@ -215,16 +221,16 @@ explained c =
     let l = turn (c .before .before .before .before .before) in
     let start = entry l in
     let n = facts start .n-to in
-    let b = l .before .before .before .before .before .before .before .before .dual-basis in
-    let w = l .before .before .before .before .before .before .before .before .before .before .before .before
-    .error-words in
+    let b = l .before .before .before .before .before .before .before .before .before .before .dual-basis in
+    let w = l .before .before .before .before .before .before .before .before .before .before .before .before .before
+    .before .error-words in
     let z = size start in
     let R = rowsOf (whole start) in
     let words = counted (start .args .t .symbols) (w .result) in
     let same : words ≡ R = counted-words R (w .result) (start .args .t .symbols) 0 z (w .ensures) (omega arith) in
     let x = c .before .before .before .before .before .terms .result .register in
     c .least-by .ensures
-    ∙ ap (λ (o : ℕ). leastBy (b .result) o x) (l .before .before .before .before .before .together .ensures)
+    ∙ ap (λ (o : ℕ). leastBy (b .result) o x) (l .before .before .before .before .before .before .before .together .ensures)
     ∙ least-by words (rw same (omega arith)) (subst (Below 64) (sym same) (code-below (whole start) (facts start)))
     (b .result) (b .ensures) x
     ∙ ap (λ (ws : List ℕ). found ws x) same
@@ -293,13 +299,20 @@ stepped c =
     let x = words c in
     let l = turn x in
     let f = c .before .before .before .before .before .least-by in
-    let o = l .before .before .one-at in
+    let o = l .before .before .before .before .one-at in
+    let p = l .before .before .one-at2 in
     let j = c .before .before .before .judged in
     let b = c .before .before .take-block in
     step-words (whole (entry l)) (l .loop .state) (block l) (x .terms .result .w) (width (entry l)) (joined x)
     (x .terms .result .register) (o .result) (x .terms .ensures .1) (o .ensures) (f .result)
     (explained (c .before .before .before .before .before)) (j .result .error) (j .result .kept) (j .result .mark)
-    (j .ensures) (b .result) (b .last .0) (b .ensures)
+    (
+      j .ensures .0,
+      (
+        j .ensures .1 .0,
+        j .ensures .1 .1 ∙ ap (λ (k : ℕ). markOf k (f .result) (x .terms .result .register)) (p .ensures),
+      ),
+    ) (b .result) (b .last .0) (b .ensures)
 
 loop-again : tie.Need-loop-again Inv-loop μ-loop
 loop-again c =
@@ -331,6 +344,6 @@ fill-judged-spec =
     tie.close
     (tie.spec Inv-loop μ-loop error-words-requires slice-aggregate-lookup-of lookup-of-requires
     slice-aggregate-dual-basis dual-basis-requires together-requires mask-requires sub-one-at one-at-requires
-    min-requires loop-holds mul-received shared-slice-read-received cast-received declines-requires same-length
+    sub-one-at-2 one-at-requires-2 min-requires loop-holds mul-received shared-slice-read-received cast-received declines-requires same-length
     same-length-2 returns look-up-requires terms-requires least-by-requires judged-requires take-block-requires mul-out
     slice-write-out add-i loop-less loop-again same-length-3 same-length-4 returns-2)
