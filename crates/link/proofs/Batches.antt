@@ -10,7 +10,8 @@
 --   run-map              what is told of a run's entries, entry by entry
 --   code-one, decode-one the law, of coder and of decoder
 --   entryOf, entries-told, blocks-told, taken-entries   the entry of a block taken, and of one sent
---   shorter, batch-run, single, mixture, recovery-batches   the theorems
+--   entry-told           an entry, of the answer that a taken block has
+--   shorter, batch-run, single, mixture, recovery-batches, guard-end-batches   the theorems
 use mathlib.Core.Path.{_≡_, refl, sym, ap, ap₂, _∙_, subst}
 use mathlib.Core.Logic.{_↔_, _⊎_, inl, inr}
 use mathlib.Core.List.{List, [], _∷_, _++_, map, map-append}
@@ -22,17 +23,19 @@ use lib.ListN.{length, getD, take, length-take, length-map, List·getD-map}
 use Rattle.tables.specs.declared.table.Table.{Table}
 use Rattle.link.specs.declared.code.CodeAnswer.{CodeAnswer}
 use Rattle.link.specs.declared.code.CodeAnswer.the-variants.{Coded, Refused as CodeRefused}
+use Rattle.link.specs.declared.decode.Mark.{Mark}
+use Rattle.link.specs.declared.decode.Mark.the-variants.{Clean, Parity}
 use Rattle.link.specs.declared.decode.DecodeAnswer.{DecodeAnswer}
 use Rattle.link.specs.declared.decode.DecodeAnswer.the-variants.{Delivery, NothingYet, Refused as DecodeRefused}
 use Rattle.link.specs.Refusals.{coderFault, decoderFault}
 use Rattle.link.specs.Coder.{codedBlock, codeAnswer, codeMemory}
 use Rattle.link.specs.Decoder.{decodeAnswer, decodeMemory, markNumber}
 use Rattle.link.specs.Memory.{delayOf}
-use Rattle.link.specs.Runs.{Call, Sent, Taken, run, ran, sentBy, sentAt, sentOf, noneSent, takenBy, takenOf}
-use Rattle.link.specs.Runs.{noneTaken}
+use Rattle.link.specs.Runs.{Call, Sent, Taken, run, ran, sentBy, sentOf, noneSent, takenBy, takenOf}
+use Rattle.link.specs.Runs.{takenAt, noneTaken}
 use Rattle.link.specs.Batch.{Batch, ended, batch, codeEntries, decodeEntry, decodeEntries, codeBatch, decodeBatch}
 use Rattle.link.specs.Batches.{singly, decodedBy, Ends, Handed, filled, after, callsOf, coderBatch, decoderBatch}
-use Rattle.link.specs.Batches.{SHORTER, BATCH-RUN, SINGLE, MIXTURE, RECOVERY-BATCHES}
+use Rattle.link.specs.Batches.{SHORTER, BATCH-RUN, SINGLE, MIXTURE, RECOVERY-BATCHES, GUARD-END-BATCHES}
 use Rattle.link.proofs.Coder.{codes, code-refuses, coder-taken}
 use Rattle.link.proofs.Decoder.{decodes, decode-refuses}
 use Rattle.link.proofs.Calls.{delivery-taken}
@@ -41,6 +44,7 @@ use Rattle.link.proofs.Runs.{run-append, sent-place, sent-told, sentEnt
 use Rattle.link.proofs.Entries.{coded-none, coded-one, decoded-none}
 use Rattle.link.proofs.Entry.{entry-read}
 use Rattle.link.proofs.Recovery.{recovery}
+use Rattle.link.proofs.Guard.{guard-end}
 
 -- es are the call's entries, s and next the memory before and after it
 abbrev One : List ℕ → Type 0 → List ℕ → List ℕ → Type 0
@@ -375,21 +379,44 @@ info-fits s cs p h =
     let e = ap (λ (x : Sent). x .info) (k .is (λ t s b. sentOf t b (codeAnswer t s b)) sentEntry sent-told noneSent) in
     omega arith
 
+-- entry p of a mixture, where taken block p is answered with information sent
+entry-told : (coder decoder : List ℕ) (cs : List Call) (gs : List Handed) (p q : ℕ) (mark : Mark)
+    → q < length (sentBy coder cs)
+    → takenAt (takenBy decoder (callsOf decoderBatch decoder gs)) p .answer
+    ≡ Delivery (record { info = getD (sentBy coder cs) q noneSent .info; mark = mark }) →
+    let e = getD (filled decoderBatch decoder gs) (p - 1) 0 in
+    (e % 2 ^ 16 ≡ getD (sentBy coder cs) q noneSent .info) × (e / 2 ^ 16 ≡ markNumber mark)
+entry-told coder decoder cs gs p q mark h r =
+    let taken = takenBy decoder (callsOf decoderBatch decoder gs) in
+    let info = getD (sentBy coder cs) q noneSent .info in
+    let is : getD (filled decoderBatch decoder gs) (p - 1) 0 ≡ decodeEntry (markNumber mark) info =
+    ap (λ (es : List ℕ). getD es (p - 1) 0) (taken-entries decoder gs (mixture decoder gs .1 .0))
+    ∙ List·getD-map entryOf taken (p - 1) noneTaken
+    ∙ ap (λ (a : DecodeAnswer). getD (decodeEntries a) 0 0) r in
+    let parts = entry-read (markNumber mark) info (info-fits coder cs q h) in
+    (ap (λ (e : ℕ). e % 2 ^ 16) is ∙ parts .0, ap (λ (e : ℕ). e / 2 ^ 16) is ∙ parts .1)
+
 pub recovery-batches : RECOVERY-BATCHES
 recovery-batches t coder decoder hs gs f p late h =
     let cs = callsOf coderBatch coder hs in
     let ds = callsOf decoderBatch decoder gs in
-    let sent = sentBy coder cs in
-    let taken = takenBy decoder ds in
-    let all : filled decoderBatch decoder gs ≡ map entryOf taken =
-    taken-entries decoder gs (mixture decoder gs .1 .0) in
     let size = mixture decoder gs .1 .2 in
-    let r = recovery t coder decoder cs ds f p late (omega arith) in
     let enough = f .running .enough in
-    let low : sentAt sent (p - delayOf t) .info < 2 ^ 16 = info-fits coder cs (p - delayOf t - 1) (omega arith) in
-    let is : getD (filled decoderBatch decoder gs) (p - 1) 0
-    ≡ decodeEntry (markNumber (r .0)) (sentAt sent (p - delayOf t) .info) =
-    ap (λ (es : List ℕ). getD es (p - 1) 0) all ∙ List·getD-map entryOf taken (p - 1) noneTaken
-    ∙ ap (λ (a : DecodeAnswer). getD (decodeEntries a) 0 0) (r .1) in
-    let parts = entry-read (markNumber (r .0)) (sentAt sent (p - delayOf t) .info) low in
-    (r .0, ap (λ (e : ℕ). e % 2 ^ 16) is ∙ parts .0, ap (λ (e : ℕ). e / 2 ^ 16) is ∙ parts .1, r .2)
+    let r = recovery t coder decoder cs ds f p late (omega arith) in
+    let e = entry-told coder decoder cs gs p (p - delayOf t - 1) (r .0) (omega arith) (r .1) in
+    (r .0, e .0, e .1, r .2)
+
+end-number : (n : ℕ) (mark : Mark) (number : ℕ) → number ≡ markNumber mark
+    → (mark ≡ Clean) ⊎ (mark ≡ Parity (2 ^ (n - 1))) → (number ≡ 1) ⊎ (number ≡ 5)
+end-number n mark number e (inl k) = inl (e ∙ ap markNumber k)
+end-number n mark number e (inr k) = inr (e ∙ ap markNumber k)
+
+pub guard-end-batches : GUARD-END-BATCHES
+guard-end-batches t coder decoder hs gs f p late early h =
+    let cs = callsOf coderBatch coder hs in
+    let ds = callsOf decoderBatch decoder gs in
+    let size = mixture decoder gs .1 .2 in
+    let enough = f .running .enough in
+    let r = guard-end t coder decoder cs ds f p late early (omega arith) in
+    let e = entry-told coder decoder cs gs p (p - delayOf t - 1) (r .0) (omega arith) (r .1) in
+    (e .0, end-number (t .symbols) (r .0) _ (e .1) (r .2))

@@ -3,7 +3,7 @@
 --
 --   error-found, error-missing   from the relation among rows and register
 --   zero-found                   the register 0 is the image of 0
---   found-lt, found-some         an error block that was found is below 2^n, and not 0 unless the register is
+--   found-lt, found-image        an error block that was found is below 2^n, and has the register as its image
 --   mark-clean, mark-parity, mark-corrected   the mark of an error block, by its value
 --   verdict-found .. verdict-held   error, word that stays, and mark in the three cases of a register
 use mathlib.Core.Path.{_≡_, refl, sym, ap, _∙_, subst}
@@ -72,8 +72,8 @@ module _ (rows : List ℕ) (x e : ℕ) (h : leastCoefficients rows x ≡ Found e
   pub found-lt : e < 2 ^ length rows
   found-lt = is-least .1
 
-  pub found-some : x ≢ 0 → e ≢ 0
-  found-some some z = some (sym (is-least .2) ∙ ap (combination rows) z ∙ combination-zero rows)
+  pub found-image : combination rows e ≡ x
+  found-image = is-least .2
 
 -- an error block has 16 bits at most
 pub error-lt : (rows : List ℕ) (x : ℕ) → length rows ≤ 16 → errorOf (leastCoefficients rows x) < 2 ^ 16
@@ -88,41 +88,41 @@ error-lt rows x h = go (leastCoefficients rows x) refl
 
 -- ---- the mark of an error block that was found
 
-module _ (parity e : ℕ) where
-  pub mark-clean : e ≡ 0 → Clean ≡ markFound parity e
-  mark-clean none = picked (eqb e 0) Clean (cond (eqb e parity) (Parity e) (Corrected e)) (eq-eqb e 0 none)
+module _ (alone e : ℕ) where
+  pub mark-clean : e ≡ 0 → Clean ≡ markFound alone e
+  mark-clean none = picked (eqb e 0) Clean (cond (eqb e alone) (Parity e) (Corrected e)) (eq-eqb e 0 none)
 
-  pub mark-parity : e ≢ 0 → e ≡ parity → Parity e ≡ markFound parity e
+  pub mark-parity : e ≢ 0 → e ≡ alone → Parity e ≡ markFound alone e
   mark-parity some same =
-      picked (eqb e parity) (Parity e) (Corrected e) (eq-eqb e parity same)
-      ∙ passed (eqb e 0) Clean (cond (eqb e parity) (Parity e) (Corrected e)) (ne-eqb e 0 some)
+      picked (eqb e alone) (Parity e) (Corrected e) (eq-eqb e alone same)
+      ∙ passed (eqb e 0) Clean (cond (eqb e alone) (Parity e) (Corrected e)) (ne-eqb e 0 some)
 
-  pub mark-corrected : e ≢ 0 → e ≢ parity → Corrected e ≡ markFound parity e
+  pub mark-corrected : e ≢ 0 → e ≢ alone → Corrected e ≡ markFound alone e
   mark-corrected some other =
-      passed (eqb e parity) (Parity e) (Corrected e) (ne-eqb e parity other)
-      ∙ passed (eqb e 0) Clean (cond (eqb e parity) (Parity e) (Corrected e)) (ne-eqb e 0 some)
+      passed (eqb e alone) (Parity e) (Corrected e) (ne-eqb e alone other)
+      ∙ passed (eqb e 0) Clean (cond (eqb e alone) (Parity e) (Corrected e)) (ne-eqb e 0 some)
 
 -- ---- error, word that stays, and mark
 
 abbrev VerdictOf : ℕ → Least → ℕ → ℕ → ℕ → Mark → Type 0
-VerdictOf parity f x error kept mark = (error ≡ errorOf f) × ((kept ≡ keptOf f x) × (mark ≡ markOf parity f x))
+VerdictOf alone f x error kept mark = (error ≡ errorOf f) × ((kept ≡ keptOf f x) × (mark ≡ markOf alone f x))
 
-pub verdict-found : (parity : ℕ) (f : Least) (x e : ℕ) (mark : Mark) → f ≡ Found e → mark ≡ markFound parity e
-    → VerdictOf parity f x e 0 mark
-verdict-found parity f x e mark h is =
-    subst (λ (g : Least). VerdictOf parity g x e 0 mark) (sym h) (refl, (refl, is))
+pub verdict-found : (alone : ℕ) (f : Least) (x e : ℕ) (mark : Mark) → f ≡ Found e → mark ≡ markFound alone e
+    → VerdictOf alone f x e 0 mark
+verdict-found alone f x e mark h is =
+    subst (λ (g : Least). VerdictOf alone g x e 0 mark) (sym h) (refl, (refl, is))
 
 missing-mark : Bool → Mark
 missing-mark b = cond b Doubtful Held
 
-pub verdict-doubtful : (parity : ℕ) (f : Least) (x : ℕ) → f ≡ Missing → odd x ≡ true
-    → VerdictOf parity f x 0 (x / 2) Doubtful
+pub verdict-doubtful : (alone : ℕ) (f : Least) (x : ℕ) → f ≡ Missing → odd x ≡ true
+    → VerdictOf alone f x 0 (x / 2) Doubtful
 unfolding missing-mark
-verdict-doubtful parity f x e o =
-    subst (λ (g : Least). VerdictOf parity g x 0 (x / 2) Doubtful) (sym e) (refl, (refl, ap missing-mark (sym o)))
+verdict-doubtful alone f x e o =
+    subst (λ (g : Least). VerdictOf alone g x 0 (x / 2) Doubtful) (sym e) (refl, (refl, ap missing-mark (sym o)))
 
-pub verdict-held : (parity : ℕ) (f : Least) (x : ℕ) → f ≡ Missing → odd x ≡ false
-    → VerdictOf parity f x 0 (x / 2) Held
+pub verdict-held : (alone : ℕ) (f : Least) (x : ℕ) → f ≡ Missing → odd x ≡ false
+    → VerdictOf alone f x 0 (x / 2) Held
 unfolding missing-mark
-verdict-held parity f x e o =
-    subst (λ (g : Least). VerdictOf parity g x 0 (x / 2) Held) (sym e) (refl, (refl, ap missing-mark (sym o)))
+verdict-held alone f x e o =
+    subst (λ (g : Least). VerdictOf alone g x 0 (x / 2) Held) (sym e) (refl, (refl, ap missing-mark (sym o)))

@@ -3,8 +3,9 @@
 -- memories: a step that is taken has passed the tests of its own stream. Assumes nothing.
 --
 --   Linked, WrongApart     coder and decoder in step, and how wrong places lie
---   Sure                   what is claimed of an answer
+--   Ends, Sure             what is claimed of an answer: at the end of the guard, and past it
 --   guarded                the words of a stream after right blocks
+--   settles                the claim at the end of the guard
 --   delivers, delivers-first   the claim where streams are clean: of a block taken, and of one of the first memory
 --   recovers               the claim past the guard
 --   clean-first            streams that are clean in the first memory
@@ -14,22 +15,28 @@ use mathlib.Core.Logic.{_≢_, _⊎_, inl, inr}
 use mathlib.Core.List.{List, [], _∷_, _++_}
 use Prim.Native.Nat.{ℕ, suc, _+_, _-_, _*_, _/_, _%_, _^_, _≤_, _<_}
 use native.Mathlib.Nat.{zero-mod, add-mul, suc-mul, one-mul, mul-comm, mul-le-mul-right, mod-lt, div-add-mod'}
-use native.Mathlib.Nat.{le-div-iff-mul-le, eq-zero-or-pos}
+use native.Mathlib.Nat.{mul-assoc, le-div-iff-mul-le, eq-zero-or-pos}
 use native.Mathlib.Omega.{arith}
 use lib.ListN.{length, getD}
+use lib.Pow.{pow-pos}
+use Rattle.span.specs.declared.eliminate.Least.{Least}
+use Rattle.span.specs.declared.eliminate.Least.the-variants.{Found}
 use Rattle.span.specs.Word.{_⊕_, odd, digit}
 use Rattle.span.specs.Combination.{combination}
 use Rattle.span.proofs.Word.{xor-zero-r, xor-lt, xor-mod, xor-self, xor-twice}
 use Rattle.link.specs.declared.decode.Mark.{Mark}
-use Rattle.link.specs.declared.decode.Mark.the-variants.{Doubtful}
+use Rattle.link.specs.declared.decode.Mark.the-variants.{Clean, Parity, Doubtful}
 use Rattle.link.specs.declared.decode.DecodeAnswer.{DecodeAnswer}
 use Rattle.link.specs.declared.decode.DecodeAnswer.the-variants.{Delivery}
 use Rattle.link.specs.Memory.{joining, turnOf, pendingAt, fillOf}
 use Rattle.link.specs.Step.{found, errorOf, keptOf, markOf}
+use Rattle.link.proofs.Error.{zero-found, mark-parity}
 use Rattle.link.proofs.Suitable.{Corrects}
 use Rattle.link.proofs.Step.{both-half, both-odd, coder-info, NotDoubtful}
 use Rattle.span.proofs.Masks.{topped-lt}
-use Rattle.link.proofs.Sequence.{Stream, guard-clean, guard-syndrome, stream-judged}
+use Rattle.link.proofs.Sequence.{Stream, guard-clean, guard-register, guard-syndrome, mid-clean, stream-judged}
+use Rattle.link.proofs.ParitySymbol.{alone-none, alone-alike, alone-lt, alone-image}
+use Rattle.link.proofs.ShortGuard.{span-from, short-judged}
 use Rattle.link.proofs.Interleaving.{place-first, place-next, place-earlier}
 use Rattle.link.proofs.Decoder.{streamIn, pendingIn, syndromeIn, delayedIn, registerIn}
 use Rattle.link.proofs.Turn.{CoderRun, DecoderRun, coder-again, coder-first, pending-again, pending-first}
@@ -49,6 +56,12 @@ pub record Linked (n N m : ℕ) (infos : List ℕ) (S M : ℕ → List ℕ) (R B
 -- two wrong places lie in one burst, or far apart
 abbrev pub WrongApart : (ℕ → ℕ) → (ℕ → ℕ) → ℕ → ℕ → ℕ → Type 0
 WrongApart R C long gap count = (p q : ℕ) → p < q → q < count → R p ≢ C p → R q ≢ C q → (q < p + long) ⊎ (p + gap < q)
+
+-- that information is delivered, with a mark that is clean or parity
+abbrev pub Ends : ℕ → DecodeAnswer → ℕ → Type 0
+Ends n answer info =
+    (mark : Mark) × (answer ≡ Delivery (record { info = info; mark = mark }))
+    × ((mark ≡ Clean) ⊎ (mark ≡ Parity (2 ^ (n - 1))))
 
 -- that information is delivered, with a mark that is not doubtful
 abbrev pub Sure : DecodeAnswer → ℕ → Type 0
@@ -115,27 +128,31 @@ module _ {n N m : ℕ} {infos : List ℕ} {S M : ℕ → List ℕ} {R B C : ℕ 
     -- from place r on, to that of its block number `last`
     stream : (last : ℕ) → r + last * m < count
         → Stream n (N - 1) rows (λ (k : ℕ). jt (r + k * m)) (λ (k : ℕ). sy (r + k * m))
-        (λ (k : ℕ). er (r + k * m)) (suc last)
+        (λ (k : ℕ). er (r + k * m)) 0 (suc last)
     stream last h = record {
       code = l .code;
-      some = let from = l .N-from in omega arith;
       error-lt = λ k b. er-lt (r + k * m) (place-earlier m r last k count h (omega arith));
-      joint-next = λ k b.
+      joint-next = λ k from b.
           let e = place-next m r k in
           ap jt (place-next m r k)
           ∙ jt-again (r + k * m) (omega (arith, place-earlier m r last (suc k) count h (omega arith)));
-      syndrome-next = λ k b.
+      syndrome-next = λ k from b.
           let e = place-next m r k in
           let z = place-earlier m r last (suc k) count h (omega arith) in
           ap sy (place-next m r k) ∙ syndrome-again (l .decoding) (r + k * m) (omega arith)
           ∙ ap (λ (x : ℕ). keptOf (found rows x) x) (register-is (r + k * m) (omega arith));
-      joint-lt =
-          let z = place-earlier m r last 0 count h (omega arith) in
-          xor-lt (N - 1) (pd (r + 0 * m)) (pc (r + 0 * m)) (l .decoding .decodes (r + 0 * m) z .pending-lt)
-          (l .coding .codes (r + 0 * m) z .pending-lt);
-      syndrome-lt =
-          λ k b. l .decoding .decodes (r + k * m) (place-earlier m r last k count h (omega arith)) .syndrome-lt;
     }
+
+    -- its first words
+    joint-lt : (last : ℕ) → r + last * m < count → jt (r + 0 * m) < 2 ^ (N - 1)
+    joint-lt last h =
+        let z = place-earlier m r last 0 count h (omega arith) in
+        xor-lt (N - 1) (pd (r + 0 * m)) (pc (r + 0 * m)) (l .decoding .decodes (r + 0 * m) z .pending-lt)
+        (l .coding .codes (r + 0 * m) z .pending-lt)
+
+    syndrome-lt : (last : ℕ) → r + last * m < count → (k : ℕ) → k < suc last → sy (r + k * m) < 2 ^ (N - 1)
+    syndrome-lt last h k b =
+        l .decoding .decodes (r + k * m) (place-earlier m r last k count h (omega arith)) .syndrome-lt
 
     -- N − 1 + i right blocks from place r on: no pending word differs, and the syndrome word is short
     pub guarded : (i j : ℕ) → i + j ≡ N - 1 → r + (N - 1 + i) * m < count
@@ -144,11 +161,25 @@ module _ {n N m : ℕ} {infos : List ℕ} {S M : ℕ → List ℕ} {R B C : ℕ 
     guarded i j whole h right =
         let q = N - 1 + i in
         let quiet : (k : ℕ) → k < q → k < suc q → er (r + k * m) ≡ 0 = (λ k b c. er-right (r + k * m) (right k b)) in (
-          guard-clean (stream q h) q quiet i (omega arith) (omega arith),
-          guard-syndrome (stream q h) q quiet i j whole (omega arith) (omega arith),
+          guard-clean (stream q h) (joint-lt q h) (syndrome-lt q h) q quiet i (omega arith) (omega arith),
+          guard-syndrome (stream q h) (joint-lt q h) (syndrome-lt q h) q quiet i j whole (omega arith) (omega arith),
         )
 
   -- ---- what is delivered
+
+  abbrev reg : ℕ → ℕ
+  reg p = registerIn n N infos (S p) (R p)
+
+  -- the parity symbol alone
+  abbrev alone : ℕ
+  alone = 2 ^ (n - 1)
+
+  abbrev mark : ℕ → Mark
+  mark p = markOf alone (found rows (reg p)) (reg p)
+
+  -- the information of the error that is found at place p is that of x
+  abbrev Finds : ℕ → ℕ → Type 0
+  Finds p x = errorOf (found rows (reg p)) % 2 ^ (n - 1) ≡ x % 2 ^ (n - 1)
 
   corrected : (q : ℕ) → q < count → R q % 2 ^ (n - 1) ⊕ er q % 2 ^ (n - 1) ≡ B q
   corrected q h =
@@ -157,12 +188,74 @@ module _ {n N m : ℕ} {infos : List ℕ} {S M : ℕ → List ℕ} {R B C : ℕ 
       ∙ xor-twice (R q % 2 ^ (n - 1)) (C q % 2 ^ (n - 1))
       ∙ coder-info infos (n - 1) (l .size) (pc q) (pd q) (B q) (C q) (R q) (c .info-lt) (c .coded)
 
-  -- ---- what is found
+  answers : (p x y : ℕ) → p < count → m * (N - 1) ≤ fillOf (S p) → Finds p x → dl 0 p ⊕ x % 2 ^ (n - 1) ≡ y
+      → A p ≡ Delivery (record { info = y; mark = mark p })
+  answers p x y h full f is =
+      l .decoding .decodes p h .answers full
+      ∙ ap (λ (z : ℕ). Delivery (record { info = z; mark = mark p })) (ap (λ (e : ℕ). dl 0 p ⊕ e) f ∙ is)
 
-  -- The first `start` blocks of each stream are right, and then both its words are 0.
-  module _ (apart : WrongApart R C m (m * (N - 1)) count) (start : ℕ)
-      (right : (p : ℕ) → p < start * m → p < count → R p ≡ C p)
-      (clean : (r : ℕ) → r < m → r + start * m < count → (jt (r + start * m) ≡ 0) × (sy (r + start * m) ≡ 0)) where
+  -- of the block taken m × (N − 1) places before
+  answers-taken : (p q : ℕ) → p < count → q + m * (N - 1) ≡ p → Finds p (er q)
+      → A p ≡ Delivery (record { info = B q; mark = mark p })
+  answers-taken p q h e f =
+      answers p (er q) (B q) h (fill-complete (l .decoding) p h (omega arith)) f
+      (ap (λ (x : ℕ). x ⊕ er q % 2 ^ (n - 1)) (oldest (l .decoding) p q h e) ∙ corrected q (omega arith))
+
+  -- ---- the end of the guard
+
+  -- p ends 2 × (N − 1) right blocks of its stream, of which r is the first
+  module _ (r p : ℕ) (at : r + (N - 1 + (N - 2)) * m ≡ p) (inside : p < count)
+      (right : (k : ℕ) → k ≤ N - 1 + (N - 2) → R (r + k * m) ≡ C (r + k * m)) where
+    register-low : reg p < 2
+    register-low =
+        let from = l .N-from in
+        let last = N - 1 + (N - 2) in
+        let h : r + last * m < count = omega arith in
+        let quiet : (k : ℕ) → k < suc last → k < suc last → er (r + k * m) ≡ 0 =
+        (λ k b c. er-right (r + k * m) (right k (omega arith))) in
+        let is = guard-register (stream r last h) (joint-lt r last h) (syndrome-lt r last h) (suc last) quiet (N - 2)
+        (omega arith) (omega arith) in
+        let low = guard-syndrome (stream r last h) (joint-lt r last h) (syndrome-lt r last h) (suc last) quiet (N - 2) 1
+        (omega arith) (omega arith) (omega arith) in
+        subst (λ (k : ℕ). reg k < 2) at
+        (subst (λ (x : ℕ). x < 2) (sym (register-is (r + last * m) h ∙ is)) low)
+
+    -- the register is 0, or the image of the parity symbol
+    ends : ((reg p ≡ 0) ⊎ (0 < reg p))
+        → (errorOf (found rows (reg p)) % 2 ^ (n - 1) ≡ 0) × ((mark p ≡ Clean) ⊎ (mark p ≡ Parity alone))
+    ends (inl z) =
+        let f : found rows (reg p) ≡ Found 0 = ap (found rows) z ∙ zero-found rows in (
+          ap (λ (g : Least). errorOf g % 2 ^ (n - 1)) f ∙ zero-mod (2 ^ (n - 1)),
+          inl (ap (λ (g : Least). markOf alone g (reg p)) f),
+        )
+    ends (inr z) =
+        let low = register-low in
+        let one : reg p ≡ 1 = omega arith in
+        let f : found rows (reg p) ≡ Found alone =
+        ap (found rows) (one ∙ sym (alone-image n (l .n-from) infos (l .size)))
+        ∙ l .code .image-found alone (alone-lt n (l .n-from)) in (
+          ap (λ (g : Least). errorOf g % 2 ^ (n - 1)) f ∙ alone-none n,
+          inr (ap (λ (g : Least). markOf alone g (reg p)) f
+              ∙ sym (mark-parity alone alone (λ (e : alone ≡ 0). omega (arith, pow-pos (n - 1))) refl)),
+        )
+
+    -- the block m × (N − 1) places before is right
+    pub settles : (q : ℕ) → q + m * (N - 1) ≡ p → Ends n (A p) (B q)
+    settles q e =
+        let from = l .N-from in
+        let f = ends (eq-zero-or-pos (reg p)) in
+        let w = N - 1 in
+        let there : r + (N - 2) * m ≡ q = omega (arith, add-mul w (N - 2) m, mul-comm m w) in
+        let none : er q ≡ 0 = ap er (sym there) ∙ er-right (r + (N - 2) * m) (right (N - 2) (omega arith)) in (
+          mark p,
+          answers-taken p q inside e (f .0 ∙ sym (ap (λ (x : ℕ). x % 2 ^ (n - 1)) none ∙ zero-mod (2 ^ (n - 1)))),
+          f .1,
+        )
+
+  -- ---- bursts
+
+  module _ (apart : WrongApart R C m (m * (N - 1)) count) where
+    -- of two blocks of a stream, at most N − 1 apart, one is right
     stream-apart : (r last : ℕ) → r + last * m < count → (i d : ℕ) → 1 ≤ d → d ≤ N - 1 → i + d < suc last
         → (er (r + i * m) ≡ 0) ⊎ (er (r + (i + d) * m) ≡ 0)
     stream-apart r last inside i d from to h =
@@ -193,83 +286,100 @@ module _ {n N m : ℕ} {infos : List ℕ} {S M : ℕ → List ℕ} {R B C : ℕ 
             (place-earlier m r last (i + d) count inside (omega arith)) (er-wrong (r + i * m) z)
             (er-wrong (r + (i + d) * m) y)))
 
-    -- at place p the error of the place m × (N − 1) before is found, or 0 if there is no such place
-    found-at : (p x : ℕ) → p < count → start * m ≤ p → ((q : ℕ) → q + m * (N - 1) ≡ p → er q ≡ x)
-        → (p < m * (N - 1) → x ≡ 0)
-        → (errorOf (found rows (registerIn n N infos (S p) (R p))) ≡ x)
-        × NotDoubtful (found rows (registerIn n N infos (S p) (R p))) (registerIn n N infos (S p) (R p))
-    found-at p x h late leaves none =
+    -- The first `start` blocks of each stream are right, and then both its words are 0.
+    module _ (start : ℕ) (right : (p : ℕ) → p < start * m → p < count → R p ≡ C p)
+        (clean : (r : ℕ) → r < m → r + start * m < count → (jt (r + start * m) ≡ 0) × (sy (r + start * m) ≡ 0)) where
+      -- at place p the error of the place m × (N − 1) before is found, or 0 if there is no such place
+      found-at : (p x : ℕ) → p < count → start * m ≤ p → ((q : ℕ) → q + m * (N - 1) ≡ p → er q ≡ x)
+          → (p < m * (N - 1) → x ≡ 0)
+          → (errorOf (found rows (reg p)) ≡ x) × NotDoubtful (found rows (reg p)) (reg p)
+      found-at p x h late leaves none =
+          let some = l .m-from in
+          let r = p % m in
+          let k = p / m in
+          let w = N - 1 in
+          let first : r < m = mod-lt p (omega arith) in
+          let whole = div-add-mod' p m in
+          let here : r + k * m ≡ p = omega arith in
+          let inside : r + k * m < count = omega arith in
+          let from : start ≤ k = le-div-iff-mul-le {k = m} (omega arith) .1 late in
+          let begin : r + start * m < count = omega (arith, mul-le-mul-right m from) in
+          let z = clean r first begin in
+          let out = stream-judged (stream r k inside) (stream-apart r k inside) start (omega arith)
+          (mid-clean (stream r k inside) start (z .0) (z .1)
+          (λ i d e b ne.
+          let next : suc i ≤ start = omega arith in
+          let room : r + i * m < start * m = omega (arith, mul-le-mul-right m next, suc-mul i m) in
+          er-right (r + i * m) (right (r + i * m) room (omega arith))))
+          k x from (omega arith)
+          (λ i e. leaves (r + i * m) (omega (arith, ap (λ (y : ℕ). y * m) e, add-mul i w m, mul-comm m w)))
+          (λ few. none (omega (arith, mul-le-mul-right m few, suc-mul k m, mul-comm m w))) in
+          let same : sy (r + k * m) + digit (odd (jt (r + k * m) ⊕ combination rows (er (r + k * m)))) * 2 ^ w
+          ≡ reg p =
+          sym (register-is (r + k * m) inside) ∙ ap reg here in (
+            ap (λ (y : ℕ). errorOf (found rows y)) (sym same) ∙ out .0,
+            subst (λ (y : ℕ). NotDoubtful (found rows y) y) same (out .1),
+          )
+
+      pub delivers : (p q : ℕ) → p < count → start * m ≤ p → q + m * (N - 1) ≡ p → Sure (A p) (B q)
+      delivers p q h late e =
+          let f = found-at p (er q) h late (λ i d. ap er (let same : i ≡ q = omega arith in same))
+          (λ few. absurd (omega arith)) in
+          (mark p, answers-taken p q h e (ap (λ (x : ℕ). x % 2 ^ (n - 1)) (f .0)), f .1 alone)
+
+      -- a block of the first memory leaves as it is
+      pub delivers-first : (p : ℕ) → p < count → start * m ≤ p → p < m * (N - 1) → m * (N - 1) ≤ fillOf (S p)
+          → Sure (A p) (getD (S 0) (streamIn N ((turnOf (S 0) + p) % m) + 2 + p / m) 0)
+      delivers-first p h late early full =
+          let f = found-at p 0 h late (λ q e. absurd (omega arith)) (λ few. refl) in (
+            mark p,
+            answers p 0 (getD (S 0) (streamIn N ((turnOf (S 0) + p) % m) + 2 + p / m) 0) h full
+                (ap (λ (x : ℕ). x % 2 ^ (n - 1)) (f .0))
+                (ap (λ (y : ℕ). dl 0 p ⊕ y) (zero-mod (2 ^ (n - 1))) ∙ xor-zero-r (dl 0 p)
+                ∙ oldest-first (l .decoding) p h early),
+            f .1 alone,
+          )
+
+    -- the first 2 × (N − 2) blocks of each stream are right
+    found-short : ((p : ℕ) → p < 2 * (m * (N - 2)) → p < count → R p ≡ C p) → (p q : ℕ) → p < count
+        → 2 * (m * (N - 1)) ≤ p → q + m * (N - 1) ≡ p → Finds p (er q) × NotDoubtful (found rows (reg p)) (reg p)
+    found-short right p q h late e =
+        let from = l .N-from in
         let some = l .m-from in
+        let w = N - 1 in
         let r = p % m in
         let k = p / m in
-        let w = N - 1 in
+        let i = k - w in
         let first : r < m = mod-lt p (omega arith) in
-        let whole = div-add-mod' p m in
-        let here : r + k * m ≡ p = omega arith in
+        let here : r + k * m ≡ p = omega (arith, div-add-mod' p m) in
         let inside : r + k * m < count = omega arith in
-        let from : start ≤ k = le-div-iff-mul-le {k = m} (omega arith) .1 late in
-        let begin : r + start * m < count = omega (arith, mul-le-mul-right m from) in
-        let z = clean r first begin in
-        let out = stream-judged (stream r k inside) (stream-apart r k inside) start (z .0) (z .1)
-        (λ i d e a b.
-        let next : suc i ≤ start = omega arith in
-        let room : r + i * m < start * m = omega (arith, mul-le-mul-right m next, suc-mul i m) in
-        er-right (r + i * m) (right (r + i * m) room (omega arith)))
-        k x from (omega arith)
-        (λ i e. leaves (r + i * m) (omega (arith, ap (λ (y : ℕ). y * m) e, add-mul i w m, mul-comm m w)))
-        (λ few. none (omega (arith, mul-le-mul-right m few, suc-mul k m, mul-comm m w))) in
-        let same : sy (r + k * m) + digit (odd (jt (r + k * m) ⊕ combination rows (er (r + k * m)))) * 2 ^ w
-        ≡ registerIn n N infos (S p) (R p) =
-        sym (register-is (r + k * m) inside) ∙ ap (λ (y : ℕ). registerIn n N infos (S y) (R y)) here in (
-          ap (λ (y : ℕ). errorOf (found rows y)) (sym same) ∙ out .0,
-          subst (λ (y : ℕ). NotDoubtful (found rows y) y) same (out .1),
+        let twice : (w + w) * m ≤ p = omega (arith, add-mul w w m, mul-comm m w) in
+        let past : w + w ≤ k = le-div-iff-mul-le {k = m} (omega arith) .1 twice in
+        let back : i + w ≡ k = omega arith in
+        let there : r + i * m ≡ q =
+        omega (arith, ap (λ (x : ℕ). x * m) back, add-mul i w m, mul-comm m w) in
+        let long = span-from n w infos (l .n-from) (l .size) (l .code) (omega arith) in
+        let short = 2 * (N - 2) in
+        let out = short-judged n w infos (l .n-from) (l .size) (l .code) (stream r k inside) (joint-lt r k inside)
+        (syndrome-lt r k inside) (stream-apart r k inside) long short (omega arith)
+        (λ b c d.
+        let next : suc b ≤ short = omega arith in
+        let early : r + b * m < 2 * (m * (N - 2)) =
+        omega (arith, mul-le-mul-right m next, suc-mul b m, mul-assoc 2 (N - 2) m, mul-comm m (N - 2)) in
+        er-right (r + b * m) (right (r + b * m) early (place-earlier m r k b count inside (omega arith))))
+        (omega arith) k i (omega arith) (omega arith) back in
+        let same : sy (r + k * m) + digit (odd (jt (r + k * m) ⊕ combination rows (er (r + k * m)))) * 2 ^ w ≡ reg p =
+        sym (register-is (r + k * m) inside) ∙ ap reg here in (
+          ap (λ (x : ℕ). errorOf (found rows x) % 2 ^ (n - 1)) (sym same) ∙ alone-alike n _ _ (out .0)
+              ∙ ap (λ (x : ℕ). er x % 2 ^ (n - 1)) there,
+          subst (λ (x : ℕ). NotDoubtful (found rows x) x) same (out .1),
         )
 
-    sure : (p x y : ℕ) → p < count → start * m ≤ p → ((q : ℕ) → q + m * (N - 1) ≡ p → er q ≡ x)
-        → (p < m * (N - 1) → x ≡ 0)
-        → m * (N - 1) ≤ fillOf (S p) → dl 0 p ⊕ x % 2 ^ (n - 1) ≡ y → Sure (A p) y
-    sure p x y h late leaves none full is =
-        let f = found-at p x h late leaves none in
-        let reg = registerIn n N infos (S p) (R p) in
-        let mark = markOf (2 ^ (n - 1)) (found rows reg) reg in (
-          mark,
-          l .decoding .decodes p h .answers full
-              ∙ ap (λ (z : ℕ). Delivery (record { info = z; mark = mark }))
-              (ap (λ (e : ℕ). dl 0 p ⊕ e % 2 ^ (n - 1)) (f .0) ∙ is),
-          f .1 (2 ^ (n - 1)),
-        )
-
-    pub delivers : (p q : ℕ) → p < count → start * m ≤ p → q + m * (N - 1) ≡ p → Sure (A p) (B q)
-    delivers p q h late e =
-        sure p (er q) (B q) h late (λ i d. ap er (let same : i ≡ q = omega arith in same)) (λ few. absurd (omega arith))
-        (fill-complete (l .decoding) p h (omega arith))
-        (ap (λ (x : ℕ). x ⊕ er q % 2 ^ (n - 1)) (oldest (l .decoding) p q h e) ∙ corrected q (omega arith))
-
-    -- a block of the first memory leaves as it is
-    pub delivers-first : (p : ℕ) → p < count → start * m ≤ p → p < m * (N - 1) → m * (N - 1) ≤ fillOf (S p)
-        → Sure (A p) (getD (S 0) (streamIn N ((turnOf (S 0) + p) % m) + 2 + p / m) 0)
-    delivers-first p h late early full =
-        sure p 0 (getD (S 0) (streamIn N ((turnOf (S 0) + p) % m) + 2 + p / m) 0) h late (λ q e. absurd (omega arith))
-        (λ few. refl) full
-        (ap (λ (y : ℕ). dl 0 p ⊕ y) (zero-mod (2 ^ (n - 1))) ∙ xor-zero-r (dl 0 p)
-        ∙ oldest-first (l .decoding) p h early)
-
-  -- the guard makes every stream clean
-  pub recovers : WrongApart R C m (m * (N - 1)) count
-      → ((p : ℕ) → p < 2 * (m * (N - 1)) → p < count → R p ≡ C p) → (p q : ℕ) → p < count → 2 * (m * (N - 1)) ≤ p
-      → q + m * (N - 1) ≡ p
-      → Sure (A p) (B q)
-  recovers apart guard p q h late e =
-      let w = N - 1 in
-      let long : (w + w) * m ≡ 2 * (m * w) = omega (arith, add-mul w w m, mul-comm m w) in
-      let right : (i : ℕ) → i < (w + w) * m → i < count → R i ≡ C i = (λ i a b. guard i (omega arith) b) in
-      delivers apart (w + w) right
-      (λ r first inside.
-      let g = guarded r w 0 (omega arith) inside
-      (λ k b. right (r + k * m) (omega (arith, mul-le-mul-right m b, suc-mul k m))
-      (let below : k ≤ w + w = omega arith in omega (arith, mul-le-mul-right m below))) in
-      (g .0, omega arith))
-      p q h (omega arith) e
+    pub recovers : ((p : ℕ) → p < 2 * (m * (N - 2)) → p < count → R p ≡ C p) → (p q : ℕ) → p < count
+        → 2 * (m * (N - 1)) ≤ p → q + m * (N - 1) ≡ p → Sure (A p) (B q)
+    recovers right p q h late e =
+        let f = found-short right p q h late e in
+        (mark p, answers-taken p q h e (f .0), f .1 alone)
 
   -- streams that are clean in the first memory are so at their first turn
   pub clean-first : ((k : ℕ) → k < m → getD (S 0) (streamIn N k + 1) 0 ≡ 0)

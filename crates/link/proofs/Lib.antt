@@ -19,6 +19,8 @@ mod Suitable
 mod Origin
 mod Step
 mod Sequence
+mod ParitySymbol
+mod ShortGuard
 mod Convolution
 mod Register
 mod Interleaving
@@ -36,8 +38,8 @@ mod Massey
 mod Bursts
 mod Fade
 mod Recovery
-pub mod Batches
 mod Guard
+pub mod Batches
 mod Clean
 mod Computed
 mod Examples

@@ -3,9 +3,10 @@ use Rattle.link.specs.Main.{LINK}
 use Rattle.link.proofs.Calls.{refused-calls, taken-calls}
 use Rattle.link.proofs.Marks.{marks}
 use Rattle.link.proofs.Massey.{parity, syndrome-errors, deliveries, waiting}
-use Rattle.link.proofs.Recovery.{recovery}
+use Rattle.link.proofs.Recovery.{recovery, recovery-short-guard}
+use Rattle.link.proofs.Guard.{guard-end}
 use Rattle.link.proofs.Clean.{clean, started-clean}
-use Rattle.link.proofs.Batches.{shorter, batch-run, recovery-batches}
+use Rattle.link.proofs.Batches.{shorter, batch-run, recovery-batches, guard-end-batches}
 
 pub link : LINK
 link = record {
@@ -17,9 +18,12 @@ link = record {
   delivery = deliveries;
   marks = marks;
   recovery = recovery;
+  guard-end = guard-end;
+  recovery-short-guard = recovery-short-guard;
   clean = clean;
   started-clean = started-clean;
   shorter = shorter;
   batch-run = batch-run;
   recovery-batches = recovery-batches;
+  guard-end-batches = guard-end-batches;
 }

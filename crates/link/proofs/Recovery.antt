@@ -2,12 +2,14 @@
 --
 --   separated, linked    the premises
 --   recovered            the claim
---   recovery-any-memory, recovery, recovery-later, doubtful   the theorems
+--   recovery-short-guard   the theorem from which the others follow
+--   recovery-any-memory, recovery, recovery-later, doubtful   those
 --   same-delivery        two deliveries that are equal have equal information and marks
 use mathlib.Core.Path.{_≡_, sym, _∙_, subst}
 use mathlib.Core.Logic.{_⊎_, inl, inr}
 use mathlib.Core.List.{List}
 use Prim.Native.Nat.{ℕ, zero, suc, _+_, _-_, _*_, _≤_, _<_}
+use native.Mathlib.Nat.{mul-le-mul-left}
 use native.Mathlib.Omega.{arith}
 use lib.ListN.{length}
 use Rattle.tables.specs.declared.table.Table.{Table}
@@ -18,7 +20,7 @@ use Rattle.link.specs.declared.decode.DecodeAnswer.the-variants.{Deliver
 use Rattle.link.specs.Memory.{delayOf}
 use Rattle.link.specs.Runs.{Call, Sent, Taken, sentBy, takenBy, sentAt, takenAt, coderAfter, decoderAfter}
 use Rattle.link.specs.Recovery.{Wrong, Recovered, RECOVERY, RECOVERY-LATER, DOUBTFUL, Running, Separated}
-use Rattle.link.specs.Recovery.{RECOVERY-ANY-MEMORY}
+use Rattle.link.specs.Recovery.{RECOVERY-ANY-MEMORY, RECOVERY-SHORT-GUARD}
 use Rattle.link.specs.Massey.{infoSent, blockSent, blockTaken}
 use Rattle.link.proofs.Origin.{origin-coding}
 use Rattle.link.proofs.Runs.{coderBefore, decoderBefore}
@@ -69,13 +71,20 @@ module _ {t : Table} {coder decoder : List ℕ} {cs ds : List Call} (f : Running
       (let e : suc (p - delayOf t) ≡ suc p - delayOf t = omega arith in e)
       (sure (p - delayOf t) (omega arith))
 
-pub recovery-any-memory : RECOVERY-ANY-MEMORY
-recovery-any-memory t coder decoder cs ds f guard apart zero late h = absurd (omega arith)
-recovery-any-memory t coder decoder cs ds f guard apart (suc p) late h =
+pub recovery-short-guard : RECOVERY-SHORT-GUARD
+recovery-short-guard t coder decoder cs ds f guard apart zero late h = absurd (omega arith)
+recovery-short-guard t coder decoder cs ds f guard apart (suc p) late h =
     recovered f p (omega arith)
     (λ q e.
     recovers (linked f) (separated f apart)
     (λ i early inside. guard (suc i) (omega arith) (omega arith) (omega arith)) p q (omega arith) (omega arith) e)
+
+-- a longer guard has the shorter one
+pub recovery-any-memory : RECOVERY-ANY-MEMORY
+recovery-any-memory t coder decoder cs ds f guard =
+    let fewer : t .span - 2 ≤ t .span - 1 = omega arith in
+    recovery-short-guard t coder decoder cs ds f
+    (λ p from to h. guard p from (omega (arith, mul-le-mul-left (t .depth) fewer)) h)
 
 -- well-formed memories are not needed, and chosen bursts keep the wrong places apart
 pub recovery : RECOVERY

@@ -27,69 +27,73 @@ joint rows D e k = D k ⊕ combination rows (e k)
 abbrev pub registered : ℕ → List ℕ → (ℕ → ℕ) → (ℕ → ℕ) → (ℕ → ℕ) → ℕ → ℕ
 registered w rows D e s k = s k + digit (odd (joint rows D e k)) * 2 ^ w
 
--- the first `count` blocks of a stream
-pub record Stream (n w : ℕ) (rows : List ℕ) (D s e : ℕ → ℕ) (count : ℕ) : Type 0 where
+-- the first `count` blocks of a stream, of which those from `from` on are steps on these words
+pub record Stream (n w : ℕ) (rows : List ℕ) (D s e : ℕ → ℕ) (from count : ℕ) : Type 0 where
   pub code : Corrects n w rows
-  pub some : 1 ≤ w
   pub error-lt : (k : ℕ) → k < count → e k < 2 ^ n
-  pub joint-next : (k : ℕ) → suc k < count → D (suc k) ≡ joint rows D e k / 2
-  pub syndrome-next : (k : ℕ) → suc k < count
+  pub joint-next : (k : ℕ) → from ≤ k → suc k < count → D (suc k) ≡ joint rows D e k / 2
+  pub syndrome-next : (k : ℕ) → from ≤ k → suc k < count
       → s (suc k) ≡ keptOf (found rows (registered w rows D e s k)) (registered w rows D e s k)
-  pub joint-lt : D 0 < 2 ^ w
-  pub syndrome-lt : (k : ℕ) → k < count → s k < 2 ^ w
+
+-- a right block adds nothing
+pub joint-right : (rows : List ℕ) (D e : ℕ → ℕ) (k : ℕ) → e k ≡ 0 → joint rows D e k ≡ D k
+joint-right rows D e k h =
+    ap (λ (x : ℕ). D k ⊕ combination rows x) h ∙ ap (λ (x : ℕ). D k ⊕ x) (combination-zero rows) ∙ xor-zero-r (D k)
 
 pub kept-lt : (f : Least) (x j : ℕ) → x < 2 ^ suc j → keptOf f x < 2 ^ j
 kept-lt (Found e) x j h = pow-pos j
 kept-lt Missing x j h = omega arith
 
-module _ {n w : ℕ} {rows : List ℕ} {D s e : ℕ → ℕ} {count : ℕ} (S : Stream n w rows D s e count) where
-  -- a right block adds nothing
-  joint-right : (k : ℕ) → e k ≡ 0 → joint rows D e k ≡ D k
-  joint-right k h =
-      ap (λ (x : ℕ). D k ⊕ combination rows x) h ∙ ap (λ (x : ℕ). D k ⊕ x) (combination-zero rows) ∙ xor-zero-r (D k)
+-- ---- the guard: the first `quiet` blocks are right
 
-  -- ---- the guard: the first `quiet` blocks are right
+module _ {n w : ℕ} {rows : List ℕ} {D s e : ℕ → ℕ} {count : ℕ} (S : Stream n w rows D s e 0 count)
+    (joint-lt : D 0 < 2 ^ w) (syndrome-lt : (k : ℕ) → k < count → s k < 2 ^ w) (quiet : ℕ)
+    (right : (k : ℕ) → k < quiet → k < count → e k ≡ 0) where
+  guard-joint : (i j : ℕ) → i + j ≡ w → i ≤ quiet → i < count → D i < 2 ^ j
+  guard-joint zero j h q l = subst (λ (k : ℕ). D 0 < 2 ^ k) (omega arith) joint-lt
+  guard-joint (suc i) j h q l =
+      let before = guard-joint i (suc j) (omega arith) (omega arith) (omega arith) in
+      let next = S .joint-next i (omega arith) l in
+      let same = joint-right rows D e i (right i (omega arith) (omega arith)) in
+      let e1 : D (suc i) ≡ D i / 2 = next ∙ ap (λ (x : ℕ). x / 2) same in
+      omega arith
 
-  module _ (quiet : ℕ) (right : (k : ℕ) → k < quiet → k < count → e k ≡ 0) where
-    guard-joint : (i j : ℕ) → i + j ≡ w → i ≤ quiet → i < count → D i < 2 ^ j
-    guard-joint zero j h q l = subst (λ (k : ℕ). D 0 < 2 ^ k) (omega arith) (S .joint-lt)
-    guard-joint (suc i) j h q l =
-        let before = guard-joint i (suc j) (omega arith) (omega arith) (omega arith) in
-        let next = S .joint-next i l in
-        let same = joint-right i (right i (omega arith) (omega arith)) in
-        let e1 : D (suc i) ≡ D i / 2 = next ∙ ap (λ (x : ℕ). x / 2) same in
-        omega arith
+  pub guard-clean : (i : ℕ) → w + i ≤ quiet → w + i < count → D (w + i) ≡ 0
+  guard-clean zero q l =
+      let z = guard-joint w 0 (omega arith) (omega arith) (omega arith) in
+      ap D (add-zero w) ∙ omega arith
+  guard-clean (suc i) q l =
+      let before = guard-clean i (omega arith) (omega arith) in
+      let place : w + suc i ≡ suc (w + i) = omega arith in
+      let same = joint-right rows D e (w + i) (right (w + i) (omega arith) (omega arith)) in
+      ap D place ∙ S .joint-next (w + i) (omega arith) (omega arith) ∙ ap (λ (x : ℕ). x / 2) (same ∙ before)
 
-    pub guard-clean : (i : ℕ) → w + i ≤ quiet → w + i < count → D (w + i) ≡ 0
-    guard-clean zero q l =
-        let z = guard-joint w 0 (omega arith) (omega arith) (omega arith) in
-        ap D (add-zero w) ∙ omega arith
-    guard-clean (suc i) q l =
-        let before = guard-clean i (omega arith) (omega arith) in
-        let place : w + suc i ≡ suc (w + i) = omega arith in
-        let same = joint-right (w + i) (right (w + i) (omega arith) (omega arith)) in
-        ap D place ∙ S .joint-next (w + i) (omega arith) ∙ ap (λ (x : ℕ). x / 2) (same ∙ before)
+  -- where no pending word differs a right block's raw term is 0
+  pub guard-register : (i : ℕ) → w + i < quiet → w + i < count → registered w rows D e s (w + i) ≡ s (w + i)
+  guard-register i q l =
+      let zero-joint : joint rows D e (w + i) ≡ 0 =
+      joint-right rows D e (w + i) (right (w + i) (omega arith) (omega arith))
+      ∙ guard-clean i (omega arith) (omega arith) in
+      let even : odd (joint rows D e (w + i)) ≡ false =
+      odd-of false (joint rows D e (w + i)) (ap (λ (x : ℕ). x % 2) zero-joint) in
+      ap (λ (b : Bool). s (w + i) + digit b * 2 ^ w) even ∙ ap (λ (x : ℕ). s (w + i) + x) (zero-mul (2 ^ w))
+      ∙ add-zero (s (w + i))
 
-    pub guard-syndrome : (i j : ℕ) → i + j ≡ w → w + i ≤ quiet → w + i < count → s (w + i) < 2 ^ j
-    guard-syndrome zero j h q l = subst (λ (k : ℕ). s (w + 0) < 2 ^ k) (omega arith) (S .syndrome-lt (w + 0) l)
-    guard-syndrome (suc i) j h q l =
-        let before = guard-syndrome i (suc j) (omega arith) (omega arith) (omega arith) in
-        let place : w + suc i ≡ suc (w + i) = omega arith in
-        let zero-joint : joint rows D e (w + i) ≡ 0 =
-        joint-right (w + i) (right (w + i) (omega arith) (omega arith)) ∙ guard-clean i (omega arith) (omega arith) in
-        let even : odd (joint rows D e (w + i)) ≡ false =
-        odd-of false (joint rows D e (w + i)) (ap (λ (x : ℕ). x % 2) zero-joint) in
-        let same : registered w rows D e s (w + i) ≡ s (w + i) =
-        ap (λ (b : Bool). s (w + i) + digit b * 2 ^ w) even ∙ ap (λ (x : ℕ). s (w + i) + x) (zero-mul (2 ^ w))
-        ∙ add-zero (s (w + i)) in
-        subst (λ (x : ℕ). x < 2 ^ j) (sym (ap s place ∙ S .syndrome-next (w + i) (omega arith)))
-        (kept-lt (found rows (registered w rows D e s (w + i))) (registered w rows D e s (w + i)) j (rw same before))
+  pub guard-syndrome : (i j : ℕ) → i + j ≡ w → w + i ≤ quiet → w + i < count → s (w + i) < 2 ^ j
+  guard-syndrome zero j h q l = subst (λ (k : ℕ). s (w + 0) < 2 ^ k) (omega arith) (syndrome-lt (w + 0) l)
+  guard-syndrome (suc i) j h q l =
+      let before = guard-syndrome i (suc j) (omega arith) (omega arith) (omega arith) in
+      let place : w + suc i ≡ suc (w + i) = omega arith in
+      let same = guard-register i (omega arith) (omega arith) in
+      subst (λ (x : ℕ). x < 2 ^ j) (sym (ap s place ∙ S .syndrome-next (w + i) (omega arith) (omega arith)))
+      (kept-lt (found rows (registered w rows D e s (w + i))) (registered w rows D e s (w + i)) j (rw same before))
 
-  -- ---- errors
+-- ---- errors
 
+module _ {n w : ℕ} {rows : List ℕ} {D s e : ℕ → ℕ} {from count : ℕ} (S : Stream n w rows D s e from count) where
   -- Before block k is judged, with its error joined: all errors of the last w blocks and this one are 0 but that of
   -- block j.
-  record Mid (k : ℕ) : Type 0 where
+  pub record Mid (k : ℕ) : Type 0 where
     j : ℕ
     a : ℕ
     l : ℕ
@@ -100,7 +104,7 @@ module _ {n w : ℕ} {rows : List ℕ} {D s e : ℕ → ℕ} {count : ℕ} (S : 
     others : (i d : ℕ) → i + d ≡ k → d ≤ w → i ≢ j → e i ≡ 0
 
   -- a clean stream: whatever comes is its only error
-  mid-clean : (k : ℕ) → D k ≡ 0 → s k ≡ 0 → ((i d : ℕ) → i + d ≡ k → d ≤ w → i ≢ k → e i ≡ 0) → Mid k
+  pub mid-clean : (k : ℕ) → D k ≡ 0 → s k ≡ 0 → ((i d : ℕ) → i + d ≡ k → d ≤ w → i ≢ k → e i ≡ 0) → Mid k
   mid-clean k d z others = record {
     j = k;
     a = 0;
@@ -119,11 +123,11 @@ module _ {n w : ℕ} {rows : List ℕ} {D s e : ℕ → ℕ} {count : ℕ} (S : 
       → i ≢ suc k → i ≢ j → e i ≡ 0
   others-later k j others i d p q ne other = others i (d - 1) (omega arith) (omega arith) other
 
-  mid-left : (k j : ℕ) → suc k < count → j + w ≡ k → joint rows D e k ≡ combination rows (e j) / 2 ^ w
+  mid-left : (k j : ℕ) → from ≤ k → suc k < count → j + w ≡ k → joint rows D e k ≡ combination rows (e j) / 2 ^ w
       → s k ≡ combination rows (e j) % 2 ^ w * 2 ^ 0 → ((i d : ℕ) → i + d ≡ k → d ≤ w → i ≢ j → e i ≡ 0) → Mid (suc k)
-  mid-left k j h place rest lower others =
+  mid-left k j late h place rest lower others =
       let out = leaving n w rows (S .code) (e j) (joint rows D e k) (s k) (S .error-lt j (omega arith)) rest lower in
-      mid-clean (suc k) (S .joint-next k h ∙ out .1) (S .syndrome-next k h ∙ out .0 .kept-is)
+      mid-clean (suc k) (S .joint-next k late h ∙ out .1) (S .syndrome-next k late h ∙ out .0 .kept-is)
       (λ i d p q ne. others-later k j others i d p q ne (λ (same : i ≡ j). omega arith))
 
   judged : (k x j a l : ℕ) → k < count → ((i : ℕ) → i + w ≡ k → e i ≡ x) → (k < w → x ≡ 0) → a + l ≡ w → j + a ≡ k
@@ -150,7 +154,7 @@ module _ {n w : ℕ} {rows : List ℕ} {D s e : ℕ → ℕ} {count : ℕ} (S : 
 
   -- of two blocks of the stream, at most w apart, one is right
   module _ (apart : (i d : ℕ) → 1 ≤ d → d ≤ w → i + d < count → (e i ≡ 0) ⊎ (e (i + d) ≡ 0)) where
-    mid-stayed : (k j a l : ℕ) → suc k < count → a + suc l ≡ w → j + a ≡ k
+    pub mid-stayed : (k j a l : ℕ) → suc k < count → a + suc l ≡ w → j + a ≡ k
         → D (suc k) ≡ combination rows (e j) / 2 ^ suc a
         → s (suc k) ≡ combination rows (e j) % 2 ^ suc a * 2 ^ l → ((i d : ℕ) → i + d ≡ k → d ≤ w → i ≢ j → e i ≡ 0)
         → ((e (suc k) ≡ 0) ⊎ (0 < e (suc k))) → Mid (suc k)
@@ -160,7 +164,7 @@ module _ {n w : ℕ} {rows : List ℕ} {D s e : ℕ → ℕ} {count : ℕ} (S : 
       l = l;
       whole = omega arith;
       place = omega arith;
-      rest = joint-right (suc k) right ∙ rest;
+      rest = joint-right rows D e (suc k) right ∙ rest;
       lower = lower;
       others = λ i d p q ne. right-or-later i d p q ne (eq-zero-or-pos d);
     }
@@ -186,35 +190,35 @@ module _ {n w : ℕ} {rows : List ℕ} {D s e : ℕ → ℕ} {count : ℕ} (S : 
             alone j (suc a) (omega arith) (omega arith) (omega arith)
             (apart j (suc a) (omega arith) (omega arith) (omega arith))
 
-    mid-step : (k j a l : ℕ) → suc k < count → a + l ≡ w → j + a ≡ k → joint rows D e k ≡ combination rows (e j) / 2 ^ a
+    mid-step : (k j a l : ℕ) → from ≤ k → suc k < count → a + l ≡ w → j + a ≡ k → joint rows D e k ≡ combination rows (e j) / 2 ^ a
         → s k ≡ combination rows (e j) % 2 ^ a * 2 ^ l → ((i d : ℕ) → i + d ≡ k → d ≤ w → i ≢ j → e i ≡ 0) → Mid (suc k)
-    mid-step k j a zero h whole place rest lower others =
+    mid-step k j a zero late h whole place rest lower others =
         let all : a ≡ w = omega arith in
-        mid-left k j h (omega arith) (subst (λ (x : ℕ). joint rows D e k ≡ combination rows (e j) / 2 ^ x) all rest)
+        mid-left k j late h (omega arith) (subst (λ (x : ℕ). joint rows D e k ≡ combination rows (e j) / 2 ^ x) all rest)
         (subst (λ (x : ℕ). s k ≡ combination rows (e j) % 2 ^ x * 2 ^ 0) all lower) others
-    mid-step k j a (suc l) h whole place rest lower others =
+    mid-step k j a (suc l) late h whole place rest lower others =
         let out =
         staying n w rows (S .code) (e j) (joint rows D e k) (s k) a l (S .error-lt j (omega arith)) whole rest lower in
-        mid-stayed k j a l h whole place (S .joint-next k h ∙ out .1) (S .syndrome-next k h ∙ out .0 .kept-is) others
+        mid-stayed k j a l h whole place (S .joint-next k late h ∙ out .1) (S .syndrome-next k late h ∙ out .0 .kept-is)
+        others
         (eq-zero-or-pos (e (suc k)))
 
-    -- The stream is clean at block c, and the blocks before it that are still delayed are right.
-    module _ (c : ℕ) (joint-none : D c ≡ 0) (syndrome-none : s c ≡ 0)
-        (before : (i d : ℕ) → i + d ≡ c → 1 ≤ d → d ≤ w → e i ≡ 0) where
+    -- from a block c on
+    module _ (c : ℕ) (late : from ≤ c) (start : Mid c) where
       mid : (d : ℕ) → c + d < count → Mid (c + d)
-      mid zero h =
-          subst Mid (omega arith) (mid-clean c joint-none syndrome-none (λ i d p q ne. before i d p (omega arith) q))
+      mid zero h = subst Mid (omega arith) start
       mid (suc d) h =
           let m = mid d (omega arith) in
           subst Mid (omega arith)
-          (mid-step (c + d) (m .j) (m .a) (m .l) (omega arith) (m .whole) (m .place) (m .rest) (m .lower) (m .others))
+          (mid-step (c + d) (m .j) (m .a) (m .l) (omega arith) (omega arith) (m .whole) (m .place) (m .rest) (m .lower)
+          (m .others))
 
       -- when block k is judged, the error of block k − w is found, or 0 if that is none of the blocks, and the mark is
       -- not doubtful
       pub stream-judged : (k x : ℕ) → c ≤ k → k < count → ((i : ℕ) → i + w ≡ k → e i ≡ x) → (k < w → x ≡ 0)
           → (errorOf (found rows (registered w rows D e s k)) ≡ x)
           × NotDoubtful (found rows (registered w rows D e s k)) (registered w rows D e s k)
-      stream-judged k x from h leaves none =
+      stream-judged k x after h leaves none =
           let at : c + (k - c) ≡ k = omega arith in
           let m = subst Mid at (mid (k - c) (omega arith)) in
           judged k x (m .j) (m .a) (m .l) h leaves none (m .whole) (m .place) (m .rest) (m .lower) (m .others)

@@ -1,5 +1,9 @@
 -- What the link needs of a code, as one record, and why a suitable table has it: the image of an error block gives back
 -- that block, and a shifted image is 0 or the image of no block. Assumes nothing.
+--
+--   Corrects                   the record
+--   image-once, shifted-none   the same of two blocks
+--   suitable-corrects          a suitable table has it
 use mathlib.Core.Path.{_≡_, refl, sym, ap, _∙_, subst}
 use mathlib.Core.Logic.{_⊎_, inl, inr}
 use mathlib.Core.List.{List}
@@ -26,6 +30,32 @@ pub record Corrects (n w : ℕ) (rows : List ℕ) : Type 0 where
       → ((shifted (suc w) l (combination rows e) ≡ 0)
       × (leastCoefficients rows (shifted (suc w) l (combination rows e)) ≡ Found 0))
       ⊎ (leastCoefficients rows (shifted (suc w) l (combination rows e)) ≡ Missing)
+
+module _ {n w : ℕ} {rows : List ℕ} (code : Corrects n w rows) where
+  -- blocks of one image are one block
+  pub image-once : (a b : ℕ) → a < 2 ^ n → b < 2 ^ n → combination rows a ≡ combination rows b → a ≡ b
+  image-once a b ha hb e =
+      let p = code .image-found a ha in
+      let q = code .image-found b hb in
+      let r : leastCoefficients rows (combination rows a) ≡ leastCoefficients rows (combination rows b) =
+      ap (leastCoefficients rows) e in
+      cc
+
+  -- a shifted image that is an image is 0
+  pub shifted-none : (l x y : ℕ) → 1 ≤ l → l ≤ w → x < 2 ^ n → y < 2 ^ n
+      → combination rows y ≡ shifted (suc w) l (combination rows x) → shifted (suc w) l (combination rows x) ≡ 0
+  shifted-none l x y from to hx hy e = go (code .shifted-found l x from to hx)
+    where
+      go : ((shifted (suc w) l (combination rows x) ≡ 0)
+          × (leastCoefficients rows (shifted (suc w) l (combination rows x)) ≡ Found 0))
+          ⊎ (leastCoefficients rows (shifted (suc w) l (combination rows x)) ≡ Missing)
+          → shifted (suc w) l (combination rows x) ≡ 0
+      go (inl z) = z .0
+      go (inr z) =
+          let p = code .image-found y hy in
+          let q : leastCoefficients rows (combination rows y) ≡ Missing = ap (leastCoefficients rows) e ∙ z in
+          let r : _≡_ {A = ℕ} 0 1 = cc in
+          absurd (omega arith)
 
 module _ (w : ℕ) (rows : List ℕ) (some : 1 ≤ w) (suits : Suitable (suc w) rows) where
   least-is : (x : ℕ) (f : Least) → leastCoefficients rows x ≡ f

@@ -21,7 +21,7 @@ use Rattle.link.specs.Decoder.{decodeMemory, delivered, delivery}
 use Rattle.link.specs.Runs.{Sent, Taken, run, sentBy, takenBy}
 use Rattle.link.specs.Recovery.{Origin, Wrong, Stretch, Chosen, Within}
 use Rattle.link.specs.Computed.{answersBy, sentBlocks, takenBlocks, differing}
-use Rattle.link.specs.Witness.{made, coderMemory, decoderMemory, coderCalls, decoderCalls, WITNESS}
+use Rattle.link.specs.Witness.{made, coderMemory, decoderMemory, coderCalls, decoderCalls, WITNESS, GUARD-END-WITNESS}
 use Rattle.link.proofs.Computed.{each-at, key, In, Places, running-by, right-by, burst-by, bursts-by}
 
 -- ---- what is computed
@@ -52,7 +52,7 @@ record Run : Type 0 where
   decoder-refused : answersBy decoderFault decodeMemory decoderMemory decoderCalls
       ≡ (13 ∷ replicate 13 0) ++ (15 ∷ 14 ∷ replicate 4 0) ++ (12 ∷ replicate 11 0)
 
-computed : Run × Tables
+computed : Run × Tables × GUARD-END-WITNESS
 unfolding allSent allTaken run answersBy differing coderFault coderJoining codedBlock coderNext codeMemory codeAnswer
     decodeAnswer answered leaves stepFault decoderFault someAbove decoderJoining decoderRegister decoderFound partNext
     decoderNext decodeMemory delivered delivery joining firstOf fit sizesFit rowsFit leastCoefficients leastFrom
@@ -60,6 +60,7 @@ unfolding allSent allTaken run answersBy differing coderFault coderJoining coded
 computed = (
   record { sent = refl; taken = refl; wrong = refl; coder-refused = refl; decoder-refused = refl },
   record { sent = refl; taken = refl },
+  (refl, refl),
 )
 
 made-origin : Origin made
@@ -139,3 +140,6 @@ witness = (
   computed .0 .coder-refused,
   computed .0 .decoder-refused,
 )
+
+pub guard-end-witness : GUARD-END-WITNESS
+guard-end-witness = computed .2

@@ -50,7 +50,7 @@ codeEntries (Coded c) = c ∷ []
 codeEntries (CodeRefused k) = []
 
 -- "Entries are 32-bit numbers. .. The decoder's entry has the information in its low 16 bits (0 for nothing yet) and
--- above them the mark: 0 nothing yet, 1 clean, 2 held, 3 corrected, 4 doubtful."
+-- above them the mark: 0 nothing yet, 1 clean, 2 held, 3 corrected, 4 doubtful." CR 4: parity "has 5".
 abbrev pub decodeEntry : ℕ → ℕ → ℕ
 decodeEntry mark info = mark * 2 ^ 16 + info
 

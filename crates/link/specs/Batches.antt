@@ -13,6 +13,7 @@
 --   coderBatch, decoderBatch   a batch of the coder and of the decoder, as handed
 --   MIXTURE               a list of batches is the run of their single calls
 --   RECOVERY-BATCHES      demand 3 of any mixture of batches and single calls
+--   GUARD-END-BATCHES     what the end of the guard tells, of the same
 use mathlib.Core.Path.{_≡_}
 use mathlib.Core.Logic.{_≢_, _↔_, _⊎_}
 use mathlib.Core.List.{List, [], _∷_, _++_, map}
@@ -133,3 +134,14 @@ RECOVERY-BATCHES =
     let e = getD (filled decoderBatch decoder gs) (p - 1) 0 in
     (mark : Mark) × (e % 2 ^ 16 ≡ sentAt (sentBy coder cs) (p - delayOf t) .info) × (e / 2 ^ 16 ≡ markNumber mark)
     × (mark ≢ Doubtful)
+
+-- `GUARD-END`, read off the entries: 1 is clean, and 5 is parity
+abbrev pub GUARD-END-BATCHES : Type 0
+GUARD-END-BATCHES =
+    (t : Table) (coder decoder : List ℕ) (hs gs : List Handed) →
+    let cs = callsOf coderBatch coder hs in
+    Fades t coder decoder cs (callsOf decoderBatch decoder gs)
+    → (p : ℕ) → 2 * delayOf t - t .depth < p → p ≤ 2 * delayOf t → p ≤ length (filled decoderBatch decoder gs)
+    →
+    let e = getD (filled decoderBatch decoder gs) (p - 1) 0 in
+    (e % 2 ^ 16 ≡ sentAt (sentBy coder cs) (p - delayOf t) .info) × ((e / 2 ^ 16 ≡ 1) ⊎ (e / 2 ^ 16 ≡ 5))

@@ -6,9 +6,10 @@
 use Rattle.link.specs.Calls.{REFUSED-CALLS, TAKEN-CALLS}
 use Rattle.link.specs.Marks.{MARKS}
 use Rattle.link.specs.Massey.{PARITY, SYNDROME-ERRORS, DELIVERY, WAITING}
-use Rattle.link.specs.Recovery.{RECOVERY}
+use Rattle.link.specs.Recovery.{RECOVERY, RECOVERY-SHORT-GUARD}
+use Rattle.link.specs.Guard.{GUARD-END}
 use Rattle.link.specs.Clean.{CLEAN, STARTED-CLEAN}
-use Rattle.link.specs.Batches.{SHORTER, BATCH-RUN, RECOVERY-BATCHES}
+use Rattle.link.specs.Batches.{SHORTER, BATCH-RUN, RECOVERY-BATCHES, GUARD-END-BATCHES}
 
 pub record Link : Type 0 where
   -- demand 1: a refused call leaves every lent word as it was, and where no reason applies a call is not refused
@@ -20,14 +21,19 @@ pub record Link : Type 0 where
   pub waiting : WAITING
   pub delivery : DELIVERY
   pub marks : MARKS
-  -- demand 3: after a fade, of any well-formed memories; and of started ones, where no guard is needed
+  -- demand 3: after a fade, of any well-formed memories; what the end of the guard tells (02, CR 4); recovery again, of
+  -- the same places, after 2 × m fewer right blocks; and of started memories, where no guard is needed
   pub recovery : RECOVERY
+  pub guard-end : GUARD-END
+  pub recovery-short-guard : RECOVERY-SHORT-GUARD
   pub clean : CLEAN
   pub started-clean : STARTED-CLEAN
-  -- blocks by the batch (02, CR 1): where a batch ends, that it is a run of single calls, and demand 3 of any mixture
+  -- blocks by the batch (02, CR 1): where a batch ends, that it is a run of single calls, and demand 3 and the end of
+  -- the guard of any mixture
   pub shorter : SHORTER
   pub batch-run : BATCH-RUN
   pub recovery-batches : RECOVERY-BATCHES
+  pub guard-end-batches : GUARD-END-BATCHES
 
 abbrev pub LINK : Type 0
 LINK = Link

@@ -1,7 +1,7 @@
 -- What a mark tells: the papers' words of the five marks, of any n, any rows and any register.
 --
 --   NoError rows x   no error block has the register x as its image
---   LeastError rows x e   e is the least that has
+--   LeastError rows x e   e is the least error block that has it
 --   MARKS            each mark is given exactly where 01 and 02 say
 use mathlib.Core.Path.{_≡_}
 use mathlib.Core.Bool.{true, false}

@@ -19,6 +19,8 @@
 --   Separated wrong long gap count   two wrong places lie in one stretch of `long`, or have the gap between them
 --   BURSTS-SEPARATED         wrong places that lie in bursts so chosen are so separated
 --   RECOVERY-ANY-MEMORY      the theorem from any memory, and without a choice of bursts
+--   shortGuard t             2 × m × (N − 2)
+--   RECOVERY-SHORT-GUARD     the same after that many right blocks
 use mathlib.Core.Path.{_≡_}
 use mathlib.Core.Logic.{_≢_, _⊎_}
 use mathlib.Core.List.{List, [], _∷_}
@@ -176,6 +178,20 @@ abbrev pub RECOVERY-ANY-MEMORY : Type 0
 RECOVERY-ANY-MEMORY =
     (t : Table) (coder decoder : List ℕ) (cs ds : List Call) → Running t coder decoder cs ds
     → RightFirst (2 * delayOf t) (sentBy coder cs) (takenBy decoder ds)
+    → Separated (Wrong (sentBy coder cs) (takenBy decoder ds)) (t .depth) (delayOf t) (length (takenBy decoder ds))
+    → (p : ℕ) → 2 * delayOf t < p → p ≤ length (takenBy decoder ds)
+    → Recovered (sentBy coder cs) (takenBy decoder ds) (delayOf t) p
+
+-- Beyond 01, and beyond Massey's "2g consecutive error-free blocks are always sufficient" (000, VI; g is m × (N − 1)):
+-- 2 × m fewer right blocks are enough for the same places, with every table. One fewer still is not enough for all
+-- tables: Z shows it (`SHORT-GUARD-SHARP`). Here too the memories are any.
+abbrev pub shortGuard : Table → ℕ
+shortGuard t = 2 * (t .depth * (t .span - 2))
+
+abbrev pub RECOVERY-SHORT-GUARD : Type 0
+RECOVERY-SHORT-GUARD =
+    (t : Table) (coder decoder : List ℕ) (cs ds : List Call) → Running t coder decoder cs ds
+    → RightFirst (shortGuard t) (sentBy coder cs) (takenBy decoder ds)
     → Separated (Wrong (sentBy coder cs) (takenBy decoder ds)) (t .depth) (delayOf t) (length (takenBy decoder ds))
     → (p : ℕ) → 2 * delayOf t < p → p ≤ length (takenBy decoder ds)
     → Recovered (sentBy coder cs) (takenBy decoder ds) (delayOf t) p

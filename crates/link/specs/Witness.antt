@@ -9,18 +9,20 @@
 --   coderMemory, decoderMemory   the memories that the run begins with
 --   coderCalls, decoderCalls     what is handed over, to steps that are refused too
 --   WITNESS                every premise of recovery holds of it, which places are wrong, and which steps are refused
+--   GUARD-END-WITNESS      what the last m calls of its guard answer
 use mathlib.Core.Path.{_≡_}
 use mathlib.Core.List.{List, [], _∷_, _++_}
 use Prim.Native.Nat.{ℕ}
 use lib.ListN.{replicate}
 use Rattle.tables.specs.declared.table.Table.{Table}
 use Rattle.tables.specs.Table.{zeroTable}
+use Rattle.link.specs.declared.decode.Mark.the-variants.{Parity}
 use Rattle.link.specs.Refusals.{coderFault, decoderFault}
 use Rattle.link.specs.Coder.{codeMemory}
 use Rattle.link.specs.Decoder.{decodeMemory}
-use Rattle.link.specs.Runs.{Call, sentBy, takenBy}
+use Rattle.link.specs.Runs.{Call, sentBy, takenBy, takenAt}
 use Rattle.link.specs.Recovery.{Fades}
-use Rattle.link.specs.Computed.{tableWith, Z, calls, answersBy, sentBlocks, takenBlocks, differing}
+use Rattle.link.specs.Computed.{tableWith, Z, calls, answersBy, sentBlocks, takenBlocks, delivers, differing}
 
 -- that it is made is the first of the premises
 abbrev pub made : Table
@@ -71,3 +73,10 @@ WITNESS =
     ≡ replicate 4 0 ++ (15 ∷ replicate 4 0) ++ (12 ∷ replicate 12 0) ++ (13 ∷ 14 ∷ replicate 10 0))
     × (answersBy decoderFault decodeMemory decoderMemory decoderCalls
     ≡ (13 ∷ replicate 13 0) ++ (15 ∷ 14 ∷ replicate 4 0) ++ (12 ∷ replicate 11 0))
+
+-- `GUARD-END` is not vacuous either: places 11 and 12 are the last m of the guard of the same run, one of each stream,
+-- and both marks are parity.
+abbrev pub GUARD-END-WITNESS : Type 0
+GUARD-END-WITNESS =
+    let taken = takenBy decoderMemory decoderCalls in
+    (takenAt taken 11 .answer ≡ delivers 0 (Parity 2)) × (takenAt taken 12 .answer ≡ delivers 0 (Parity 2))

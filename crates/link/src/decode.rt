@@ -192,32 +192,32 @@ fn least_error(rows: &[u64], n: usize, x: u64) -> Least
     Least::Missing
 }
 
-// The mark of an error block that was found; `parity` is the block that is the parity symbol alone.
-fn mark_found(e: u64, parity: u64) -> Mark
+// The mark of an error block that was found; `alone` is that of the parity symbol alone.
+fn mark_found(e: u64, alone: u64) -> Mark
     requires { ⌜ e < 2 ^ 16 ⌝ }
-    ensures { λ r. ⌜ r ≡ markFound parity e ⌝ }
+    ensures { λ r. ⌜ r ≡ markFound alone e ⌝ }
 {
     if e == 0 {
         return Mark::Clean;
     }
-    if e == parity {
+    if e == alone {
         return Mark::Parity(e as u16);
     }
     Mark::Corrected(e as u16)
 }
 
 // Line 3 and the mark, once the error is found or missing.
-pub(crate) fn judged(found: Least, x: u64, parity: u64) -> Verdict
+pub(crate) fn judged(found: Least, x: u64, alone: u64) -> Verdict
     requires { ⌜ errorOf found < 2 ^ 16 ⌝ }
     ensures error { λ r. ⌜ r .error ≡ errorOf found ⌝ }
     ensures kept { λ r. ⌜ r .kept ≡ keptOf found x ⌝ }
-    ensures mark { λ r. ⌜ r .mark ≡ markOf parity found x ⌝ }
+    ensures mark { λ r. ⌜ r .mark ≡ markOf alone found x ⌝ }
 {
     if let Least::Found(e) = found {
         return Verdict {
             error: e as u16,
             kept: 0,
-            mark: mark_found(e, parity),
+            mark: mark_found(e, alone),
         };
     }
     let kept = x >> 1;

@@ -31,11 +31,11 @@ use Rattle.link.proofs.decode_batch.fill_judged.Statement.{statement}
 use Rattle.link.proofs.decode_batch.fill_judged.Tie as tie
 
 abbrev Inv-loop : tie.InvT-loop
-Inv-loop t rows state₀ blocks out₀ tables b ones most top parity end i₀ state out i =
+Inv-loop t rows state₀ blocks out₀ tables b ones most top alone end i₀ state out i =
     Going (withRows t rows) state₀ blocks out₀ i state out
 
 abbrev μ-loop : tie.MeasureT-loop
-μ-loop t rows state₀ blocks out₀ tables b ones most top parity end i₀ state out i = end - i
+μ-loop t rows state₀ blocks out₀ tables b ones most top alone end i₀ state out i = end - i
 
 -- points that the proofs look back to: the call's entry from a turn, and what is known there
 abbrev first : tie.After-b Inv-loop μ-loop → tie.Start Inv-loop μ-loop
@@ -305,8 +305,7 @@ stepped c =
     let b = c .before .before .take-block in
     step-words (whole (entry l)) (l .loop .state) (block l) (x .terms .result .w) (width (entry l)) (joined x)
     (x .terms .result .register) (o .result) (x .terms .ensures .1) (o .ensures) (f .result)
-    (explained (c .before .before .before .before .before)) (j .result .error) (j .result .kept) (j .result .mark)
-    (
+    (explained (c .before .before .before .before .before)) (j .result .error) (j .result .kept) (j .result .mark) (
       j .ensures .0,
       (
         j .ensures .1 .0,
