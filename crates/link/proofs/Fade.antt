@@ -35,8 +35,8 @@ use Rattle.link.proofs.Suitable.{Corrects}
 use Rattle.link.proofs.Step.{both-half, both-odd, coder-info, NotDoubtful}
 use Rattle.span.proofs.Masks.{topped-lt}
 use Rattle.link.proofs.Sequence.{Stream, guard-clean, guard-register, guard-syndrome, mid-clean, stream-judged}
-use Rattle.link.proofs.ParitySymbol.{alone-none, alone-alike, alone-lt, alone-image}
-use Rattle.link.proofs.ShortGuard.{span-from, short-judged}
+use Rattle.link.proofs.ParitySymbol.{alone-none, alone-alike, alone-lt, alone-image, span-from}
+use Rattle.link.proofs.ShortGuard.{short-judged}
 use Rattle.link.proofs.Interleaving.{place-first, place-next, place-earlier}
 use Rattle.link.proofs.Decoder.{streamIn, pendingIn, syndromeIn, delayedIn, registerIn}
 use Rattle.link.proofs.Turn.{CoderRun, DecoderRun, coder-again, coder-first, pending-again, pending-first}
@@ -358,7 +358,7 @@ module _ {n N m : ℕ} {infos : List ℕ} {S M : ℕ → List ℕ} {R B C : ℕ 
         let back : i + w ≡ k = omega arith in
         let there : r + i * m ≡ q =
         omega (arith, ap (λ (x : ℕ). x * m) back, add-mul i w m, mul-comm m w) in
-        let long = span-from n w infos (l .n-from) (l .size) (l .code) (omega arith) in
+        let long = span-from n (l .n-from) infos (l .size) (l .code) (omega arith) in
         let short = 2 * (N - 2) in
         let out = short-judged n w infos (l .n-from) (l .size) (l .code) (stream r k inside) (joint-lt r k inside)
         (syndrome-lt r k inside) (stream-apart r k inside) long short (omega arith)

@@ -1,17 +1,21 @@
 -- One stream whose first 2 × (N − 2) blocks are right. No pending word differs then, and the syndrome word is below 4.
--- Within two more blocks it goes on as if it had been clean: where it was cleared too early, as with an error that
--- differs by the parity symbol, whose image is 1. The information of the two is the same. Assumes nothing.
+-- Within two more blocks it goes on as if it had been clean. Where an error block is found at one of the two, the word is
+-- cleared, and with it bit 0 of the image of that block's own error; what comes after is that of an error which differs
+-- by the parity symbol, whose image is 1, and has the same information. Where none is found the two bits of the word are
+-- dropped; were an error of the first found at the second, its image would be another's, shifted by N − 2. Assumes
+-- nothing.
 --
---   span-from        the span of a code is 3 at least
 --   Rejoined         from which block on, and with which errors
+--   rejoined-same    with the errors as they are
+--   rejoined-cleared with that of the block at which the word was cleared, its image made even
+--   after-second, after-both   the cases where nothing is found at the first
 --   short-judged     what is found from block 2 × (N − 1) on
 use mathlib.Core.Path.{_≡_, refl, sym, ap, ap₂, _∙_, subst}
-use mathlib.Core.Bool.{Bool, true, false, cond, xor}
+use mathlib.Core.Bool.{Bool, true, false, cond}
 use mathlib.Core.Logic.{_≢_, _⊎_, inl, inr}
 use mathlib.Core.List.{List, [], _∷_, _++_}
 use Prim.Native.Nat.{ℕ, suc, _+_, _-_, _*_, _/_, _%_, _^_, _≤_, _<_}
 use native.Mathlib.Nat.{eq-zero-or-pos, zero-mul}
-use native.Mathlib.Decide.{decLt}
 use native.Mathlib.Omega.{arith}
 use borrow.Author.Tests.{eq-eqb, ne-eqb}
 use lib.Bits.{shifted-half, shifted-even}
@@ -19,126 +23,26 @@ use lib.Dec.{eqb}
 use lib.ListN.{length}
 use Rattle.span.specs.declared.eliminate.Least.{Least}
 use Rattle.span.specs.declared.eliminate.Least.the-variants.{Found, Missing}
-use Rattle.span.specs.Word.{_⊕_, odd, sel, digit, shifted}
+use Rattle.span.specs.Word.{_⊕_, odd, digit, shifted}
 use Rattle.span.specs.Combination.{combination}
-use Rattle.span.proofs.Word.{xor-zero-l, xor-zero-r, xor-lt, xor-half, xor-self-bool, odd-xor, odd-digit, odd-mod}
-use Rattle.span.proofs.Word.{digit-half, sel-lt, xor-self, odd-of, shifted-mod, shifted-inside}
-use Rattle.span.proofs.Combination.{combination-zero, combination-xor}
+use Rattle.span.proofs.Word.{xor-zero-l, odd-mod, shifted-mod}
+use Rattle.span.proofs.Combination.{combination-zero}
 use Rattle.link.specs.Step.{found, errorOf, keptOf}
-use Rattle.link.proofs.Suitable.{Corrects, image-once, shifted-none}
+use Rattle.link.proofs.Suitable.{Corrects, shifted-none}
 use Rattle.link.proofs.Error.{found-lt, found-image}
 use Rattle.link.proofs.Step.{NotDoubtful, register-part}
-use Rattle.link.proofs.ParitySymbol.{alone-lt, alone-other, alone-image, code-size}
+use Rattle.link.proofs.ParitySymbol.{code-size, evened, evened-lt, evened-image, evened-zero, evened-alike}
 use Rattle.link.proofs.Sequence.{Stream, joint, registered, joint-right, guard-clean, guard-syndrome, Mid}
 use Rattle.link.proofs.Sequence.{mid-stayed, stream-judged}
 
--- ---- the parity symbol
-
--- an even number is its half twice
-even-half : (y : ℕ) → odd y ≡ false → y ≡ y / 2 * 2
-even-half y h = let z = odd-mod y in let d : digit (odd y) ≡ 0 = ap digit h in omega arith
-
--- a word without its bit 0
-module _ (y : ℕ) where
-  abbrev cut : ℕ
-  cut = y ⊕ digit (odd y)
-
-  cut-half : cut / 2 ≡ y / 2
-  cut-half =
-      xor-half y (digit (odd y)) ∙ ap (λ (x : ℕ). y / 2 ⊕ x) (digit-half (odd y)) ∙ xor-zero-r (y / 2)
-
-  cut-even : odd cut ≡ false
-  cut-even =
-      odd-xor y (digit (odd y)) ∙ ap (xor (odd y)) (odd-digit (odd y)) ∙ xor-self-bool (odd y)
-
-  cut-is : cut ≡ y / 2 * 2
-  cut-is = even-half cut cut-even ∙ ap (λ (x : ℕ). x * 2) cut-half
-
-module _ (n w : ℕ) (infos : List ℕ) (some-infos : 2 ≤ n) (size : length infos ≡ n - 1)
+module _ (n w : ℕ) (infos : List ℕ) (from : 2 ≤ n) (size : length infos ≡ n - 1)
     (code : Corrects n w (infos ++ (1 ∷ []))) where
   abbrev rows : List ℕ
   rows = infos ++ (1 ∷ [])
 
+  -- the parity symbol alone
   abbrev u : ℕ
   u = 2 ^ (n - 1)
-
-  unit-image : combination rows u ≡ 1
-  unit-image = alone-image n some-infos infos size
-
-  unit-lt : u < 2 ^ n
-  unit-lt = alone-lt n some-infos
-
-  sel-image : (b : Bool) → combination rows (sel b u) ≡ digit b
-  sel-image true = unit-image
-  sel-image false = combination-zero rows
-
-  -- an error, and the parity symbol if its image is odd
-  abbrev evened : ℕ → ℕ
-  evened x = x ⊕ sel (odd (combination rows x)) u
-
-  evened-lt : (x : ℕ) → x < 2 ^ n → evened x < 2 ^ n
-  evened-lt x h = xor-lt n x (sel (odd (combination rows x)) u) h (sel-lt n (odd (combination rows x)) u unit-lt)
-
-  evened-image : (x : ℕ) → combination rows (evened x) ≡ combination rows x / 2 * 2
-  evened-image x =
-      let y = combination rows x in
-      combination-xor rows x (sel (odd y) u) ∙ ap (λ (z : ℕ). y ⊕ z) (sel-image (odd y)) ∙ cut-is y
-
-  evened-zero : (x : ℕ) → x ≡ 0 → evened x ≡ 0
-  evened-zero x h =
-      let none : odd (combination rows x) ≡ false =
-      odd-of false (combination rows x) (ap (λ (y : ℕ). y % 2) (ap (combination rows) h ∙ combination-zero rows)) in
-      ap₂ (λ (a : ℕ) (b : Bool). a ⊕ sel b u) h none ∙ xor-self 0
-
-  evened-alike : (x : ℕ) → (evened x ≡ x) ⊎ (evened x ≡ x ⊕ u)
-  evened-alike x = go (odd (combination rows x))
-    where
-      go : (b : Bool) → (x ⊕ sel b u ≡ x) ⊎ (x ⊕ sel b u ≡ x ⊕ u)
-      go true = inr refl
-      go false = inl (xor-zero-r x)
-
-  -- With a span of 2 the image of the parity symbol, shifted, is 2, so that no image is 2 or 3; but symbol 1 alone has an
-  -- image of its own.
-  module _ (one : w ≡ 1) where
-    up : shifted (suc w) 1 (combination rows u) ≡ 2
-    up =
-        ap₂ (λ (k y : ℕ). shifted (suc k) 1 y) one unit-image
-        ∙ shifted-inside 2 1 1 1 (omega arith) (omega arith)
-
-    small : combination rows 1 < 4
-    small = subst (λ (k : ℕ). combination rows 1 < 2 ^ suc k) one (code .image-lt 1)
-
-    two : 1 < 2 ^ n
-    two = alone-other n some-infos .0
-
-    not-low : ((combination rows 1 ≡ 0) ⊎ (0 < combination rows 1)) → combination rows 1 / 2 ≡ 0 → ⊥
-    not-low (inl y) z =
-        let same = image-once code 1 0 two (omega (arith, two)) (y ∙ sym (combination-zero rows)) in
-        omega arith
-    not-low (inr y) z =
-        let is : combination rows 1 ≡ 1 = omega arith in
-        alone-other n some-infos .1 (sym (image-once code 1 u two unit-lt (is ∙ sym unit-image)))
-
-    never : ((combination rows 1 / 2 ≡ 0) ⊎ (0 < combination rows 1 / 2)) → ⊥
-    never (inl z) = not-low (eq-zero-or-pos (combination rows 1)) z
-    never (inr z) =
-        let high = small in
-        let is : combination rows 1 / 2 * 2 ≡ 2 = omega arith in
-        let none = shifted-none code 1 u (evened 1) (omega arith) (omega arith) unit-lt (evened-lt 1 two)
-        (evened-image 1 ∙ is ∙ sym up) in
-        let same = up in
-        omega arith
-
-  pub span-from : 1 ≤ w → 2 ≤ w
-  span-from some = go (decLt 1 w)
-    where
-      go : Dec (1 < w) → 2 ≤ w
-      go (yes h) = h
-      go (no h) =
-          let one : w ≡ 1 = omega arith in
-          absurd (never one (eq-zero-or-pos (combination rows 1 / 2)))
-
-  -- ---- one stream
 
   -- its blocks before q are right, q is 2 × (N − 2)
   module _ {D s e : ℕ → ℕ} {count : ℕ} (S : Stream n w rows D s e 0 count) (joint-lt : D 0 < 2 ^ w)
@@ -207,28 +111,28 @@ module _ (n w : ℕ) (infos : List ℕ) (some-infos : 2 ≤ n) (size : length in
     module _ (j : ℕ) (early : j ≤ suc q) (none : D j ≡ 0) (quiet : (i : ℕ) → i < j → e i ≡ 0)
         (cleared : s (suc j) ≡ 0) where
       abbrev pick : Bool → ℕ → ℕ
-      pick b x = cond b (evened x) x
+      pick b x = cond b (evened n rows x) x
 
       abbrev evenedAt : ℕ → ℕ
       evenedAt k = pick (eqb k j) (e k)
 
       pick-zero : (b : Bool) (x : ℕ) → x ≡ 0 → pick b x ≡ 0
-      pick-zero true x h = evened-zero x h
+      pick-zero true x h = evened-zero n rows x h
       pick-zero false x h = h
 
       pick-lt : (b : Bool) (x : ℕ) → x < 2 ^ n → pick b x < 2 ^ n
-      pick-lt true x h = evened-lt x h
+      pick-lt true x h = evened-lt n from rows x h
       pick-lt false x h = h
 
       pick-alike : (b : Bool) (x : ℕ) → (pick b x ≡ x) ⊎ (pick b x ≡ x ⊕ u)
-      pick-alike true x = evened-alike x
+      pick-alike true x = evened-alike n rows x
       pick-alike false x = inl refl
 
       other : (k : ℕ) → suc j ≤ k → evenedAt k ≡ e k
       other k late = ap (λ (b : Bool). pick b (e k)) (ne-eqb k j (λ (z : k ≡ j). omega arith))
 
       here : combination rows (evenedAt j) ≡ image j / 2 * 2
-      here = ap (λ (b : Bool). combination rows (pick b (e j))) (eq-eqb j j refl) ∙ evened-image (e j)
+      here = ap (λ (b : Bool). combination rows (pick b (e j))) (eq-eqb j j refl) ∙ evened-image n from infos size (e j)
 
       rejoined-cleared : Rejoined
       rejoined-cleared =
@@ -363,12 +267,13 @@ module _ (n w : ℕ) (infos : List ℕ) (some-infos : 2 ≤ n) (size : length in
       raw-found x h =
           let low = low-first in
           let even = raw-half .0 in
-          let small : x < 2 ^ n = subst (λ (k : ℕ). x < 2 ^ k) (code-size n some-infos infos size) (found-lt rows (reg (suc q)) x h) in
+          let small : x < 2 ^ n =
+          subst (λ (k : ℕ). x < 2 ^ k) (code-size n from infos size) (found-lt rows (reg (suc q)) x h) in
           let is : combination rows x ≡ s q / 2 + raw = found-image rows (reg (suc q)) x h ∙ register-second in
           let cut : combination rows x / 2 * 2 ≡ raw = omega arith in
           raw-shifted
-          ∙ shifted-none code (w - 1) (e q) (evened x) (omega arith) (omega arith) (S .error-lt q (omega arith))
-          (evened-lt x small) (evened-image x ∙ cut ∙ raw-shifted)
+          ∙ shifted-none code (w - 1) (e q) (evened n rows x) (omega arith) (omega arith) (S .error-lt q (omega arith))
+          (evened-lt n from rows x small) (evened-image n from infos size x ∙ cut ∙ raw-shifted)
 
       next-raw : (f : Least) → found rows (reg (suc q)) ≡ f → s (suc (suc q)) ≡ raw / 2
       next-raw (Found x) h = found-next (suc q) x (omega arith) h ∙ sym (ap (λ (y : ℕ). y / 2) (raw-found x h))
