@@ -1,7 +1,15 @@
 -- One stream as sequences, its blocks counted from 0, from any block of the stream on: D is the exclusive or of both
 -- pending words, s the syndrome word, e the error. Right blocks make both words 0: that is the guard. From a block at
 -- which they are 0 on, each error is alone among the blocks of the stream that are still delayed, is found as it
--- leaves, and nothing is found before. Assumes nothing.
+-- leaves, and nothing is found before; so it is from a block on at which they are those of one such error. Assumes
+-- nothing.
+--
+--   Stream               the words of a stream, and from which block on they are those of its steps
+--   guard-clean, guard-register, guard-syndrome   right blocks: no pending word differs, no raw term is 1, and the
+--                        syndrome word is short
+--   Mid                  the words are those of one error that is still delayed
+--   mid-clean, mid-stayed   where they are 0, and after a block at which they are so
+--   stream-judged        what is found from such a block on
 use mathlib.Core.Path.{_≡_, sym, ap, _∙_, subst}
 use mathlib.Core.Bool.{Bool, false}
 use mathlib.Core.Logic.{_≢_, _⊎_, inl, inr}

@@ -1,8 +1,8 @@
 -- What a mark tells: the papers' words of the five marks, of any n, any rows and any register.
 --
---   NoError rows x   no error block has the register x as its image
---   LeastError rows x e   e is the least error block that has it
---   MARKS            each mark is given exactly where 01 and 02 say
+--   NoError rows x        no error block has the register x as its image
+--   LeastError rows x e   e is the least error block that has
+--   MARKS                 each mark is given exactly where 01 and 02 say
 use mathlib.Core.Path.{_≡_}
 use mathlib.Core.Bool.{true, false}
 use mathlib.Core.Logic.{_≢_, _↔_}
