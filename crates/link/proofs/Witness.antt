@@ -21,19 +21,20 @@ use Rattle.link.specs.Decoder.{decodeMemory, delivered, delivery}
 use Rattle.link.specs.Runs.{Sent, Taken, run, sentBy, takenBy}
 use Rattle.link.specs.Recovery.{Origin, Wrong, Stretch, Chosen, Within}
 use Rattle.link.specs.Computed.{answersBy, sentBlocks, takenBlocks, differing}
-use Rattle.link.specs.Witness.{made, coderMemory, decoderMemory, coderCalls, decoderCalls, WITNESS, GUARD-END-WITNESS}
+use Rattle.link.specs.Witness.{made, coderMemory, decoderMemory, coderCalls, decoderCalls, WITNESS}
+use Rattle.link.specs.Witness.{GUARD-END-WITNESS}
 use Rattle.link.proofs.Computed.{each-at, key, In, Places, running-by, right-by, burst-by, bursts-by}
 
 -- ---- what is computed
 
 allSent : List ℕ
 allSent =
-    3 ∷ 2 ∷ 1 ∷ 1 ∷ 2 ∷ 0 ∷ 3 ∷ 0 ∷ 1 ∷ 3 ∷ 3 ∷ 2 ∷ 0 ∷ 1 ∷ 2 ∷ 1 ∷ 3 ∷ 2 ∷ 2 ∷ 3
+    3 ∷ 2 ∷ 1 ∷ 1 ∷ 3 ∷ 1 ∷ 1 ∷ 2 ∷ 1 ∷ 3 ∷ 1 ∷ 0 ∷ 0 ∷ 1 ∷ 2 ∷ 1 ∷ 3 ∷ 2 ∷ 2 ∷ 3
     ∷ 1 ∷ 0 ∷ 1 ∷ 0 ∷ 2 ∷ 3 ∷ 3 ∷ 3 ∷ 0 ∷ 3 ∷ []
 
 allTaken : List ℕ
 allTaken =
-    3 ∷ 2 ∷ 1 ∷ 1 ∷ 2 ∷ 0 ∷ 3 ∷ 0 ∷ 1 ∷ 3 ∷ 3 ∷ 2 ∷ 3 ∷ 0 ∷ 2 ∷ 1 ∷ 3 ∷ 2 ∷ 2 ∷ 3
+    3 ∷ 2 ∷ 1 ∷ 1 ∷ 3 ∷ 1 ∷ 1 ∷ 2 ∷ 1 ∷ 3 ∷ 1 ∷ 0 ∷ 3 ∷ 0 ∷ 2 ∷ 1 ∷ 3 ∷ 2 ∷ 2 ∷ 3
     ∷ 3 ∷ 3 ∷ 1 ∷ 0 ∷ 2 ∷ 3 ∷ 3 ∷ 3 ∷ []
 
 -- each step that is not refused uses the same table

@@ -49,7 +49,7 @@ decoderMemory = 0 ∷ 4 ∷ 6 ∷ 3 ∷ 1 ∷ 0 ∷ 1 ∷ 2 ∷ 7 ∷ 0 ∷ 1 �
 -- 30 blocks are sent
 abbrev pub coderCalls : List Call
 coderCalls =
-    calls made (1 ∷ 0 ∷ 1 ∷ 1 ∷ []) ++ calls made (2 ∷ []) ++ calls alike (0 ∷ 0 ∷ 1 ∷ 0 ∷ [])
+    calls made (1 ∷ 0 ∷ 1 ∷ 1 ∷ []) ++ calls made (2 ∷ []) ++ calls alike (1 ∷ 1 ∷ 1 ∷ 0 ∷ [])
     ++ calls zeroTable (0 ∷ [])
     ++ calls made (1 ∷ 1 ∷ 1 ∷ 0 ∷ 0 ∷ 1 ∷ 0 ∷ 1 ∷ 1 ∷ 0 ∷ 0 ∷ 1 ∷ []) ++ calls (Z 1) (1 ∷ []) ++ calls shorter (1 ∷ [])
     ++ calls made (1 ∷ 0 ∷ 1 ∷ 0 ∷ 0 ∷ 1 ∷ 1 ∷ 1 ∷ 0 ∷ 1 ∷ [])
@@ -57,7 +57,7 @@ coderCalls =
 -- 28 blocks are taken
 abbrev pub decoderCalls : List Call
 decoderCalls =
-    calls (Z 1) (0 ∷ []) ++ calls made (3 ∷ 2 ∷ 1 ∷ 1 ∷ 2 ∷ 0 ∷ 3 ∷ 0 ∷ 1 ∷ 3 ∷ 3 ∷ 2 ∷ 3 ∷ []) ++ calls made (4 ∷ [])
+    calls (Z 1) (0 ∷ []) ++ calls made (3 ∷ 2 ∷ 1 ∷ 1 ∷ 3 ∷ 1 ∷ 1 ∷ 2 ∷ 1 ∷ 3 ∷ 1 ∷ 0 ∷ 3 ∷ []) ++ calls made (4 ∷ [])
     ++ calls longer (0 ∷ [])
     ++ calls alike (0 ∷ 2 ∷ 1 ∷ 3 ∷ []) ++ calls zeroTable (1 ∷ [])
     ++ calls made (2 ∷ 2 ∷ 3 ∷ 3 ∷ 3 ∷ 1 ∷ 0 ∷ 2 ∷ 3 ∷ 3 ∷ 3 ∷ [])
@@ -75,8 +75,8 @@ WITNESS =
     ≡ (13 ∷ replicate 13 0) ++ (15 ∷ 14 ∷ replicate 4 0) ++ (12 ∷ replicate 11 0))
 
 -- `GUARD-END` is not vacuous either: places 11 and 12 are the last m of the guard of the same run, one of each stream,
--- and both marks are parity.
+-- and answer the information of blocks 5 and 6, marked parity.
 abbrev pub GUARD-END-WITNESS : Type 0
 GUARD-END-WITNESS =
     let taken = takenBy decoderMemory decoderCalls in
-    (takenAt taken 11 .answer ≡ delivers 0 (Parity 2)) × (takenAt taken 12 .answer ≡ delivers 0 (Parity 2))
+    (takenAt taken 11 .answer ≡ delivers 1 (Parity 2)) × (takenAt taken 12 .answer ≡ delivers 1 (Parity 2))
