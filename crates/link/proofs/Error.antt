@@ -88,41 +88,41 @@ error-lt rows x h = go (leastCoefficients rows x) refl
 
 -- ---- the mark of an error block that was found
 
-module _ (alone e : ℕ) where
-  pub mark-clean : e ≡ 0 → Clean ≡ markFound alone e
-  mark-clean none = picked (eqb e 0) Clean (cond (eqb e alone) (Parity e) (Corrected e)) (eq-eqb e 0 none)
+module _ (weight e : ℕ) where
+  pub mark-clean : e ≡ 0 → Clean ≡ markFound weight e
+  mark-clean none = picked (eqb e 0) Clean (cond (eqb e weight) (Parity e) (Corrected e)) (eq-eqb e 0 none)
 
-  pub mark-parity : e ≢ 0 → e ≡ alone → Parity e ≡ markFound alone e
+  pub mark-parity : e ≢ 0 → e ≡ weight → Parity e ≡ markFound weight e
   mark-parity some same =
-      picked (eqb e alone) (Parity e) (Corrected e) (eq-eqb e alone same)
-      ∙ passed (eqb e 0) Clean (cond (eqb e alone) (Parity e) (Corrected e)) (ne-eqb e 0 some)
+      picked (eqb e weight) (Parity e) (Corrected e) (eq-eqb e weight same)
+      ∙ passed (eqb e 0) Clean (cond (eqb e weight) (Parity e) (Corrected e)) (ne-eqb e 0 some)
 
-  pub mark-corrected : e ≢ 0 → e ≢ alone → Corrected e ≡ markFound alone e
+  pub mark-corrected : e ≢ 0 → e ≢ weight → Corrected e ≡ markFound weight e
   mark-corrected some other =
-      passed (eqb e alone) (Parity e) (Corrected e) (ne-eqb e alone other)
-      ∙ passed (eqb e 0) Clean (cond (eqb e alone) (Parity e) (Corrected e)) (ne-eqb e 0 some)
+      passed (eqb e weight) (Parity e) (Corrected e) (ne-eqb e weight other)
+      ∙ passed (eqb e 0) Clean (cond (eqb e weight) (Parity e) (Corrected e)) (ne-eqb e 0 some)
 
 -- ---- error, word that stays, and mark
 
 abbrev VerdictOf : ℕ → Least → ℕ → ℕ → ℕ → Mark → Type 0
-VerdictOf alone f x error kept mark = (error ≡ errorOf f) × ((kept ≡ keptOf f x) × (mark ≡ markOf alone f x))
+VerdictOf weight f x error kept mark = (error ≡ errorOf f) × ((kept ≡ keptOf f x) × (mark ≡ markOf weight f x))
 
-pub verdict-found : (alone : ℕ) (f : Least) (x e : ℕ) (mark : Mark) → f ≡ Found e → mark ≡ markFound alone e
-    → VerdictOf alone f x e 0 mark
-verdict-found alone f x e mark h is =
-    subst (λ (g : Least). VerdictOf alone g x e 0 mark) (sym h) (refl, (refl, is))
+pub verdict-found : (weight : ℕ) (f : Least) (x e : ℕ) (mark : Mark) → f ≡ Found e → mark ≡ markFound weight e
+    → VerdictOf weight f x e 0 mark
+verdict-found weight f x e mark h is =
+    subst (λ (g : Least). VerdictOf weight g x e 0 mark) (sym h) (refl, (refl, is))
 
 missing-mark : Bool → Mark
 missing-mark b = cond b Doubtful Held
 
-pub verdict-doubtful : (alone : ℕ) (f : Least) (x : ℕ) → f ≡ Missing → odd x ≡ true
-    → VerdictOf alone f x 0 (x / 2) Doubtful
+pub verdict-doubtful : (weight : ℕ) (f : Least) (x : ℕ) → f ≡ Missing → odd x ≡ true
+    → VerdictOf weight f x 0 (x / 2) Doubtful
 unfolding missing-mark
-verdict-doubtful alone f x e o =
-    subst (λ (g : Least). VerdictOf alone g x 0 (x / 2) Doubtful) (sym e) (refl, (refl, ap missing-mark (sym o)))
+verdict-doubtful weight f x e o =
+    subst (λ (g : Least). VerdictOf weight g x 0 (x / 2) Doubtful) (sym e) (refl, (refl, ap missing-mark (sym o)))
 
-pub verdict-held : (alone : ℕ) (f : Least) (x : ℕ) → f ≡ Missing → odd x ≡ false
-    → VerdictOf alone f x 0 (x / 2) Held
+pub verdict-held : (weight : ℕ) (f : Least) (x : ℕ) → f ≡ Missing → odd x ≡ false
+    → VerdictOf weight f x 0 (x / 2) Held
 unfolding missing-mark
-verdict-held alone f x e o =
-    subst (λ (g : Least). VerdictOf alone g x 0 (x / 2) Held) (sym e) (refl, (refl, ap missing-mark (sym o)))
+verdict-held weight f x e o =
+    subst (λ (g : Least). VerdictOf weight g x 0 (x / 2) Held) (sym e) (refl, (refl, ap missing-mark (sym o)))

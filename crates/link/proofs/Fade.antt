@@ -3,7 +3,7 @@
 -- memories: a step that is taken has passed the tests of its own stream. Assumes nothing.
 --
 --   Linked, WrongApart     coder and decoder in step, and how wrong places lie
---   Ends, Sure             what is claimed of an answer: at the end of the guard, and past it
+--   Settles, Sure             what is claimed of an answer: at the end of the guard, and past it
 --   guarded                the words of a stream after right blocks
 --   settles                the claim at the end of the guard
 --   delivers, delivers-first   the claim where streams are clean: of a block taken, and of one of the first memory
@@ -35,7 +35,7 @@ use Rattle.link.proofs.Suitable.{Corrects}
 use Rattle.link.proofs.Step.{both-half, both-odd, coder-info, NotDoubtful}
 use Rattle.span.proofs.Masks.{topped-lt}
 use Rattle.link.proofs.Sequence.{Stream, guard-clean, guard-register, guard-syndrome, mid-clean, stream-judged}
-use Rattle.link.proofs.ParitySymbol.{alone-none, alone-alike, alone-lt, alone-image, span-from}
+use Rattle.link.proofs.ParitySymbol.{parity-none, parity-alike, parity-lt, parity-image, span-from}
 use Rattle.link.proofs.ShortGuard.{short-judged}
 use Rattle.link.proofs.Interleaving.{place-first, place-next, place-earlier}
 use Rattle.link.proofs.Decoder.{streamIn, pendingIn, syndromeIn, delayedIn, registerIn}
@@ -58,8 +58,8 @@ abbrev pub WrongApart : (ℕ → ℕ) → (ℕ → ℕ) → ℕ → ℕ → ℕ 
 WrongApart R C long gap count = (p q : ℕ) → p < q → q < count → R p ≢ C p → R q ≢ C q → (q < p + long) ⊎ (p + gap < q)
 
 -- that information is delivered, with a mark that is clean or parity
-abbrev pub Ends : ℕ → DecodeAnswer → ℕ → Type 0
-Ends n answer info =
+abbrev pub Settles : ℕ → DecodeAnswer → ℕ → Type 0
+Settles n answer info =
     (mark : Mark) × (answer ≡ Delivery (record { info = info; mark = mark }))
     × ((mark ≡ Clean) ⊎ (mark ≡ Parity (2 ^ (n - 1))))
 
@@ -170,12 +170,17 @@ module _ {n N m : ℕ} {infos : List ℕ} {S M : ℕ → List ℕ} {R B C : ℕ 
   abbrev reg : ℕ → ℕ
   reg p = registerIn n N infos (S p) (R p)
 
-  -- the parity symbol alone
-  abbrev alone : ℕ
-  alone = 2 ^ (n - 1)
+  -- that of the parity
+  abbrev weight : ℕ
+  weight = 2 ^ (n - 1)
 
   abbrev mark : ℕ → Mark
-  mark p = markOf alone (found rows (reg p)) (reg p)
+  mark p = markOf weight (found rows (reg p)) (reg p)
+
+  -- the register at a place, in the words of its stream
+  register-at : (r k p : ℕ) → r + k * m < count → r + k * m ≡ p
+      → sy (r + k * m) + digit (odd (jt (r + k * m) ⊕ combination rows (er (r + k * m)))) * 2 ^ (N - 1) ≡ reg p
+  register-at r k p h at = sym (register-is (r + k * m) h) ∙ ap reg at
 
   -- the information of the error that is found at place p is that of x
   abbrev Finds : ℕ → ℕ → Type 0
@@ -217,30 +222,29 @@ module _ {n N m : ℕ} {infos : List ℕ} {S M : ℕ → List ℕ} {R B C : ℕ 
         (omega arith) (omega arith) in
         let low = guard-syndrome (stream r last h) (joint-lt r last h) (syndrome-lt r last h) (suc last) quiet (N - 2) 1
         (omega arith) (omega arith) (omega arith) in
-        subst (λ (k : ℕ). reg k < 2) at
-        (subst (λ (x : ℕ). x < 2) (sym (register-is (r + last * m) h ∙ is)) low)
+        subst (λ (x : ℕ). x < 2) (sym is ∙ register-at r last p h at) low
 
     -- the register is 0, or the image of the parity symbol
     ends : ((reg p ≡ 0) ⊎ (0 < reg p))
-        → (errorOf (found rows (reg p)) % 2 ^ (n - 1) ≡ 0) × ((mark p ≡ Clean) ⊎ (mark p ≡ Parity alone))
+        → (errorOf (found rows (reg p)) % 2 ^ (n - 1) ≡ 0) × ((mark p ≡ Clean) ⊎ (mark p ≡ Parity weight))
     ends (inl z) =
         let f : found rows (reg p) ≡ Found 0 = ap (found rows) z ∙ zero-found rows in (
           ap (λ (g : Least). errorOf g % 2 ^ (n - 1)) f ∙ zero-mod (2 ^ (n - 1)),
-          inl (ap (λ (g : Least). markOf alone g (reg p)) f),
+          inl (ap (λ (g : Least). markOf weight g (reg p)) f),
         )
     ends (inr z) =
         let low = register-low in
         let one : reg p ≡ 1 = omega arith in
-        let f : found rows (reg p) ≡ Found alone =
-        ap (found rows) (one ∙ sym (alone-image n (l .n-from) infos (l .size)))
-        ∙ l .code .image-found alone (alone-lt n (l .n-from)) in (
-          ap (λ (g : Least). errorOf g % 2 ^ (n - 1)) f ∙ alone-none n,
-          inr (ap (λ (g : Least). markOf alone g (reg p)) f
-              ∙ sym (mark-parity alone alone (λ (e : alone ≡ 0). omega (arith, pow-pos (n - 1))) refl)),
+        let f : found rows (reg p) ≡ Found weight =
+        ap (found rows) (one ∙ sym (parity-image n (l .n-from) infos (l .size)))
+        ∙ l .code .image-found weight (parity-lt n (l .n-from)) in (
+          ap (λ (g : Least). errorOf g % 2 ^ (n - 1)) f ∙ parity-none n,
+          inr (ap (λ (g : Least). markOf weight g (reg p)) f
+              ∙ sym (mark-parity weight weight (λ (e : weight ≡ 0). omega (arith, pow-pos (n - 1))) refl)),
         )
 
     -- the block m × (N − 1) places before is right
-    pub settles : (q : ℕ) → q + m * (N - 1) ≡ p → Ends n (A p) (B q)
+    pub settles : (q : ℕ) → q + m * (N - 1) ≡ p → Settles n (A p) (B q)
     settles q e =
         let from = l .N-from in
         let f = ends (eq-zero-or-pos (reg p)) in
@@ -314,9 +318,7 @@ module _ {n N m : ℕ} {infos : List ℕ} {S M : ℕ → List ℕ} {R B C : ℕ 
           k x from (omega arith)
           (λ i e. leaves (r + i * m) (omega (arith, ap (λ (y : ℕ). y * m) e, add-mul i w m, mul-comm m w)))
           (λ few. none (omega (arith, mul-le-mul-right m few, suc-mul k m, mul-comm m w))) in
-          let same : sy (r + k * m) + digit (odd (jt (r + k * m) ⊕ combination rows (er (r + k * m)))) * 2 ^ w
-          ≡ reg p =
-          sym (register-is (r + k * m) inside) ∙ ap reg here in (
+          let same = register-at r k p inside here in (
             ap (λ (y : ℕ). errorOf (found rows y)) (sym same) ∙ out .0,
             subst (λ (y : ℕ). NotDoubtful (found rows y) y) same (out .1),
           )
@@ -325,7 +327,7 @@ module _ {n N m : ℕ} {infos : List ℕ} {S M : ℕ → List ℕ} {R B C : ℕ 
       delivers p q h late e =
           let f = found-at p (er q) h late (λ i d. ap er (let same : i ≡ q = omega arith in same))
           (λ few. absurd (omega arith)) in
-          (mark p, answers-taken p q h e (ap (λ (x : ℕ). x % 2 ^ (n - 1)) (f .0)), f .1 alone)
+          (mark p, answers-taken p q h e (ap (λ (x : ℕ). x % 2 ^ (n - 1)) (f .0)), f .1 weight)
 
       -- a block of the first memory leaves as it is
       pub delivers-first : (p : ℕ) → p < count → start * m ≤ p → p < m * (N - 1) → m * (N - 1) ≤ fillOf (S p)
@@ -337,7 +339,7 @@ module _ {n N m : ℕ} {infos : List ℕ} {S M : ℕ → List ℕ} {R B C : ℕ 
                 (ap (λ (x : ℕ). x % 2 ^ (n - 1)) (f .0))
                 (ap (λ (y : ℕ). dl 0 p ⊕ y) (zero-mod (2 ^ (n - 1))) ∙ xor-zero-r (dl 0 p)
                 ∙ oldest-first (l .decoding) p h early),
-            f .1 alone,
+            f .1 weight,
           )
 
     -- the first 2 × (N − 2) blocks of each stream are right
@@ -368,9 +370,8 @@ module _ {n N m : ℕ} {infos : List ℕ} {S M : ℕ → List ℕ} {R B C : ℕ 
         omega (arith, mul-le-mul-right m next, suc-mul b m, mul-assoc 2 (N - 2) m, mul-comm m (N - 2)) in
         er-right (r + b * m) (right (r + b * m) early (place-earlier m r k b count inside (omega arith))))
         (omega arith) k i (omega arith) (omega arith) back in
-        let same : sy (r + k * m) + digit (odd (jt (r + k * m) ⊕ combination rows (er (r + k * m)))) * 2 ^ w ≡ reg p =
-        sym (register-is (r + k * m) inside) ∙ ap reg here in (
-          ap (λ (x : ℕ). errorOf (found rows x) % 2 ^ (n - 1)) (sym same) ∙ alone-alike n _ _ (out .0)
+        let same = register-at r k p inside here in (
+          ap (λ (x : ℕ). errorOf (found rows x) % 2 ^ (n - 1)) (sym same) ∙ parity-alike n _ _ (out .0)
               ∙ ap (λ (x : ℕ). er x % 2 ^ (n - 1)) there,
           subst (λ (x : ℕ). NotDoubtful (found rows x) x) same (out .1),
         )
@@ -379,7 +380,7 @@ module _ {n N m : ℕ} {infos : List ℕ} {S M : ℕ → List ℕ} {R B C : ℕ 
         → 2 * (m * (N - 1)) ≤ p → q + m * (N - 1) ≡ p → Sure (A p) (B q)
     recovers right p q h late e =
         let f = found-short right p q h late e in
-        (mark p, answers-taken p q h e (f .0), f .1 alone)
+        (mark p, answers-taken p q h e (f .0), f .1 weight)
 
   -- streams that are clean in the first memory are so at their first turn
   pub clean-first : ((k : ℕ) → k < m → getD (S 0) (streamIn N k + 1) 0 ≡ 0)

@@ -13,7 +13,7 @@ use Rattle.link.specs.Recovery.{Right}
 use Rattle.link.specs.Guard.{syndromeEntry, syndromesBy, syndromeAt, GUARD, GUARD-END, GUARD-END-STREAM}
 use Rattle.link.proofs.Runs.{decoderBefore, taken-place, decoder-placed}
 use Rattle.link.proofs.OneTable.{from-one, taken-table}
-use Rattle.link.proofs.Fade.{Ends, guarded, settles}
+use Rattle.link.proofs.Fade.{Settles, guarded, settles}
 use Rattle.link.proofs.Recovery.{answer, linked}
 
 -- the syndrome word that the list of them has at a place
@@ -62,7 +62,7 @@ guard-end-stream t coder decoder cs ds f (suc p) from to right =
     let here : r + last * m ≡ p = omega (arith, ap (λ (x : ℕ). x * m) count) in
     let long : (N - 1) * m ≤ last * m = mul-le-mul-right m (omega arith) in
     let late : delayOf t ≤ p = omega (arith, mul-comm m (N - 1)) in
-    subst (λ (x : ℕ). Ends (t .symbols) (answer f p) (sentAt (sentBy coder cs) x .info))
+    subst (λ (x : ℕ). Settles (t .symbols) (answer f p) (sentAt (sentBy coder cs) x .info))
     (let e : suc (p - delayOf t) ≡ suc p - delayOf t = omega arith in e)
     (settles (linked f) r p here (omega arith)
     (λ k b.

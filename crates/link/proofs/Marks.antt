@@ -29,7 +29,8 @@ module _ (rows : List ℕ) (x : ℕ) where
 
   found-least : (f : Least) → IsLeast (λ (c : ℕ). combination rows c ≡ x) 0 (2 ^ length rows) f → found rows x ≡ f
   found-least f l =
-      least-unique (λ (c : ℕ). combination rows c ≡ x) 0 (2 ^ length rows) (found rows x) f (least-coefficients rows x) l
+      least-unique (λ (c : ℕ). combination rows c ≡ x) 0 (2 ^ length rows) (found rows x) f
+      (least-coefficients rows x) l
 
   found-none : NoError rows x → found rows x ≡ Missing
   found-none n = found-least Missing (λ d from to p. n d to p)
@@ -37,22 +38,22 @@ module _ (rows : List ℕ) (x : ℕ) where
   none-found : found rows x ≡ Missing → NoError rows x
   none-found e c below p = least Missing e c zero-le below p
 
-  module _ (alone : ℕ) (some : 0 < alone) where
+  module _ (weight : ℕ) (some : 0 < weight) where
     abbrev Meaning : Mark → Type 0
     Meaning Clean = x ≡ 0
-    Meaning (Corrected e) = (e ≢ 0) × (e ≢ alone) × LeastError rows x e
-    Meaning (Parity e) = (e ≡ alone) × LeastError rows x e
+    Meaning (Corrected e) = (e ≢ 0) × (e ≢ weight) × LeastError rows x e
+    Meaning (Parity e) = (e ≡ weight) × LeastError rows x e
     Meaning Doubtful = NoError rows x × (odd x ≡ true)
     Meaning Held = NoError rows x × (odd x ≡ false)
 
-    meant : (f : Least) → found rows x ≡ f → Meaning (markOf alone f x)
-    meant (Found e) h = go (eqb e 0) refl (eqb e alone) refl
+    meant : (f : Least) → found rows x ≡ f → Meaning (markOf weight f x)
+    meant (Found e) h = go (eqb e 0) refl (eqb e weight) refl
       where
-        go : (b : Bool) → eqb e 0 ≡ b → (c : Bool) → eqb e alone ≡ c
+        go : (b : Bool) → eqb e 0 ≡ b → (c : Bool) → eqb e weight ≡ c
             → Meaning (cond b Clean (cond c (Parity e) (Corrected e)))
         go true p c q = sym (least (Found e) h .2) ∙ ap (combination rows) (eqb-true e 0 p) ∙ combination-zero rows
-        go false p true q = (eqb-true e alone q, least (Found e) h)
-        go false p false q = (eqb-false e 0 p, eqb-false e alone q, least (Found e) h)
+        go false p true q = (eqb-true e weight q, least (Found e) h)
+        go false p false q = (eqb-false e 0 p, eqb-false e weight q, least (Found e) h)
     meant Missing h = go (odd x) refl
       where
         go : (b : Bool) → odd x ≡ b → Meaning (cond b Doubtful Held)
@@ -60,22 +61,22 @@ module _ (rows : List ℕ) (x : ℕ) where
         go false q = (none-found h, q)
 
     -- the mark of what is found
-    by-found : (f : Least) (mark : Mark) → found rows x ≡ f → mark ≡ markOf alone f x
-        → markOf alone (found rows x) x ≡ mark
-    by-found f mark h e = ap (λ (g : Least). markOf alone g x) h ∙ sym e
+    by-found : (f : Least) (mark : Mark) → found rows x ≡ f → mark ≡ markOf weight f x
+        → markOf weight (found rows x) x ≡ mark
+    by-found f mark h e = ap (λ (g : Least). markOf weight g x) h ∙ sym e
 
-    given : (mark : Mark) → Meaning mark → markOf alone (found rows x) x ≡ mark
+    given : (mark : Mark) → Meaning mark → markOf weight (found rows x) x ≡ mark
     given Clean m = by-found (Found 0) Clean (ap (found rows) m ∙ zero-found rows) refl
     given (Corrected e) m =
-        by-found (Found e) (Corrected e) (found-least (Found e) (m .2)) (mark-corrected alone e (m .0) (m .1))
+        by-found (Found e) (Corrected e) (found-least (Found e) (m .2)) (mark-corrected weight e (m .0) (m .1))
     given (Parity e) m =
         let same = m .0 in
         by-found (Found e) (Parity e) (found-least (Found e) (m .1))
-        (mark-parity alone e (λ (z : e ≡ 0). omega arith) same)
+        (mark-parity weight e (λ (z : e ≡ 0). omega arith) same)
     given Doubtful m = by-found Missing Doubtful (found-none (m .0)) (picked (odd x) Doubtful Held (m .1))
     given Held m = by-found Missing Held (found-none (m .0)) (passed (odd x) Doubtful Held (m .1))
 
-    told : (mark : Mark) → (markOf alone (found rows x) x ≡ mark) ↔ Meaning mark
+    told : (mark : Mark) → (markOf weight (found rows x) x ≡ mark) ↔ Meaning mark
     told mark = (λ e. subst Meaning e (meant (found rows x) refl), given mark)
 
 pub marks : MARKS

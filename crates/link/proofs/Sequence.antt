@@ -198,11 +198,13 @@ module _ {n w : ℕ} {rows : List ℕ} {D s e : ℕ → ℕ} {from count : ℕ} 
             alone j (suc a) (omega arith) (omega arith) (omega arith)
             (apart j (suc a) (omega arith) (omega arith) (omega arith))
 
-    mid-step : (k j a l : ℕ) → from ≤ k → suc k < count → a + l ≡ w → j + a ≡ k → joint rows D e k ≡ combination rows (e j) / 2 ^ a
+    mid-step : (k j a l : ℕ) → from ≤ k → suc k < count → a + l ≡ w → j + a ≡ k
+        → joint rows D e k ≡ combination rows (e j) / 2 ^ a
         → s k ≡ combination rows (e j) % 2 ^ a * 2 ^ l → ((i d : ℕ) → i + d ≡ k → d ≤ w → i ≢ j → e i ≡ 0) → Mid (suc k)
     mid-step k j a zero late h whole place rest lower others =
         let all : a ≡ w = omega arith in
-        mid-left k j late h (omega arith) (subst (λ (x : ℕ). joint rows D e k ≡ combination rows (e j) / 2 ^ x) all rest)
+        mid-left k j late h (omega arith)
+        (subst (λ (x : ℕ). joint rows D e k ≡ combination rows (e j) / 2 ^ x) all rest)
         (subst (λ (x : ℕ). s k ≡ combination rows (e j) % 2 ^ x * 2 ^ 0) all lower) others
     mid-step k j a (suc l) late h whole place rest lower others =
         let out =

@@ -35,7 +35,7 @@ use Rattle.link.specs.Examples.{bytesOfZ}
 use Rattle.link.specs.Sharp.{RecoveryAfter, GUARD-SHARP, GAP-SHARP, LENGTH-SHARP, SHORT-GUARD-SHARP}
 use Rattle.link.specs.Sharp.{GUARD-END-SHARP}
 use Rattle.link.proofs.Formed.{started-formed}
-use Rattle.link.proofs.Fade.{Ends, Sure}
+use Rattle.link.proofs.Fade.{Settles, Sure}
 use Rattle.link.proofs.Recovery.{same-delivery}
 use Rattle.link.proofs.Computed.{each-at, key, In, Places, count, running-by, right-by, burst-by, bursts-by}
 
@@ -204,8 +204,8 @@ module _ (pending : ℕ) (blocks wrong : List ℕ) (answers : List DecodeAnswer)
   fades : (right long gap : ℕ) → pending < 8 → (chosen : List Stretch)
       → Chosen (Wrong (zerosSent (length blocks)) (received pending blocks)) long gap (length (received pending blocks))
       chosen
-      → ((p : ℕ) → In p wrong → Within p chosen × (right < p)) → FadesWith right long gap (Z 1) coder (filled pending) cs
-      ds
+      → ((p : ℕ) → In p wrong → Within p chosen × (right < p))
+      → FadesWith right long gap (Z 1) coder (filled pending) cs ds
   fades right long gap small chosen apart covered = record {
     running = running-by places (Z 1) Z-origin (h .sent) (h .taken);
     coder-formed = coder-formed;
@@ -235,7 +235,7 @@ module _ (pending : ℕ) (blocks wrong : List ℕ) (answers : List DecodeAnswer)
       (w .0, shown p (w .0) (w .1), w .2)
 
   would-end : (past : Table → ℕ) → GuardEndAfter past → pending < 8 → ((p : ℕ) → In p wrong → ⊥) → (p : ℕ)
-      → past (Z 1) < p → p ≤ 6 → p ≤ length blocks → Ends 2 (getD answers (p - 1) NothingYet) 0
+      → past (Z 1) < p → p ≤ 6 → p ≤ length blocks → Settles 2 (getD answers (p - 1) NothingYet) 0
   would-end past g small none p late early to =
       let all = count places in
       let w = g (Z 1) coder (filled pending) cs ds (fades 6 1 3 small [] tt (λ q i. absurd (none q i))) p late early

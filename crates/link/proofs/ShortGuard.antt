@@ -1,9 +1,9 @@
 -- One stream whose first 2 × (N − 2) blocks are right. No pending word differs then, and the syndrome word is below 4.
--- Within two more blocks it goes on as if it had been clean. Where an error block is found at one of the two, the word is
--- cleared, and with it bit 0 of the image of that block's own error; what comes after is that of an error which differs
--- by the parity symbol, whose image is 1, and has the same information. Where none is found the two bits of the word are
--- dropped; were an error of the first found at the second, its image would be another's, shifted by N − 2. Assumes
--- nothing.
+-- Within two more blocks it goes on as if it had been clean. Where an error block is found at one of the two, the word
+-- is cleared, and with it bit 0 of the image of that block's own error; what comes after is that of an error which
+-- differs by the parity symbol, whose image is 1, and has the same information. Where none is found the two bits of the
+-- word are dropped; were an error block found at the second, with an error at the first, its image, made even, would be
+-- that of this error, shifted by N − 2. Assumes nothing.
 --
 --   Rejoined         from which block on, and with which errors
 --   rejoined-same    with the errors as they are
@@ -40,9 +40,9 @@ module _ (n w : ℕ) (infos : List ℕ) (from : 2 ≤ n) (size : length infos �
   abbrev rows : List ℕ
   rows = infos ++ (1 ∷ [])
 
-  -- the parity symbol alone
-  abbrev u : ℕ
-  u = 2 ^ (n - 1)
+  -- that of the parity
+  abbrev weight : ℕ
+  weight = 2 ^ (n - 1)
 
   -- its blocks before q are right, q is 2 × (N − 2)
   module _ {D s e : ℕ → ℕ} {count : ℕ} (S : Stream n w rows D s e 0 count) (joint-lt : D 0 < 2 ^ w)
@@ -61,7 +61,7 @@ module _ (n w : ℕ) (infos : List ℕ) (from : 2 ≤ n) (size : length infos �
       e′ : ℕ → ℕ
       early : c ≤ q + 2
       same : (k : ℕ) → c ≤ k → e′ k ≡ e k
-      alike : (k : ℕ) → (e′ k ≡ e k) ⊎ (e′ k ≡ e k ⊕ u)
+      alike : (k : ℕ) → (e′ k ≡ e k) ⊎ (e′ k ≡ e k ⊕ weight)
       tail : Stream n w rows D s e′ c count
       apart′ : (i d : ℕ) → 1 ≤ d → d ≤ w → i + d < count → (e′ i ≡ 0) ⊎ (e′ (i + d) ≡ 0)
       mid : Mid tail c
@@ -124,7 +124,7 @@ module _ (n w : ℕ) (infos : List ℕ) (from : 2 ≤ n) (size : length infos �
       pick-lt true x h = evened-lt n from rows x h
       pick-lt false x h = h
 
-      pick-alike : (b : Bool) (x : ℕ) → (pick b x ≡ x) ⊎ (pick b x ≡ x ⊕ u)
+      pick-alike : (b : Bool) (x : ℕ) → (pick b x ≡ x) ⊎ (pick b x ≡ x ⊕ weight)
       pick-alike true x = evened-alike n rows x
       pick-alike false x = inl refl
 
@@ -308,7 +308,7 @@ module _ (n w : ℕ) (infos : List ℕ) (from : 2 ≤ n) (size : length infos �
 
     -- from block 2 × (N − 1) on: the error of block k − w is found, or it and the parity symbol together
     pub short-judged : (k i : ℕ) → q + 2 ≤ k → k < count → i + w ≡ k
-        → ((errorOf (found rows (reg k)) ≡ e i) ⊎ (errorOf (found rows (reg k)) ≡ e i ⊕ u))
+        → ((errorOf (found rows (reg k)) ≡ e i) ⊎ (errorOf (found rows (reg k)) ≡ e i ⊕ weight))
         × NotDoubtful (found rows (reg k)) (reg k)
     short-judged k i late h place =
         let r = rejoined (found rows (reg q)) refl (eq-zero-or-pos (e (suc q))) in
@@ -321,7 +321,7 @@ module _ (n w : ℕ) (infos : List ℕ) (from : 2 ≤ n) (size : length infos �
         ap (λ (x : ℕ). errorOf (found rows x)) (sym same) ∙ out .0 in
         (go (r .e′ i) (r .alike i) is, subst (λ (x : ℕ). NotDoubtful (found rows x) x) same (out .1))
       where
-        go : (x : ℕ) → ((x ≡ e i) ⊎ (x ≡ e i ⊕ u)) → errorOf (found rows (reg k)) ≡ x
-            → (errorOf (found rows (reg k)) ≡ e i) ⊎ (errorOf (found rows (reg k)) ≡ e i ⊕ u)
+        go : (x : ℕ) → ((x ≡ e i) ⊎ (x ≡ e i ⊕ weight)) → errorOf (found rows (reg k)) ≡ x
+            → (errorOf (found rows (reg k)) ≡ e i) ⊎ (errorOf (found rows (reg k)) ≡ e i ⊕ weight)
         go x (inl y) is = inl (is ∙ y)
         go x (inr y) is = inr (is ∙ y)

@@ -106,7 +106,7 @@ module _ (infos : List ℕ) (ν : ℕ) (size : length infos ≡ ν) where
 
 -- the mark is not doubtful, whichever error block the parity symbol is
 abbrev pub NotDoubtful : Least → ℕ → Type 0
-NotDoubtful f x = (alone : ℕ) → markOf alone f x ≢ Doubtful
+NotDoubtful f x = (weight : ℕ) → markOf weight f x ≢ Doubtful
 
 -- a step removes the error, keeps that word, and is sure
 pub record Outcome (f : Least) (x error kept : ℕ) : Type 0 where
@@ -126,12 +126,12 @@ mark-missing false e h = let z : _≡_ {A = ℕ} 0 1 = cc in omega arith
 outcome-found : (f : Least) (x e : ℕ) → f ≡ Found e → Outcome f x e 0
 outcome-found f x e q =
     subst (λ (g : Least). Outcome g x e 0) (sym q)
-    (record { error-is = refl; kept-is = refl; sure = λ alone. mark-found (eqb e 0) (eqb e alone) e })
+    (record { error-is = refl; kept-is = refl; sure = λ weight. mark-found (eqb e 0) (eqb e weight) e })
 
 outcome-missing : (f : Least) (x : ℕ) → f ≡ Missing → odd x ≡ false → Outcome f x 0 (x / 2)
 outcome-missing f x q even =
     subst (λ (g : Least). Outcome g x 0 (x / 2)) (sym q)
-    (record { error-is = refl; kept-is = refl; sure = λ alone. mark-missing (odd x) even })
+    (record { error-is = refl; kept-is = refl; sure = λ weight. mark-missing (odd x) even })
 
 module _ (n w : ℕ) (rows : List ℕ) (code : Corrects n w rows) where
   -- The error block x came a blocks ago, and l are to come before it leaves: v is what is left of its image, and its

@@ -71,7 +71,8 @@ module _ (t : Table) (s : List ℕ) (r w : ℕ) (room : t .symbols - 1 ≤ lengt
 
   pub step-words : (x top : ℕ) → x ≡ syndromeOf t s (turnOf s) + sel (odd w) top → top ≡ 2 ^ (t .span - 1)
       → (f : Least) → f ≡ found (rowsOf t) x → (error kept : ℕ) (mark : Mark)
-      → (error ≡ errorOf f) × ((kept ≡ keptOf f x) × (mark ≡ markOf (2 ^ (t .symbols - 1)) f x)) → (entry : ℕ) (after : List ℕ)
+      → (error ≡ errorOf f) × ((kept ≡ keptOf f x) × (mark ≡ markOf (2 ^ (t .symbols - 1)) f x))
+      → (entry : ℕ) (after : List ℕ)
       → (entry ≡ cond (ltb (fillOf s) (delayOf t)) (decodeEntry 0 0)
       (decodeEntry (markNumber mark) (delayedOf t s (turnOf s) 0 ⊕ information (t .symbols) error)))
       × (after ≡ advanced (t .span) (t .depth) s (w / 2) kept (information (t .symbols) r))

@@ -1,9 +1,9 @@
 -- What the link needs of a code, as one record, and why a suitable table has it: the image of an error block gives back
 -- that block, and a shifted image is 0 or the image of no block. Assumes nothing.
 --
---   Corrects                   the record
---   image-once, shifted-none   the same of two blocks
---   suitable-corrects          a suitable table has it
+--   Corrects            the record
+--   shifted-none        a shifted image that is an image is 0
+--   suitable-corrects   a suitable table has it
 use mathlib.Core.Path.{_≡_, refl, sym, ap, _∙_, subst}
 use mathlib.Core.Logic.{_⊎_, inl, inr}
 use mathlib.Core.List.{List}
@@ -25,6 +25,7 @@ use Rattle.tables.proofs.Clash.{alike}
 -- The rows of a code of n symbols and span w + 1: those of the information, and the parity's, 1.
 pub record Corrects (n w : ℕ) (rows : List ℕ) : Type 0 where
   pub image-lt : (e : ℕ) → combination rows e < 2 ^ suc w
+  pub image-once : (a b : ℕ) → a < 2 ^ n → b < 2 ^ n → combination rows a ≡ combination rows b → a ≡ b
   pub image-found : (e : ℕ) → e < 2 ^ n → leastCoefficients rows (combination rows e) ≡ Found e
   pub shifted-found : (l e : ℕ) → 1 ≤ l → l ≤ w → e < 2 ^ n
       → ((shifted (suc w) l (combination rows e) ≡ 0)
@@ -32,16 +33,6 @@ pub record Corrects (n w : ℕ) (rows : List ℕ) : Type 0 where
       ⊎ (leastCoefficients rows (shifted (suc w) l (combination rows e)) ≡ Missing)
 
 module _ {n w : ℕ} {rows : List ℕ} (code : Corrects n w rows) where
-  -- blocks of one image are one block
-  pub image-once : (a b : ℕ) → a < 2 ^ n → b < 2 ^ n → combination rows a ≡ combination rows b → a ≡ b
-  image-once a b ha hb e =
-      let p = code .image-found a ha in
-      let q = code .image-found b hb in
-      let r : leastCoefficients rows (combination rows a) ≡ leastCoefficients rows (combination rows b) =
-      ap (leastCoefficients rows) e in
-      cc
-
-  -- a shifted image that is an image is 0
   pub shifted-none : (l x y : ℕ) → 1 ≤ l → l ≤ w → x < 2 ^ n → y < 2 ^ n
       → combination rows y ≡ shifted (suc w) l (combination rows x) → shifted (suc w) l (combination rows x) ≡ 0
   shifted-none l x y from to hx hy e = go (code .shifted-found l x from to hx)
@@ -93,6 +84,7 @@ module _ (w : ℕ) (rows : List ℕ) (some : 1 ≤ w) (suits : Suitable (suc w) 
   pub suitable-corrects : (n : ℕ) → length rows ≡ n → Below (suc w) rows → Corrects n w rows
   suitable-corrects n size below = record {
     image-lt = λ e. combination-lt (suc w) rows e below;
+    image-once = λ a b ha hb. same-image a b (rw size ha) (rw size hb);
     image-found = λ e h. suitable-found e (rw size h) (leastCoefficients rows (combination rows e)) refl;
     shifted-found = λ l e from to h.
         suitable-shifted l e from to (rw size h) (leastCoefficients rows (shifted (suc w) l (combination rows e))) refl;

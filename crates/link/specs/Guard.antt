@@ -1,5 +1,5 @@
 -- In the guard the syndrome word runs empty, whatever it was: 000, VI. So its last calls tell already that it is over.
--- Where bursts and memories do not count, nothing is asked of them.
+-- `GUARD` and `GUARD-END-STREAM` ask nothing of bursts or memories.
 --
 --   syndromeEntry, syndromesBy s ds   the syndrome word of the turn's stream, before a step and before each step that
 --                                     is taken

@@ -8,8 +8,8 @@
 --                                 syndrome word
 --   found rows x                  the least error block whose image is the register, or none
 --   errorOf f, keptOf f x         the error, and the syndrome word that stays
---   markFound alone e             the mark of an error block that was found; `alone` is that of the parity symbol alone
---   markOf alone f x              the mark
+--   markFound weight e            the mark of an error block that was found, with the weight of the parity
+--   markOf weight f x             the mark
 --   streamFound, streamNext, streamInfo, streamMark   the error found, the stream's part after the step, and
 --                                                     information and mark of its record
 use mathlib.Core.Bool.{Bool, cond, xor}
@@ -64,13 +64,13 @@ keptOf Missing x = x / 2
 
 -- "Marks: clean (register 0); corrected, carrying e (e not 0); doubtful (no e, bit 0 of the register is 1); held (no e,
 -- bit 0 is 0)." An error of 0 has the register 0. 02, CR 4: "When e is exactly 2^(n−1) the mark is now "parity" and not
--- "corrected""; it carries e too.
+-- "corrected"": e is the weight of the parity, and is carried too.
 abbrev pub markFound : ℕ → ℕ → Mark
-markFound alone e = cond (eqb e 0) Clean (cond (eqb e alone) (Parity e) (Corrected e))
+markFound weight e = cond (eqb e 0) Clean (cond (eqb e weight) (Parity e) (Corrected e))
 
 abbrev pub markOf : ℕ → Least → ℕ → Mark
-markOf alone (Found e) x = markFound alone e
-markOf alone Missing x = cond (odd x) Doubtful Held
+markOf weight (Found e) x = markFound weight e
+markOf weight Missing x = cond (odd x) Doubtful Held
 
 -- lines 3 and 4 on the words of a stream: what is found; the part after the step, in which `stay` are the delayed
 -- blocks but the oldest; and information and mark of the record, "the oldest delayed block, corrected by e". The

@@ -27,7 +27,7 @@ pub enum Mark {
     Clean,
     // The error block that was removed.
     Corrected(u16),
-    // The same where it is the parity symbol alone: the information stood as it was received.
+    // The same where only the parity was wrong in it: the information stays as it was received.
     Parity(u16),
     Doubtful,
     Held,
@@ -192,32 +192,32 @@ fn least_error(rows: &[u64], n: usize, x: u64) -> Least
     Least::Missing
 }
 
-// The mark of an error block that was found; `alone` is that of the parity symbol alone.
-fn mark_found(e: u64, alone: u64) -> Mark
+// The mark of an error block that was found, with the weight of the parity.
+fn mark_found(e: u64, weight: u64) -> Mark
     requires { ⌜ e < 2 ^ 16 ⌝ }
-    ensures { λ r. ⌜ r ≡ markFound alone e ⌝ }
+    ensures { λ r. ⌜ r ≡ markFound weight e ⌝ }
 {
     if e == 0 {
         return Mark::Clean;
     }
-    if e == alone {
+    if e == weight {
         return Mark::Parity(e as u16);
     }
     Mark::Corrected(e as u16)
 }
 
 // Line 3 and the mark, once the error is found or missing.
-pub(crate) fn judged(found: Least, x: u64, alone: u64) -> Verdict
+pub(crate) fn judged(found: Least, x: u64, weight: u64) -> Verdict
     requires { ⌜ errorOf found < 2 ^ 16 ⌝ }
     ensures error { λ r. ⌜ r .error ≡ errorOf found ⌝ }
     ensures kept { λ r. ⌜ r .kept ≡ keptOf found x ⌝ }
-    ensures mark { λ r. ⌜ r .mark ≡ markOf alone found x ⌝ }
+    ensures mark { λ r. ⌜ r .mark ≡ markOf weight found x ⌝ }
 {
     if let Least::Found(e) = found {
         return Verdict {
             error: e as u16,
             kept: 0,
-            mark: mark_found(e, alone),
+            mark: mark_found(e, weight),
         };
     }
     let kept = x >> 1;

@@ -128,7 +128,7 @@ fn fill_judged(t: Table, rows: &[u64], state: &mut [u64], blocks: &[u16], out: &
     let ones = together(&b.checks, b.size);
     let most = mask(t.symbols);
     let top = one_at(t.span - 1);
-    let alone = one_at(t.symbols - 1);
+    let weight = one_at(t.symbols - 1);
     let end = min(blocks.len(), out.len());
     let mut i = 0;
     while i < end {
@@ -151,7 +151,7 @@ fn fill_judged(t: Table, rows: &[u64], state: &mut [u64], blocks: &[u16], out: &
             t.span,
             t.depth,
             x.w,
-            judged(found, x.register, alone),
+            judged(found, x.register, weight),
             received,
         );
         i += 1;

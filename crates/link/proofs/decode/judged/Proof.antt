@@ -29,7 +29,7 @@ returns : tie.Need-returns
 returns c =
     let a = c .before .before .before .before .args in
     let g = c .before .before .found .given in
-    verdict-found (a .alone) (a .found) (a .x) (g .0 .0) (c .mark-found .result) (g .1) (c .mark-found .ensures)
+    verdict-found (a .weight) (a .found) (a .x) (g .0 .0) (c .mark-found .result) (g .1) (c .mark-found .ensures)
 
 enum-told : tie.Need-enum-told
 enum-told c = search needs
@@ -37,12 +37,12 @@ enum-told c = search needs
 returns-2 : tie.Need-returns-2
 returns-2 c =
     let a = c .before .before .before .args in
-    verdict-doubtful (a .alone) (a .found) (a .x) (c .before .enum-told .given .1) (odd-of true (a .x) (c .if1 .taken))
+    verdict-doubtful (a .weight) (a .found) (a .x) (c .before .enum-told .given .1) (odd-of true (a .x) (c .if1 .taken))
 
 returns-3 : tie.Need-returns-3
 returns-3 c =
     let a = c .before .before .before .args in
-    verdict-held (a .alone) (a .found) (a .x) (c .before .enum-told .given .1)
+    verdict-held (a .weight) (a .found) (a .x) (c .before .enum-told .given .1)
     (odd-of false (a .x) (let z = c .if1 .left in omega arith))
 
 pub judged-spec : {M : Type 1} → statement M

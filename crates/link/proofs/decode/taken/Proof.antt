@@ -78,11 +78,13 @@ explain-requires c κs =
 
 sub-one-at-2 : tie.Need-sub-one-at-2
 sub-one-at-2 c =
-    let k = tests (c .before .before .before .before .before .before .before .before .before) .sizes .n-from in omega arith
+    let k = tests (c .before .before .before .before .before .before .before .before .before) .sizes .n-from in
+    omega arith
 
 one-at-requires-2 : tie.Need-one-at-requires-2
 one-at-requires-2 c κs =
-    let k = tests (c .before .before .before .before .before .before .before .before .before) .sizes .n-to in omega arith
+    let k = tests (c .before .before .before .before .before .before .before .before .before) .sizes .n-to in
+    omega arith
 
 judged-requires : tie.Need-judged-requires
 judged-requires c κs =
@@ -229,7 +231,8 @@ returns-2 c =
     let s = a .state .now in
     let e = here .before .before .before .before .before .before .explain in
     let mark = here .before .before .before .before .judged .ensures .1 .1
-    ∙ ap (λ (k : ℕ). markOf k (e .result) (register here)) (here .before .before .before .before .before .one-at2 .ensures)
+    ∙ ap (λ (k : ℕ). markOf k (e .result) (register here))
+    (here .before .before .before .before .before .one-at2 .ensures)
     ∙ mark-is t s (a .received) _ (width start) (joined here) (register here) (registered here) (e .result)
     (e .ensures) in (
       ap₂ (λ (i : ℕ) (m : Mark). Delivery (record { info = i; mark = m })) (corrected c) mark

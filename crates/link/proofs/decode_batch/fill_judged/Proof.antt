@@ -31,11 +31,11 @@ use Rattle.link.proofs.decode_batch.fill_judged.Statement.{statement}
 use Rattle.link.proofs.decode_batch.fill_judged.Tie as tie
 
 abbrev Inv-loop : tie.InvT-loop
-Inv-loop t rows state₀ blocks out₀ tables b ones most top alone end i₀ state out i =
+Inv-loop t rows state₀ blocks out₀ tables b ones most top weight end i₀ state out i =
     Going (withRows t rows) state₀ blocks out₀ i state out
 
 abbrev μ-loop : tie.MeasureT-loop
-μ-loop t rows state₀ blocks out₀ tables b ones most top alone end i₀ state out i = end - i
+μ-loop t rows state₀ blocks out₀ tables b ones most top weight end i₀ state out i = end - i
 
 -- points that the proofs look back to: the call's entry from a turn, and what is known there
 abbrev first : tie.After-b Inv-loop μ-loop → tie.Start Inv-loop μ-loop
@@ -136,11 +136,15 @@ declines-requires c κs =
 abbrev block : tie.At-loop Inv-loop μ-loop → ℕ
 block c = getD (entry c .args .blocks .now) (c .loop .i) 0
 
-tested : (c : tie.At-loop Inv-loop μ-loop) → ltb (c .before .before .before .before .before .before .mask .result) (block c) ≡ leb
-    (2 ^ entry c .args .t .symbols) (block c)
+-- the largest block
+abbrev largest : tie.At-loop Inv-loop μ-loop → ℕ
+largest c = c .before .before .before .before .before .before .mask .result
+
+tested : (c : tie.At-loop Inv-loop μ-loop)
+    → ltb (largest c) (block c) ≡ leb (2 ^ entry c .args .t .symbols) (block c)
 tested c =
     let n = facts (entry c) .n-to in
-    above-mask (entry c .args .t .symbols) (c .before .before .before .before .before .before .mask .result) (block c) (omega arith)
+    above-mask (entry c .args .t .symbols) (largest c) (block c) (omega arith)
     (c .before .before .before .before .before .before .mask .ensures)
 
 same-length : tie.Need-same-length Inv-loop μ-loop
@@ -156,7 +160,7 @@ returns c =
     let a = start .args in
     turn-declined (whole start) (a .state .now) (a .blocks .now) (a .out .now) (l .loop .i) (l .loop .state)
     (l .loop .out) (l .loop .inv) (start .pre .0) (start .pre .2) (inside (c .before .before .before .before) .0)
-    (l .before .before .before .before .before .before .mask .result) (tested l) (sym (c .before .declines .ensures) ∙ c .if1 .taken)
+    (largest l) (tested l) (sym (c .before .declines .ensures) ∙ c .if1 .taken)
 
 -- no refusal applies
 none : (c : tie.Else1 Inv-loop μ-loop)
@@ -168,7 +172,7 @@ none c =
     let a = start .args in
     turn-taken (whole start) (a .state .now) (a .blocks .now) (a .out .now) (l .loop .i) (l .loop .state)
     (l .loop .out) (l .loop .inv) (start .pre .0) (start .pre .2) (inside (c .before .before .before .before) .0)
-    (l .before .before .before .before .before .before .mask .result) (tested l) (sym (c .before .declines .ensures) ∙ c .if1 .left)
+    (largest l) (tested l) (sym (c .before .declines .ensures) ∙ c .if1 .left)
 
 look-up-requires : tie.Need-look-up-requires Inv-loop μ-loop
 look-up-requires c κs = search needs
@@ -230,7 +234,8 @@ explained c =
     let same : words ≡ R = counted-words R (w .result) (start .args .t .symbols) 0 z (w .ensures) (omega arith) in
     let x = c .before .before .before .before .before .terms .result .register in
     c .least-by .ensures
-    ∙ ap (λ (o : ℕ). leastBy (b .result) o x) (l .before .before .before .before .before .before .before .together .ensures)
+    ∙ ap (λ (o : ℕ). leastBy (b .result) o x)
+    (l .before .before .before .before .before .before .before .together .ensures)
     ∙ least-by words (rw same (omega arith)) (subst (Below 64) (sym same) (code-below (whole start) (facts start)))
     (b .result) (b .ensures) x
     ∙ ap (λ (ws : List ℕ). found ws x) same
@@ -343,6 +348,7 @@ fill-judged-spec =
     tie.close
     (tie.spec Inv-loop μ-loop error-words-requires slice-aggregate-lookup-of lookup-of-requires
     slice-aggregate-dual-basis dual-basis-requires together-requires mask-requires sub-one-at one-at-requires
-    sub-one-at-2 one-at-requires-2 min-requires loop-holds mul-received shared-slice-read-received cast-received declines-requires same-length
-    same-length-2 returns look-up-requires terms-requires least-by-requires judged-requires take-block-requires mul-out
-    slice-write-out add-i loop-less loop-again same-length-3 same-length-4 returns-2)
+    sub-one-at-2 one-at-requires-2 min-requires loop-holds mul-received shared-slice-read-received cast-received
+    declines-requires same-length same-length-2 returns look-up-requires terms-requires least-by-requires
+    judged-requires take-block-requires mul-out slice-write-out add-i loop-less loop-again same-length-3 same-length-4
+    returns-2)
