@@ -170,19 +170,19 @@ struct burst_coded burst_code(const uint64_t table[18], uint64_t *words, size_t 
  * the stream's syndrome word with the new term as bit N - 1; once started, the last N terms of the stream since the word
  * was last cleared, and 0 before them. If the register is the image of an error block, the least such block is removed
  * from what is delivered and the word is cleared; if not, the word is the register halved, its bit 0 dropped. The mark
- * tells what was found: clean, the register is 0; corrected, it is not 0 and is the image of an error block; parity, and
- * not corrected, where that block is 2^(n-1), the parity alone, so that the information stays as it was received; held,
- * it is the image of none and its bit 0 is 0; doubtful, it is the image of none and its bit 0 is 1.
+ * tells what was found: clean, the register is 0; corrected, it is not 0 and is the image of an error block; parity,
+ * and not corrected, where that block is 2^(n-1), the parity alone, so that the information stays as it was received;
+ * held, it is the image of none and its bit 0 is 0; doubtful, it is the image of none and its bit 0 is 1.
  *
  * One table throughout, read or made; both memories started, and then written by steps alone; every coded block taken,
  * in order, wrong ones only in bursts within m blocks, with at least m * (N - 1) blocks between, all right: then every
- * block delivered is right, and none is doubtful. From any other memory, and after any other damage, that holds once 2 *
- * m * (N - 1) right blocks in a row were taken. The last m steps that take one of these tell it already: what they
+ * block delivered is right, and none is doubtful. From any other memory, and after any other damage, that holds once
+ * 2 * m * (N - 1) right blocks in a row were taken. The last m steps that take one of these tell it already: what they
  * deliver is right, and is marked clean or parity. Of the 2 * m * (N - 1), the last 2 * m need not be right, if bursts
  * keep to the rule from there on: what comes after all of them is right, though those last m steps may not be. A
  * doubtful block may be wrong, and so may any other, where bursts were longer or closer than this. A block that was not
- * received is a wrong one: any block below 2^n, such as 0, is handed in for it. One that is left out, or refused, shifts
- * all later ones by a place.
+ * received is a wrong one: any block below 2^n, such as 0, is handed in for it. One that is left out, or refused,
+ * shifts all later ones by a place.
  *
  * Refused, 12 to 15, it writes no word. The table is only read, and its suitability is not tested.
  */
@@ -207,8 +207,8 @@ size_t burst_code_batch(const uint64_t table[18], uint64_t *words, size_t count,
 /*
  * Takes a list of received blocks, each as burst_decode does, on the memory as the block before it left it. Entry i is
  * what the call of received[i] delivers: its low 16 bits are the information, and the bits above them the mark, 0
- * nothing yet, 1 clean, 2 held, 3 corrected, 4 doubtful, 5 parity. An entry of nothing yet is 0. The error block that was
- * removed is not in it; where the mark is parity it is 2^(n-1).
+ * nothing yet, 1 clean, 2 held, 3 corrected, 4 doubtful, 5 parity. An entry of nothing yet is 0. The error block that
+ * was removed is not in it; where the mark is parity it is 2^(n-1).
  *
  * Returns how many blocks it took, and fills as many entries, as burst_code_batch does, with burst_decode for burst_code
  * and received for infos: all of the list, or its room, or those before the first block that burst_decode would refuse.

@@ -1,5 +1,6 @@
-//! The images of all 65,536 error blocks of 16 symbols, with a span of 4 and of 64: nanoseconds an image, and how many times as long the
-//! longer span takes. That is near 1 if a row is fetched once for its symbol, and not again for each bit of the span; at most 2 is asked for.
+//! The images of all 65,536 error blocks of 16 symbols, with a span of 4 and of 64: nanoseconds an image, and
+//! how many times as long the longer span takes. That is near 1 if a row is fetched once for its symbol, and
+//! not again for each bit of the span; at most 2 is asked for.
 
 use crate::archive::burst_code_batch;
 use crate::batch::whole;
@@ -19,8 +20,8 @@ fn dense(span: usize) -> fast::Table {
     fast::Table { n: 16, span, depth: 1, rows: std::array::from_fn(|i| row(i + 1)) }
 }
 
-/// Nanoseconds an image, and a sum of all of them: what the first step of a started coder adds to the parity of its block and of those
-/// after it. The parity symbol's row is 1.
+/// Nanoseconds an image, and a sum of all of them: what the first step of a started coder adds to the parity
+/// of its block and of those after it. The parity symbol's row is 1.
 fn by_steps(mut step: impl FnMut(&mut [u64], u16) -> u64) -> (f64, u64) {
     let mut sum = 0u64;
     let begun = Instant::now();
@@ -33,8 +34,8 @@ fn by_steps(mut step: impl FnMut(&mut [u64], u16) -> u64) -> (f64, u64) {
     (begun.elapsed().as_nanos() as f64 / BLOCKS as f64, sum)
 }
 
-/// Nanoseconds an image by one batch, whose images are looked up in tables that are made once; each joins what is pending of the blocks
-/// before.
+/// Nanoseconds an image by one batch, whose images are looked up in tables that are made once; each joins
+/// what is pending of the blocks before.
 fn by_a_batch(t: &fast::Table, table: &[u64; 18]) -> f64 {
     let infos: Vec<u16> = (0..=u16::MAX).map(|e| e & INFORMATION).collect();
     let (mut words, mut entries) = ([0; 2], vec![u32::MAX; BLOCKS]);

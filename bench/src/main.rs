@@ -1,7 +1,8 @@
-//! Prints what a call takes in nanoseconds, the proved codec and the one written for speed in the same run, and their ratio: medians of
-//! several rounds, the ratio's too, answers and memories compared throughout. Then how much longer the images of all error blocks of 16
-//! symbols take with a span of 64 than with one of 4, and what writing a table costs beside judging it. Last, batches against single calls.
-//! The exit status is 1 if images or batches take longer than is asked for.
+//! Prints what a call takes in nanoseconds, the proved codec and the one written for speed in the same run,
+//! and their ratio: medians of several rounds, the ratio's too, answers and memories compared throughout.
+//! Then how much longer the images of all error blocks of 16 symbols take with a span of 64 than with one of
+//! 4, and what writing a table costs beside judging it. Last, batches against single calls. The exit status
+//! is 1 if images or batches take longer than is asked for.
 
 // The declarations that the comparing tests have; not every function is timed.
 #[allow(dead_code)]
