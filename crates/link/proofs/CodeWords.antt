@@ -4,7 +4,7 @@
 --   counted-words   also as a basis counts them
 --   image-by        an image by the tables of a lookup of the first n words
 --   code-below      a fit table's rows have 64 bits at most
-use mathlib.Core.Path.{_≡_, sym, ap, subst, _∙_}
+use mathlib.Core.Path.{_≡_, sym, ap, _∙_}
 use mathlib.Core.List.{List, [], _∷_, _++_}
 use Prim.Native.Nat.{ℕ, _+_, _-_, _≤_}
 use native.Mathlib.Omega.{arith}
@@ -12,7 +12,7 @@ use lib.ListN.{length, take}
 use lib.Pow.{pow-mono}
 use lib.Seq.{take-take, take-at, take-all}
 use Rattle.span.specs.Combination.{Below, combination, counted}
-use Rattle.span.specs.Lookup.{Lookup, lookedUp}
+use Rattle.span.specs.Lookup.{lookupOf, lookedUp}
 use Rattle.span.proofs.Lookups.{looked-up}
 use Rattle.tables.specs.declared.table.Table.{Table}
 use Rattle.tables.specs.Table.{rowsOf, infoRows}
@@ -28,10 +28,9 @@ module _ (R words : List ℕ) (n x : ℕ) (size : length R ≡ n) (e : take (n +
   counted-words h = ap (take 32) first-words ∙ take-all 32 R (omega arith)
 
 pub image-by : (R words : List ℕ) (n : ℕ) → take n words ≡ R → length R ≤ 16
-    → (tables : List ℕ) → Lookup (take 16 (take n words)) tables → (r : ℕ) → lookedUp tables r ≡ combination R r
+    → (tables : List ℕ) → tables ≡ lookupOf (take 16 (take n words)) → (r : ℕ) → lookedUp tables r ≡ combination R r
 image-by R words n e h tables l r =
-    looked-up R tables r h
-    (subst (λ (ws : List ℕ). Lookup ws tables) (ap (take 16) e ∙ take-all 16 R h) l)
+    ap (λ (ts : List ℕ). lookedUp ts r) (l ∙ ap lookupOf (ap (take 16) e ∙ take-all 16 R h)) ∙ looked-up R r h
 
 pub code-below : (t : Table) → Fits (t .symbols) (t .span) (t .depth) (infoRows t) → Below 64 (rowsOf t)
 code-below t z i h =

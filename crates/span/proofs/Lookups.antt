@@ -2,18 +2,18 @@
 -- after another. Assumes nothing.
 use mathlib.Core.Path.{_≡_, refl, sym, ap, ap₂, _∙_, subst}
 use mathlib.Core.Bool.{Bool}
-use mathlib.Core.List.{List, [], _∷_}
+use mathlib.Core.List.{List, [], _∷_, _++_}
 use Prim.Native.Nat.{ℕ, zero, suc, _+_, _-_, _*_, _/_, _%_, _^_, _≤_, _<_}
 use native.Mathlib.Nat.{div-one, mod-one, zero-add}
-use native.Mathlib.Decide.{decLe}
+use native.Mathlib.Decide.{decLe, decLt}
 use native.Mathlib.Numerals.{add-one, one-add}
 use native.Mathlib.Omega.{arith}
-use lib.ListN.{length, getD, set, drop, replicate, length-set, drop-of-length-le}
+use lib.ListN.{length, getD, set, drop, replicate, length-append, length-set, drop-of-length-le, List·getD-append}
 use lib.Pow.{shr-shr, mod-mod-pow, field}
-use lib.Seq.{getD-set-same, getD-set-other, getD-drop, drop-drop}
+use lib.Seq.{ext-getD, getD-at, getD-append-add, getD-set-same, getD-set-other, getD-drop, drop-drop}
 use Rattle.span.specs.Word.{_⊕_, odd, sel}
 use Rattle.span.specs.Combination.{combination}
-use Rattle.span.specs.Lookup.{Lookup, lookedUp, LOOKED-UP, Doubled, Grouped}
+use Rattle.span.specs.Lookup.{combinations, lookupTables, lookupOf, lookedUp, LOOKED-UP, Doubled, Grouped}
 use Rattle.span.proofs.Word.{xor-zero-l, xor-zero-r, xor-assoc, xor-comm, odd-of, odd-mod, pow-add-xor}
 use Rattle.span.proofs.Combination.{combination-zero, combination-xor, combination-pow}
 
@@ -39,18 +39,80 @@ split-bits (suc k) (w ∷ ws) c =
     ∙ ap (λ (s : Bool). sel s w ⊕ combination ws (c % 2 ^ suc k / 2) ⊕ combination (drop k ws) (c / 2 ^ suc k))
     (sym low)
 
+-- ---- what the tables hold
+
+combinations-length : (ws : List ℕ) (c : ℕ) → length (combinations ws c) ≡ c
+unfolding combinations
+combinations-length ws zero = refl
+combinations-length ws (suc c) =
+    let n = combinations-length ws c in
+    length-append (combinations ws c) (combination ws c ∷ []) ∙ omega arith
+
+combinations-at : (ws : List ℕ) (c v : ℕ) → v < c → getD (combinations ws c) v 0 ≡ combination ws v
+unfolding combinations
+combinations-at ws zero v h = absurd (omega arith)
+combinations-at ws (suc c) v h = go (λ l. combinations-at ws c v l) (decLt v c)
+  where
+    n : length (combinations ws c) ≡ c
+    n = combinations-length ws c
+
+    go : (v < c → getD (combinations ws c) v 0 ≡ combination ws v) → Dec (v < c)
+        → getD (combinations ws c ++ (combination ws c ∷ [])) v 0 ≡ combination ws v
+    go below (yes l) =
+        List·getD-append (combinations ws c) (combination ws c ∷ []) 0 v (let m = n in omega arith) ∙ below l
+    go below (no l) =
+        let last : c ≡ v = omega arith in
+        getD-at (combinations ws c) (combination ws c) [] 0 v (let m = n in omega arith) ∙ ap (combination ws) last
+
+tables-length : (g : ℕ) (ws : List ℕ) → length (lookupTables g ws) ≡ 16 * g
+unfolding lookupTables
+tables-length zero ws = refl
+tables-length (suc g) ws =
+    let n = combinations-length ws 16 in
+    let m = tables-length g (drop 4 ws) in
+    length-append (combinations ws 16) (lookupTables g (drop 4 ws)) ∙ omega arith
+
+-- word 16 g + v of the tables is the combination of words 4 g to 4 g + 3 by v
+tables-at : (g : ℕ) (ws : List ℕ) (i : ℕ) → i < 16 * g
+    → getD (lookupTables g ws) i 0 ≡ combination (drop (4 * (i / 16)) ws) (i % 16)
+unfolding lookupTables
+tables-at zero ws i h = absurd (omega arith)
+tables-at (suc g) ws i h = go (λ l. tables-at g (drop 4 ws) (i - 16) l) (decLt i 16)
+  where
+    go : (i - 16 < 16 * g
+        → getD (lookupTables g (drop 4 ws)) (i - 16) 0
+        ≡ combination (drop (4 * ((i - 16) / 16)) (drop 4 ws)) ((i - 16) % 16))
+        → Dec (i < 16)
+        → getD (combinations ws 16 ++ lookupTables g (drop 4 ws)) i 0 ≡ combination (drop (4 * (i / 16)) ws) (i % 16)
+    go rest (yes l) =
+        let n = combinations-length ws 16 in
+        let first : 4 * (i / 16) ≡ 0 = omega arith in
+        let by : i % 16 ≡ i = omega arith in
+        List·getD-append (combinations ws 16) (lookupTables g (drop 4 ws)) 0 i (omega arith)
+        ∙ combinations-at ws 16 i l
+        ∙ sym (ap₂ (λ (k d : ℕ). combination (drop k ws) d) first by)
+    go rest (no l) =
+        let n = combinations-length ws 16 in
+        let past : i ≡ length (combinations ws 16) + (i - 16) = omega arith in
+        let next : 4 + 4 * ((i - 16) / 16) ≡ 4 * (i / 16) = omega arith in
+        let by : (i - 16) % 16 ≡ i % 16 = omega arith in
+        ap (λ (k : ℕ). getD (combinations ws 16 ++ lookupTables g (drop 4 ws)) k 0) past
+        ∙ getD-append-add (combinations ws 16) (lookupTables g (drop 4 ws)) (i - 16) 0
+        ∙ rest (omega arith)
+        ∙ ap₂ combination (drop-drop (4 * ((i - 16) / 16)) 4 ws ∙ ap (λ (k : ℕ). drop k ws) next) by
+
 -- what one table holds
-table-at : (ws ls : List ℕ) → Lookup ws ls → (g c : ℕ) → g < 4
-    → getD ls (16 * g + c % 16) 0 ≡ combination (drop (4 * g) ws) (c % 16)
-table-at ws ls t g c h =
+table-at : (ws : List ℕ) (g c : ℕ) → g < 4
+    → getD (lookupOf ws) (16 * g + c % 16) 0 ≡ combination (drop (4 * g) ws) (c % 16)
+table-at ws g c h =
     let i = 16 * g + c % 16 in
     let at : i / 16 ≡ g = omega arith in
     let by : i % 16 ≡ c % 16 = omega arith in
-    t .1 i (omega arith) ∙ ap₂ (λ (j d : ℕ). combination (drop (4 * j) ws) d) at by
+    tables-at 4 ws i (omega arith) ∙ ap₂ (λ (j d : ℕ). combination (drop (4 * j) ws) d) at by
 
 pub looked-up : LOOKED-UP
 unfolding lookedUp combination
-looked-up ws ls c room t =
+looked-up ws c room =
     let sixteenth : c / 16 / 16 ≡ c / 256 = omega arith in
     let next : c / 256 / 16 ≡ c / 4096 = omega arith in
     let rest : ℕ → ℕ → ℕ = λ k x. combination (drop k ws) x in
@@ -69,9 +131,9 @@ looked-up ws ls c room t =
     ∙ ap (λ (l : List ℕ). e ⊕ combination l (c / 4096 / 16)) (drop-drop 4 12 ws ∙ drop-of-length-le ws room)
     ∙ xor-zero-r e in
     ap₂ _⊕_
-    (ap₂ _⊕_ (ap₂ _⊕_ (rw zero-add at (table-at ws ls t 0 c (omega arith))) (table-at ws ls t 1 (c / 16) (omega arith)))
-    (table-at ws ls t 2 (c / 256) (omega arith)))
-    (table-at ws ls t 3 (c / 4096) (omega arith))
+    (ap₂ _⊕_ (ap₂ _⊕_ (rw zero-add at (table-at ws 0 c (omega arith))) (table-at ws 1 (c / 16) (omega arith)))
+    (table-at ws 2 (c / 256) (omega arith)))
+    (table-at ws 3 (c / 4096) (omega arith))
     ∙ xor-assoc (a ⊕ b) d e ∙ xor-assoc a b (d ⊕ e)
     ∙ sym (first ∙ ap (λ (x : ℕ). a ⊕ x) (second ∙ ap (λ (x : ℕ). b ⊕ x)
     (third ∙ ap (λ (x : ℕ). d ⊕ x) fourth)))
@@ -186,5 +248,7 @@ made-more ws g ls ms m d = record {
         ∙ d .made (m .rest (16 * g) (omega arith)) (i % 16) (omega arith)
         ∙ ap (λ (j : ℕ). combination (drop (4 * j) ws) (i % 16)) at
 
-pub made-all : (ws ls : List ℕ) → Made ws 4 ls → Lookup ws ls
-made-all ws ls m = (m .size, m .made)
+pub made-all : (ws ls : List ℕ) → Made ws 4 ls → ls ≡ lookupOf ws
+made-all ws ls m =
+    ext-getD 0 ls (lookupOf ws) (m .size ∙ sym (tables-length 4 ws))
+    (λ i l. let n = m .size in m .made i (omega arith) ∙ sym (tables-at 4 ws i (omega arith)))

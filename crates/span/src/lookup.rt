@@ -3,7 +3,7 @@ use crate::bound::min;
 ghost use mathlib.Core.Path.{_≡_};
 ghost use Prim.Native.Nat.{_+_, _%_, _<_, _≤_};
 ghost use lib.ListN.{length, take, getD};
-ghost use Rattle.span.specs.Lookup.{Lookup, Doubled, Grouped, lookedUp};
+ghost use Rattle.span.specs.Lookup.{lookupOf, lookedUp, Doubled, Grouped};
 
 // The number that the lowest four bits are.
 fn low_four(x: u64) -> usize
@@ -52,7 +52,7 @@ fn group(tables: &mut [u64; 64], words: &[u64], count: usize, g: usize)
 // The tables of the first `count` words, at most 16: a count past the slice's end is its length. Each word is fetched
 // once.
 pub fn lookup_of(words: &[u64], count: usize) -> [u64; 64]
-    ensures { λ r. ⌜ Lookup (take 16 (take count (now (words .entry)))) r ⌝ }
+    ensures { λ r. ⌜ r ≡ lookupOf (take 16 (take count (now (words .entry)))) ⌝ }
 {
     let mut tables: [u64; 64] = [0; 64];
     let mut g = 0;
