@@ -19,14 +19,14 @@ use Rattle.tables.specs.declared.write.WriteAnswer.{WriteAnswer}
 use Rattle.tables.specs.declared.write.WriteAnswer.the-variants as write
 use Rattle.tables.specs.Code.{Suitable}
 use Rattle.tables.specs.Table.{rowsOf, sizesFit, fit, Whole, SameTable}
-use Rattle.tables.specs.Format.{refused}
-use Rattle.tables.specs.Reading.{numbers, ReadNumbers, Read}
-use Rattle.tables.specs.Judging.{Judges}
-use Rattle.tables.specs.Writing.{writtenLength, writeNumbers, writeResult, writeBuffer, Writes}
+use Rattle.tables.specs.Reading.{readNumbers, reading}
+use Rattle.tables.specs.Judging.{judging, Judges}
+use Rattle.tables.specs.Writing.{writtenLength, writeNumbers, writeBy, writeAnswer, writeBuffer, Writes}
 use Rattle.tables.specs.Made.{columns, triangleRows, making, madeNumbers}
-use Rattle.tables.proofs.Reading.{refused-range}
+use Rattle.tables.proofs.Judging.{judged}
+use Rattle.tables.proofs.Reading.{accepted-suitable, refused-range, refused-parse, refused-unsuitable}
 use Rattle.tables.proofs.Written.{parses-exactly}
-use Rattle.tables.proofs.Writing.{same-answer, reads-back}
+use Rattle.tables.proofs.Writing.{writes-by, reads-back}
 use Rattle.tables.proofs.Made.{made, is-made, not-made}
 use Rattle.tables.proofs.MadeWhole.{made-whole}
 use Rattle.link.specs.Refusals.{startFault, coderFault, decoderFault, callNumbers}
@@ -43,86 +43,92 @@ use Rattle.export.specs.declared.decoded.BurstDecoded.{BurstDecoded}
 use Rattle.export.specs.Numbers.{tableOf, numbersOf, givenBack}
 use Rattle.export.proofs.Numbers.{given-back, table-back}
 use Rattle.export.specs.Answers.{numberOf, readingOf, writtenOf, codedOf, decodedOf}
+use Rattle.export.specs.Promises.{Reads}
 use Rattle.export.specs.Laws.{ReadTold, READ-TOLD, WriteTold, WRITE-TOLD, STORED-BACK, MADE-TOLD}
 use Rattle.export.specs.Laws.{START-TOLD, CODE-TOLD, DECODE-TOLD}
 
-read-so : (bytes : List ℕ) → ((i : ℕ) → getD bytes i 0 < 256) → (a : ReadAnswer) (u : Table) (before : List ℕ)
-    → ReadNumbers bytes (numbers a) u
-    → ReadTold bytes (readingOf (numbers a)) before (givenBack (readingOf (numbers a) .refused) u before)
-read-so bytes low Accepted u before s = record {
-  accepted = λ z. (u, s .0, s .1, parses-exactly bytes u low .0 (s .0) .whole, given-back 0 u before .0 refl, refl);
-  left = λ n. absurd (n refl);
-  placed = λ n. absurd (n refl);
-  clashes = λ e. absurd (omega arith);
-}
-read-so bytes low (Refused k p) u before s =
-    let range = refused-range bytes k p (s .0) in
+read-so : (bytes : List ℕ) → ((i : ℕ) → getD bytes i 0 < 256) → (a : ReadAnswer) (before : List ℕ)
+    → reading bytes .answer ≡ a →
+    let r = readingOf (readNumbers a) in
+    ReadTold bytes r before (givenBack (r .refused) (reading bytes .table) before)
+read-so bytes low Accepted before e =
+    let t = reading bytes .table in
+    let s = accepted-suitable bytes e in
     record {
-      accepted = λ z. absurd (omega arith);
-      left = λ n. given-back k u before .1 n;
-      placed = λ n o. (s .0, refl);
+      accepted = λ z. (t, s .0, s .2, parses-exactly bytes t low .0 (s .0) .whole, given-back 0 t before .0 refl, refl);
+      left = λ n. absurd (n refl);
+      placed = λ n. absurd (n refl);
       clashes = λ e. absurd (omega arith);
     }
-read-so bytes low (Unsuitable l e0 e1) u before s = record {
-  accepted = λ z. absurd (omega arith);
-  left = λ n. given-back 10 u before .1 n;
-  placed = λ n o. absurd (o refl);
-  clashes = λ e. (s .0, s .1, s .2, refl);
-}
+read-so bytes low (Refused k p) before e =
+    let at = refused-parse bytes k p e in
+    let range = refused-range bytes k p at in
+    record {
+      accepted = λ z. absurd (omega arith);
+      left = λ n. given-back k (reading bytes .table) before .1 n;
+      placed = λ n o. (at, refl);
+      clashes = λ e. absurd (omega arith);
+    }
+read-so bytes low (Unsuitable l e0 e1) before e =
+    let s = refused-unsuitable bytes l e0 e1 e in
+    record {
+      accepted = λ z. absurd (omega arith);
+      left = λ n. given-back 10 (reading bytes .table) before .1 n;
+      placed = λ n o. absurd (o refl);
+      clashes = λ e. (s .0, s .1, s .2, refl);
+    }
 
 pub read-told : READ-TOLD
 read-told bytes r before after low reads =
-    let told = read-so bytes low (reads .reading .answer) (reads .reading .table) before (reads .right) in
-    rw (reads .table, reads .answer) told
+    rw (reads .table, reads .answer) (read-so bytes low (reading bytes .answer) before refl)
 
 -- the answer that the judgement and the length of the bytes decide
 module _ (t : Table) (before : List ℕ) where
   abbrev Told : WriteAnswer → Type 0
   Told a = (after : List ℕ) → after ≡ writeBuffer a t before → WriteTold t before (writtenOf (writeNumbers a)) after
 
-  sound-told : fit t ≡ true → Suitable (t .span) (rowsOf t) → (a : WriteAnswer) (b : Bool)
-      → ltb (length before) (writtenLength t) ≡ b → writeNumbers a ≡ cond b (16 ∷ []) (0 ∷ writtenLength t ∷ [])
-      → Told a
-  sound-told f s a true q e =
+  sound-told : fit t ≡ true → Suitable (t .span) (rowsOf t) → (b : Bool) → ltb (length before) (writtenLength t) ≡ b
+      → Told (cond b (write.Refused 16) (write.Written (writtenLength t)))
+  sound-told f s true q =
       let short = ltb-true (length before) (writtenLength t) q in
-      subst Told (sym (same-answer a (write.Refused 16) e)) (λ after m. record {
+      λ after m. record {
         done = λ z. absurd (omega arith);
         left = λ z. m;
         unfit = λ z. absurd (omega arith);
         clashes = λ z. absurd (omega arith);
         short = λ x y z. (f, s, short, refl);
-      })
-  sound-told f s a false q e =
+      }
+  sound-told f s false q =
       let room = ltb-false (length before) (writtenLength t) q in
-      subst Told (sym (same-answer a (write.Written (writtenLength t)) e)) (λ after m. record {
+      λ after m. record {
         done = λ z. (f, s, room, m, refl);
         left = λ z. absurd (z refl);
         unfit = λ z. absurd (omega arith);
         clashes = λ z. absurd (omega arith);
         short = λ x y z. absurd (x refl);
-      })
+      }
 
-  write-so : (a : WriteAnswer) (j : Judgement) → Judges t j → writeNumbers a ≡ writeResult t (length before) j → Told a
-  write-so a Unfit s e = subst Told (sym (same-answer a (write.Refused 12) e)) (λ after m. record {
+  write-so : (j : Judgement) → Judges t j → Told (writeBy t (length before) j)
+  write-so Unfit s = λ after m. record {
     done = λ z. absurd (omega arith);
     left = λ z. m;
     unfit = λ z. (s, refl);
     clashes = λ z. absurd (omega arith);
     short = λ x y z. absurd (y refl);
-  })
-  write-so a (Clash l e0 e1) s e = subst Told (sym (same-answer a (write.Unsuitable l e0 e1) e)) (λ after m. record {
+  }
+  write-so (Clash l e0 e1) s = λ after m. record {
     done = λ z. absurd (omega arith);
     left = λ z. m;
     unfit = λ z. absurd (omega arith);
     clashes = λ z. (s .0, s .1, refl);
     short = λ x y z. absurd (z refl);
-  })
-  write-so a Sound s e = sound-told (s .0) (s .1) a (ltb (length before) (writtenLength t)) refl e
+  }
+  write-so Sound s = sound-told (s .0) (s .1) (ltb (length before) (writtenLength t)) refl
 
 pub write-told : WRITE-TOLD
+unfolding writeAnswer
 write-told t before r after h =
-    let w = h .right in
-    rw (h .answer) (write-so t before (h .writing) (w .judgement) (w .right) (w .answer) after (w .buffer))
+    rw (h .answer) (write-so t before (judging t) (judged t (judging t) .0 refl) after (h .buffer))
 
 pub stored-back : STORED-BACK
 unfolding tableOf
@@ -131,22 +137,18 @@ stored-back ns before after old new w r many h z reads =
     let n = writtenLength t in
     let told = write-told t before w after h .done z in
     let done : Writes t before (write.Written n) after =
-    record {
-      judgement = Sound;
-      right = (told .0, told .1);
-      answer = rw (le-ltb (length before) n (told .2));
-      buffer = told .3;
-    } in
-    let read = reads .reading in
+    writes-by t before Sound (write.Written n) after (sym (judged t Sound .1 (told .0, told .1)))
+    (rw (le-ltb (length before) n (told .2))) (told .3) in
+    let read = reading (take n after) in
     let count : w .length ≡ n = ap (λ (x : BurstWritten). x .length) (told .4) in
-    let right = subst (λ (k : ℕ). Read (take k after) read) count (reads .right) in
+    let right : Reads (take n after) r old new = subst (λ (k : ℕ). Reads (take k after) r old new) count reads in
     let fifteen : length (t .rows) ≡ 15 = let e = length-drop 3 ns in omega arith in
-    let back = reads-back t before after n read fifteen done right in
+    let back = reads-back t before after n fifteen done in
     let number : r .refused ≡ 0 =
-    ap (λ (x : BurstReading). x .refused) (reads .answer)
-    ∙ ap (λ (a : ReadAnswer). readingOf (numbers a) .refused) (back .0) in
+    ap (λ (x : BurstReading). x .refused) (right .answer)
+    ∙ ap (λ (a : ReadAnswer). readingOf (readNumbers a) .refused) (back .0) in
     let came : tableOf new ≡ read .table =
-    ap tableOf (reads .table ∙ given-back (r .refused) (read .table) old .0 number) ∙ table-back (read .table) in
+    ap tableOf (right .table ∙ given-back (r .refused) (read .table) old .0 number) ∙ table-back (read .table) in
     (number, subst (λ (u : Table). SameTable u t) (sym came) (back .2), subst Whole (sym came) (back .1))
 
 pub made-told : MADE-TOLD

@@ -1,4 +1,4 @@
--- The struct of numbers of an answer, made of the papers' numbers, which the crates below name: `numbers`,
+-- The struct of numbers of an answer, made of the papers' numbers, which the crates below name: `readNumbers`,
 -- `writeNumbers`, `madeNumbers` and `callNumbers`. What does not apply is 0.
 --
 --   numberOf ns       the refusal's number, or 0

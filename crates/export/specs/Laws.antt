@@ -1,7 +1,7 @@
 -- What the numbers tell a caller, of the promises in `Promises`.
 --
 --   READ-TOLD     reading: number 0 says that the bytes say a suitable table, which is given back; any other, that no
---                 number was written, and the place, or the triple, is the refusal's
+--                 number was written, and the place, or the triple, is the refusal's; the triple is the first
 --   ReadTold      what a reading tells
 --   WRITE-TOLD    writing: number 0 says that the table is fit and suitable, and its bytes were written; any other is
 --                 the first of 12, 10 and 16 that applies, and nothing was written
@@ -20,7 +20,8 @@ use mathlib.Core.List.{List, [], _∷_, _++_}
 use Prim.Native.Nat.{ℕ, _-_, _*_, _≤_, _<_}
 use lib.ListN.{length, getD, take, drop}
 use Rattle.tables.specs.declared.table.Table.{Table}
-use Rattle.tables.specs.Code.{Clashes, Suitable}
+use Rattle.tables.specs.Code.{Suitable}
+use Rattle.tables.specs.Clash.{First}
 use Rattle.tables.specs.Table.{rowsOf, sizesFit, fit, Whole, SameTable}
 use Rattle.tables.specs.Format.{parse, refused, parsed}
 use Rattle.tables.specs.Writing.{written, writtenLength}
@@ -47,7 +48,7 @@ pub record ReadTold (bytes : List ℕ) (r : BurstReading) (before after : List �
   pub placed : r .refused ≢ 0 → r .refused ≢ 10
       → (parse bytes ≡ refused (r .refused) (r .place)) × (r ≡ readingOf (r .refused ∷ r .place ∷ []))
   pub clashes : r .refused ≡ 10
-      → (t : Table) × (parse bytes ≡ parsed t) × Clashes (t .span) (rowsOf t) (r .l) (r .e0) (r .e1)
+      → (t : Table) × (parse bytes ≡ parsed t) × First (t .span) (rowsOf t) (r .l) (r .e0) (r .e1)
       × (r ≡ readingOf (10 ∷ r .l ∷ r .e0 ∷ r .e1 ∷ []))
 
 -- of any bytes, which are numbers below 256
@@ -65,7 +66,7 @@ pub record WriteTold (t : Table) (before : List ℕ) (r : BurstWritten) (after :
   pub left : r .refused ≢ 0 → after ≡ before
   pub unfit : r .refused ≡ 12 → (fit t ≡ false) × (r ≡ writtenOf (12 ∷ []))
   pub clashes : r .refused ≡ 10
-      → (fit t ≡ true) × Clashes (t .span) (rowsOf t) (r .l) (r .e0) (r .e1)
+      → (fit t ≡ true) × First (t .span) (rowsOf t) (r .l) (r .e0) (r .e1)
       × (r ≡ writtenOf (10 ∷ r .l ∷ r .e0 ∷ r .e1 ∷ []))
   pub short : r .refused ≢ 0 → r .refused ≢ 12 → r .refused ≢ 10
       → (fit t ≡ true) × Suitable (t .span) (rowsOf t) × (length before < writtenLength t) × (r ≡ writtenOf (16 ∷ []))

@@ -10,11 +10,10 @@
 use mathlib.Core.Path.{_≡_}
 use mathlib.Core.List.{List, [], _∷_}
 use Prim.Native.Nat.{ℕ}
+use lib.ListN.{length}
 use Rattle.tables.specs.declared.table.Table.{Table}
-use Rattle.tables.specs.declared.read.Reading.{Reading}
-use Rattle.tables.specs.Reading.{numbers, Read}
-use Rattle.tables.specs.declared.write.WriteAnswer.{WriteAnswer}
-use Rattle.tables.specs.Writing.{writeNumbers, Writes}
+use Rattle.tables.specs.Reading.{readNumbers, reading}
+use Rattle.tables.specs.Writing.{writeNumbers, writeAnswer, writeBuffer}
 use Rattle.tables.specs.Made.{making, madeNumbers}
 use Rattle.link.specs.Refusals.{startFault, coderFault, decoderFault, callNumbers}
 use Rattle.link.specs.Start.{startMemory}
@@ -27,20 +26,13 @@ use Rattle.export.specs.declared.decoded.BurstDecoded.{BurstDecoded}
 use Rattle.export.specs.Numbers.{givenBack}
 use Rattle.export.specs.Answers.{numberOf, readingOf, writtenOf, codedOf, decodedOf}
 
--- "Only the triple of refusal 10 is left free": there is a reading that is right of the bytes (`Read`), and these are
--- its numbers and, if it is no refusal, its table's
 pub record Reads (bytes : List ℕ) (r : BurstReading) (before after : List ℕ) : Type 0 where
-  pub reading : Reading
-  pub right : Read bytes reading
-  pub answer : r ≡ readingOf (numbers (reading .answer))
-  pub table : after ≡ givenBack (r .refused) (reading .table) before
+  pub answer : r ≡ readingOf (readNumbers (reading bytes .answer))
+  pub table : after ≡ givenBack (r .refused) (reading bytes .table) before
 
--- the same of writing: there is an answer that is right of the table and the lent bytes (`Writes`), and these are its
--- numbers
 pub record WritesBy (t : Table) (before : List ℕ) (r : BurstWritten) (after : List ℕ) : Type 0 where
-  pub writing : WriteAnswer
-  pub right : Writes t before writing after
-  pub answer : r ≡ writtenOf (writeNumbers writing)
+  pub answer : r ≡ writtenOf (writeNumbers (writeAnswer t (length before)))
+  pub buffer : after ≡ writeBuffer (writeAnswer t (length before)) t before
 
 pub record MakesTable (n m : ℕ) (before : List ℕ) (r : ℕ) (after : List ℕ) : Type 0 where
   pub number : r ≡ numberOf (madeNumbers (making n m .answer))

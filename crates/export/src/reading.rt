@@ -1,7 +1,7 @@
 // The answer of reading as numbers.
 use tables::read::ReadAnswer;
 ghost use mathlib.Core.Path.{_≡_};
-ghost use Rattle.tables.specs.Reading.{numbers};
+ghost use Rattle.tables.specs.Reading.{readNumbers};
 ghost use Rattle.export.specs.Answers.{readingOf};
 
 #[repr(C)]
@@ -14,7 +14,7 @@ pub struct BurstReading {
 }
 
 pub(crate) fn reading(answer: ReadAnswer) -> BurstReading
-    ensures { λ r. ⌜ r ≡ readingOf (numbers answer) ⌝ }
+    ensures { λ r. ⌜ r ≡ readingOf (readNumbers answer) ⌝ }
 {
     match answer {
         ReadAnswer::Accepted => BurstReading {

@@ -1,41 +1,48 @@
--- The examples T1 to T12, computed. That a small table is suitable is one test over all shifts and blocks. Assumes
--- nothing.
-use mathlib.Core.Path.{refl}
+-- The examples T1 to T12 and 02's two of first clashes, computed. Assumes nothing.
+use mathlib.Core.Path.{_≡_, refl}
 use mathlib.Core.Bool.{xor}
 use mathlib.Core.List.{[], _∷_}
+use mathlib.Core.Option.{orElse}
 use Prim.Native.Nat.{_-_}
 use lib.ListN.{replicate}
 use Rattle.span.specs.Word.{_⊕_, odd, bit, shifted}
 use Rattle.span.specs.Combination.{combination}
 use Rattle.span.specs.Relation.{leastFrom, leastCoefficients}
+use Rattle.tables.specs.declared.read.ReadAnswer.the-variants.{Accepted}
 use Rattle.tables.specs.Code.{image, shiftedImage}
 use Rattle.tables.specs.Table.{table, sizesFit, rowsFit, fit}
 use Rattle.tables.specs.Refusal.{firstOf}
 use Rattle.tables.specs.Format.{size, word, allGiven, unavailable, fault, place, sized, rowed, after, parseFrom, parse}
-use Rattle.tables.specs.Reading.{ReadNumbers}
+use Rattle.tables.specs.Clash.{firstFrom, clashOf, clashAt, firstClash}
+use Rattle.tables.specs.Reading.{reading}
 use Rattle.tables.specs.Made.{columns, upper, madeRow, madeRows, madeTable, making}
-use Rattle.tables.proofs.Every.{every}
-use Rattle.tables.proofs.Tested.{apart, apart-suitable, clashing, clash-here}
+use Rattle.tables.proofs.Tested.{clashing, clash-here}
 use Rattle.link.specs.Memory.{joining}
 use Rattle.link.specs.Refusals.{answered, leaves, stepFault, coderFault, someAbove, decoderFault}
 use Rattle.link.specs.Coder.{coderJoining, codedBlock, coderNext, codeAnswer, codeMemory}
 use Rattle.link.specs.Decoder.{decoderJoining, decoderRegister, decoderFound, partNext, decoderNext, delivered}
 use Rattle.link.specs.Decoder.{delivery, decodeAnswer, decodeMemory}
 use Rattle.link.specs.Computed.{Z, answersBy}
-use Rattle.link.specs.Examples.{bytesOfZ, EXAMPLES}
+use Rattle.link.specs.Examples.{Reads, bytesOfZ, EXAMPLES}
 
 -- T1
-z-read : ReadNumbers bytesOfZ (0 ∷ []) (Z 1)
+z-reading : reading bytesOfZ ≡ record { answer = Accepted; table = Z 1 }
 unfolding parse parseFrom fault firstOf size word allGiven unavailable place sized rowed after sizesFit image
-    shiftedImage combination shifted bit odd xor _⊕_ apart every
-z-read = (refl, apart-suitable 4 (10 ∷ 1 ∷ []) refl, refl)
+    shiftedImage combination shifted bit odd xor _⊕_ reading firstClash clashAt clashOf firstFrom orElse
+z-reading = refl
+
+pub z-accepted : (reading bytesOfZ .answer ≡ Accepted) × (reading bytesOfZ .table ≡ Z 1)
+z-accepted = rw z-reading (refl, refl)
+
+z-read : Reads bytesOfZ (0 ∷ []) (Z 1)
+z-read = rw z-reading (refl, refl)
 
 pub examples-hold : EXAMPLES
 unfolding parse parseFrom fault firstOf size word allGiven unavailable place sized rowed after sizesFit columns upper
-    madeRow madeRows madeTable making image shiftedImage combination shifted bit odd xor _⊕_ apart every clashing
-    answersBy codeAnswer codeMemory answered leaves stepFault coderFault coderJoining codedBlock coderNext decodeAnswer
-    decodeMemory decoderFault decoderJoining decoderRegister decoderFound partNext decoderNext delivered delivery
-    someAbove joining leastFrom leastCoefficients rowsFit fit
+    madeRow madeRows madeTable making image shiftedImage combination shifted bit odd xor _⊕_ clashing reading firstClash
+    clashAt clashOf firstFrom orElse answersBy codeAnswer codeMemory answered leaves stepFault coderFault coderJoining
+    codedBlock coderNext decodeAnswer decodeMemory decoderFault decoderJoining decoderRegister decoderFound partNext
+    decoderNext delivered delivery someAbove joining leastFrom leastCoefficients rowsFit fit
 examples-hold = (
   z-read,
   (
@@ -47,9 +54,9 @@ examples-hold = (
         (
           (refl, refl),
           (
-            (table 2 4 1 (2 ∷ replicate 14 0), refl, clash-here 4 (2 ∷ 1 ∷ []) 1 1 2 refl, refl, refl),
+            (table 2 4 1 (2 ∷ replicate 14 0), refl, clash-here 4 (2 ∷ 1 ∷ []) 1 1 2 refl, refl),
             (
-              (refl, apart-suitable 6 (56 ∷ 34 ∷ 1 ∷ []) refl, refl),
+              (refl, refl),
               (
                 refl,
                 (
@@ -62,9 +69,11 @@ examples-hold = (
                         refl,
                         clash-here 10 (976 ∷ 904 ∷ 772 ∷ 514 ∷ 1 ∷ []) 3 3 26 refl,
                         refl,
-                        refl,
                       ),
-                      ((Z 1, z-read, refl), ((Z 1, z-read, refl), ((Z 1, z-read, refl), tt))),
+                      (
+                        (Z 1, z-read, refl),
+                        ((Z 1, z-read, refl), ((Z 1, z-read, refl), ((refl, refl), ((refl, refl), tt)))),
+                      ),
                     ),
                   ),
                 ),

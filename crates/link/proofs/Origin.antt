@@ -13,6 +13,7 @@ use Rattle.span.specs.Combination.{Below}
 use Rattle.tables.specs.declared.table.Table.{Table}
 use Rattle.tables.specs.Code.{Suitable}
 use Rattle.tables.specs.Table.{rowsOf, fit, infoRows}
+use Rattle.tables.specs.Reading.{reading}
 use Rattle.tables.proofs.Reading.{accepted-suitable}
 use Rattle.tables.proofs.Made.{made}
 use Rattle.link.specs.Recovery.{Origin}
@@ -27,9 +28,9 @@ record Known (t : Table) : Type 0 where
   suits : Suitable (t .span) (rowsOf t)
 
 origin-known : (t : Table) → Origin t → Known t
-origin-known t (inl (bytes, r, reads, accepted, same)) =
-    let a = accepted-suitable bytes r reads accepted in
-    subst Known same (record { fits = a .1; room = parse-room bytes (r .table) (a .0); suits = a .2 })
+origin-known t (inl (bytes, accepted, same)) =
+    let a = accepted-suitable bytes accepted in
+    subst Known same (record { fits = a .1; room = parse-room bytes (reading bytes .table) (a .0); suits = a .2 })
 origin-known t (inr (n, m, answer, same)) =
     let a = made n m answer in
     subst Known same (record { fits = a .3; room = making-room n m; suits = a .4 })

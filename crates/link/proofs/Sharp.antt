@@ -10,13 +10,11 @@ use lib.ListN.{length, getD, replicate, length-replicate, List·getD-map}
 use Rattle.span.specs.Word.{_⊕_, odd, bit}
 use Rattle.span.specs.Combination.{combination}
 use Rattle.span.specs.Relation.{leastFrom, leastCoefficients}
-use Rattle.tables.specs.declared.read.ReadAnswer.the-variants.{Accepted}
 use Rattle.tables.specs.declared.table.Table.{Table}
 use Rattle.tables.specs.Table.{sizesFit, rowsFit, fit}
 use Rattle.tables.specs.Refusal.{firstOf}
 use Rattle.tables.proofs.Fit.{zeros-at}
-use Rattle.tables.specs.Reading.{reading}
-use Rattle.link.proofs.Examples.{examples-hold}
+use Rattle.link.proofs.Examples.{z-accepted}
 use Rattle.link.specs.declared.decode.DecodeAnswer.{DecodeAnswer}
 use Rattle.link.specs.declared.decode.DecodeAnswer.the-variants.{NothingYet}
 use Rattle.link.specs.declared.decode.Mark.{Mark}
@@ -135,7 +133,7 @@ sharp-runs = computed .0
 
 -- T1
 Z-origin : Origin (Z 1)
-Z-origin = inl (bytesOfZ, reading Accepted (Z 1), examples-hold .0, refl, refl)
+Z-origin = inl (bytesOfZ, z-accepted .0, z-accepted .1)
 
 Z-fits : fit (Z 1) ≡ true
 unfolding fit sizesFit rowsFit

@@ -20,7 +20,7 @@ use Rattle.span.proofs.Word.{xor-eq, xor-self, xor-lt, shifted-zero}
 use Rattle.span.proofs.Combination.{combination-zero, combination-xor, combination-lt}
 use Rattle.span.proofs.Relation.{least-coefficients}
 use Rattle.tables.specs.Code.{Suitable}
-use Rattle.tables.proofs.Clash.{alike}
+use Rattle.tables.proofs.Image.{alike}
 
 -- The rows of a code of n symbols and span w + 1: those of the information, and the parity's, 1.
 pub record Corrects (n w : ℕ) (rows : List ℕ) : Type 0 where

@@ -27,10 +27,9 @@ use mathlib.Core.List.{List, [], _∷_}
 use Prim.Native.Nat.{ℕ, _+_, _-_, _*_, _≤_, _<_}
 use lib.ListN.{length}
 use Rattle.tables.specs.declared.table.Table.{Table}
-use Rattle.tables.specs.declared.read.Reading.{Reading}
 use Rattle.tables.specs.declared.read.ReadAnswer.the-variants.{Accepted}
 use Rattle.tables.specs.declared.make.MakeAnswer.the-variants.{Made}
-use Rattle.tables.specs.Reading.{Read}
+use Rattle.tables.specs.Reading.{reading}
 use Rattle.tables.specs.Made.{making}
 use Rattle.link.specs.declared.decode.Mark.{Mark}
 use Rattle.link.specs.declared.decode.Mark.the-variants.{Doubtful}
@@ -44,7 +43,7 @@ use Rattle.link.specs.Runs.{coderAfter, decoderAfter}
 -- that making returned, with the n and m asked for and the rows given above."
 abbrev pub Origin : Table → Type 0
 Origin t =
-    ((bytes : List ℕ) × (r : Reading) × Read bytes r × (r .answer ≡ Accepted) × (r .table ≡ t))
+    ((bytes : List ℕ) × (reading bytes .answer ≡ Accepted) × (reading bytes .table ≡ t))
     ⊎ ((n : ℕ) × (m : ℕ) × (making n m .answer ≡ Made) × (making n m .table ≡ t))
 
 -- "Place p is right if taken block p equals sent block p, otherwise wrong."

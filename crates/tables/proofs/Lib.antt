@@ -1,6 +1,9 @@
 -- The laws of the crate, the lowest file first; a crate above sees those that are public.
 pub mod Fit
+pub mod Image
 pub mod Clash
+mod ClashWords
+pub mod Judging
 pub mod Every
 pub mod Tested
 pub mod Refusal

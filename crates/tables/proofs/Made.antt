@@ -8,6 +8,7 @@ use mathlib.Core.Path.{_≡_, refl, sym, ap, ap₂, _∙_, subst}
 use mathlib.Core.Bool.{Bool, true, false, xor, _&&_, true≢false, false≢true, cond}
 use mathlib.Core.Logic.{_≢_, _↔_}
 use mathlib.Core.List.{List, [], _∷_, _++_}
+use mathlib.Core.Option.{orElse}
 use Prim.Native.Nat.{ℕ, zero, suc, _+_, _-_, _*_, _^_, _≤_, _<_}
 use native.Mathlib.Nat.{le-refl}
 use native.Mathlib.Omega.{arith}
@@ -22,13 +23,14 @@ use Rattle.tables.specs.declared.table.Table.{Table}
 use Rattle.tables.specs.declared.make.MakeAnswer.the-variants.{Made, OutOfRange}
 use Rattle.tables.specs.declared.make.Making.{Making}
 use Rattle.tables.specs.Code.{image, shiftedImage, Suitable}
+use Rattle.tables.specs.Clash.{firstFrom, clashOf, clashAt, firstClash}
 use Rattle.tables.specs.Triangle.{FORCED, UNIQUE, another, NOT-UNIQUE, OUR-TRIANGLE, MADE, MADE-DEPTH}
 use Rattle.tables.specs.Table.{table, zeroTable, rowsOf, sizesFit, rowsFit, fit}
 use Rattle.tables.specs.Made.{columns, upper, madeRow, madeRows, triangleRows, Triangle, madeTable, making}
 use Rattle.tables.proofs.Fit.{and-left, and-right, Fits, sizes-of, sizes-fit-of, rows-fit-of}
 use Rattle.tables.proofs.Triangle.{made-length, triangular}
 use Rattle.tables.proofs.Every.{every, every-at}
-use Rattle.tables.proofs.Tested.{apart, apart-suitable}
+use Rattle.tables.proofs.Clash.{no-clash}
 use Rattle.tables.proofs.Filling.{one-suitable, filling, filled}
 
 -- ---- the certificate
@@ -331,8 +333,9 @@ our-columns = (columns-length, λ n to. our-triangle (n - 1) (omega arith))
 -- ---- another triangle
 
 another-suitable : Suitable 10 (triangleRows another 5)
-unfolding apart every image shiftedImage combination shifted madeRows madeRow upper bit odd xor _⊕_
-another-suitable = apart-suitable 10 (triangleRows another 5) refl
+unfolding firstClash clashAt clashOf firstFrom orElse image shiftedImage combination shifted madeRows madeRow upper bit
+    odd xor _⊕_
+another-suitable = no-clash 10 (triangleRows another 5) .0 refl
 
 another-in-place : every (λ i. ltb (getD another i 0) (2 ^ suc i)) 4 ≡ true
 unfolding every

@@ -1,8 +1,9 @@
--- What the two parts of a reading, the parse and the judgement, say together. Assumes nothing.
-use mathlib.Core.Path.{_≡_, refl, sym, _∙_, subst}
+-- What the two parts of a reading, the parse and the first clash, say together. Assumes nothing.
+use mathlib.Core.Path.{_≡_, refl, sym, ap, _∙_, subst}
 use mathlib.Core.Bool.{Bool, true, false, false≢true, cond}
 use mathlib.Core.Logic.{_≢_}
 use mathlib.Core.List.{List, [], _∷_}
+use mathlib.Core.Option.{Option, none, some}
 use Prim.Native.Nat.{ℕ, zero, suc, _+_, _≤_, _<_}
 use native.Mathlib.Omega.{arith}
 use borrow.Author.Tests.{eqb-true, eqb-false, ltb-true}
@@ -11,60 +12,130 @@ use lib.ListN.{length, drop, length-drop}
 use Rattle.tables.specs.declared.table.Table.{Table}
 use Rattle.tables.specs.declared.judge.Judgement.{Judgement}
 use Rattle.tables.specs.declared.judge.Judgement.the-variants.{Unfit, Clash, Sound}
-use Rattle.tables.specs.declared.read.ReadAnswer.{ReadAnswer}
 use Rattle.tables.specs.declared.read.ReadAnswer.the-variants.{Accepted, Refused, Unsuitable}
 use Rattle.tables.specs.declared.read.Reading.{Reading}
-use Rattle.tables.specs.Code.{Clashes, Suitable, Unsuitable as CodeUnsuitable}
-use Rattle.tables.specs.Table.{rowsOf, zeroTable}
-use Rattle.tables.specs.Judging.{Judges}
+use Rattle.tables.specs.Code.{Suitable, Unsuitable as CodeUnsuitable}
+use Rattle.tables.specs.Clash.{Triple, firstClash, First}
+use Rattle.tables.specs.Table.{rowsOf, zeroTable, fit}
+use Rattle.tables.specs.Judging.{judging}
 use Rattle.tables.specs.declared.read.Progress.{Progress}
 use Rattle.tables.specs.Format.{kind, size, ended, unknown, cut, misplaced, sizesOut, misnumbered, tooLong}
 use Rattle.tables.specs.Format.{missing, followed, fault, place, after, begun, Parse, refused, parsed, parseFrom}
 use Rattle.tables.specs.Format.{parse}
-use Rattle.tables.specs.Reading.{numbers, reading, ReadNumbers, Read, ACCEPTED-SUITABLE, SUITABLE-ACCEPTED}
-use Rattle.tables.specs.Reading.{REFUSED-RANGE, REFUSED-PLACE, REFUSED-NUMBERS, REFUSED-UNSUITABLE}
-use Rattle.tables.specs.Reading.{UNSUITABLE-NUMBERS}
+use Rattle.tables.specs.Reading.{readNumbers, readTable, readParse, reading, clashResult, readResult, Read}
+use Rattle.tables.specs.Reading.{ACCEPTED-SUITABLE, SUITABLE-ACCEPTED, REFUSED-RANGE, REFUSED-PLACE}
+use Rattle.tables.specs.Reading.{REFUSED-NUMBERS, REFUSED-UNSUITABLE, UNSUITABLE-NUMBERS}
+use Rattle.tables.proofs.Clash.{first-clash, no-clash}
+use Rattle.tables.proofs.Judging.{judged}
 use Rattle.tables.proofs.Progress.{parse-fit, never-refused}
 use Rattle.tables.proofs.Fit.{and-right}
 use Rattle.tables.proofs.Format.{fault-sound, fault-ended, size-some, sound-whole}
 use Rattle.tables.proofs.Refusal.{first-range, first-applies}
 
--- a parse that is no table is the reading
-pub refused-read : (bytes : List ℕ) (k p : ℕ) (r : Reading) → parse bytes ≡ refused k p
-    → r ≡ reading (Refused k p) zeroTable → Read bytes r
-refused-read bytes k p r q e = rw e (q, refl)
+-- ---- by the parse
 
--- a table that parses and has no clash is accepted
-pub sound-accepted : (bytes : List ℕ) (t : Table) (j : Judgement) → parse bytes ≡ parsed t → Judges t j
+reading-refused : (bytes : List ℕ) (k p : ℕ) → parse bytes ≡ refused k p
+    → reading bytes ≡ record { answer = Refused k p; table = zeroTable }
+unfolding reading
+reading-refused bytes k p e = ap readParse e
+
+reading-parsed : (bytes : List ℕ) (t : Table) → parse bytes ≡ parsed t
+    → reading bytes ≡ readTable t (firstClash (t .span) (rowsOf t))
+unfolding reading
+reading-parsed bytes t e = ap readParse e
+
+-- the answer that is given, and its numbers
+pub read-by : (bytes : List ℕ) (p : Parse) (r : Reading) → parse bytes ≡ p → r ≡ readParse p → Read bytes r
+unfolding reading
+read-by bytes p r q e = record {
+  answer = e ∙ ap readParse (sym q);
+  numbers = ap (λ (x : Reading). readNumbers (x .answer)) e ∙ numbers-due p ∙ ap readResult (sym q);
+}
+  where
+    clash-due : (t : Table) (o : Option Triple) → readNumbers (readTable t o .answer) ≡ clashResult o
+    clash-due t none = refl
+    clash-due t (some c) = refl
+
+    numbers-due : (p : Parse) → readNumbers (readParse p .answer) ≡ readResult p
+    numbers-due (refused k p) = refl
+    numbers-due (parsed t) = clash-due t (firstClash (t .span) (rowsOf t))
+
+-- ---- by the judgement
+
+pub clash-read : (t : Table) (l e0 e1 : ℕ) → judging t ≡ Clash l e0 e1
+    → readParse (parsed t) ≡ record { answer = Unsuitable l e0 e1; table = zeroTable }
+clash-read t l e0 e1 e =
+    ap (readTable t) (first-clash (t .span) (rowsOf t) l e0 e1 .1 (judged t (Clash l e0 e1) .0 e .1))
+
+-- a fit table that has no clash
+pub sound-read : (t : Table) (j : Judgement) → fit t ≡ true → judging t ≡ j
     → ((l e0 e1 : ℕ) → j ≡ Clash l e0 e1 → ⊥)
-    → Read bytes (reading Accepted t)
-sound-accepted bytes t Unfit q w n = absurd (false≢true (sym w ∙ parse-fit bytes t q))
-sound-accepted bytes t (Clash l e0 e1) q w n = absurd (n l e0 e1 refl)
-sound-accepted bytes t Sound q w n = (q, w .1, refl)
+    → readParse (parsed t) ≡ record { answer = Accepted; table = t }
+sound-read t Unfit f e n = absurd (false≢true (sym (judged t Unfit .0 e) ∙ f))
+sound-read t (Clash l e0 e1) f e n = absurd (n l e0 e1 refl)
+sound-read t Sound f e n = ap (readTable t) (no-clash (t .span) (rowsOf t) .1 (judged t Sound .0 e .1))
 
-read-accepted : (bytes : List ℕ) (a : ReadAnswer) (t : Table) → ReadNumbers bytes (numbers a) t → a ≡ Accepted
-    → (parse bytes ≡ parsed t) × Suitable (t .span) (rowsOf t)
-read-accepted bytes Accepted t s e = (s .0, s .1)
-read-accepted bytes (Refused k p) t s e = let z : _≡_ {A = ℕ} 0 1 = cc in absurd (omega arith)
-read-accepted bytes (Unsuitable l e0 e1) t s e = let z : _≡_ {A = ℕ} 0 1 = cc in absurd (omega arith)
+-- ---- a table that was parsed
 
-read-suitable : (bytes : List ℕ) (t : Table) (a : ReadAnswer) (u : Table) → ReadNumbers bytes (numbers a) u
-    → parse bytes ≡ parsed t → Suitable (t .span) (rowsOf t)
-    → reading a u ≡ reading Accepted t
-read-suitable bytes t Accepted u s e f = let q : parsed u ≡ parsed t = sym (s .0) ∙ e in cc
-read-suitable bytes t (Refused k p) u s e f = never-refused (sym (s .0) ∙ e)
-read-suitable bytes t (Unsuitable l e0 e1) u s e f =
-    let q : parsed (s .0) ≡ parsed t = sym (s .1) ∙ e in
-    let same : s .0 ≡ t = cc in
-    absurd (f l e0 e1 (rw same at (s .2)))
+accepted-by : (bytes : List ℕ) (p : Parse) → parse bytes ≡ p → readParse p .answer ≡ Accepted →
+    let t = readParse p .table in
+    (parse bytes ≡ parsed t) × Suitable (t .span) (rowsOf t)
+accepted-by bytes (refused k p) q a = let z : _≡_ {A = ℕ} 0 1 = cc in absurd (omega arith)
+accepted-by bytes (parsed t) q a = go (firstClash (t .span) (rowsOf t)) refl a
+  where
+    go : (o : Option Triple) → firstClash (t .span) (rowsOf t) ≡ o → readTable t o .answer ≡ Accepted →
+        let u = readTable t o .table in
+        (parse bytes ≡ parsed u) × Suitable (u .span) (rowsOf u)
+    go none e a = (q, no-clash (t .span) (rowsOf t) .0 e)
+    go (some c) e a = let z : _≡_ {A = ℕ} 0 1 = cc in absurd (omega arith)
 
 pub accepted-suitable : ACCEPTED-SUITABLE
-accepted-suitable bytes r s a =
-    let s' = read-accepted bytes (r .answer) (r .table) s a in
-    (s' .0, parse-fit bytes (r .table) (s' .0), s' .1)
+unfolding reading
+accepted-suitable bytes a =
+    let s = accepted-by bytes (parse bytes) refl a in
+    (s .0, parse-fit bytes (reading bytes .table) (s .0), s .1)
 
 pub suitable-accepted : SUITABLE-ACCEPTED
-suitable-accepted bytes t r s e f = read-suitable bytes t (r .answer) (r .table) s e f
+suitable-accepted bytes t e suits =
+    reading-parsed bytes t e ∙ ap (readTable t) (no-clash (t .span) (rowsOf t) .1 suits)
+
+unsuitable-by : (bytes : List ℕ) (l e0 e1 : ℕ) (p : Parse) → parse bytes ≡ p → readParse p .answer ≡ Unsuitable l e0 e1
+    → (t : Table) × (parse bytes ≡ parsed t) × First (t .span) (rowsOf t) l e0 e1 × CodeUnsuitable (t .span) (rowsOf t)
+unsuitable-by bytes l e0 e1 (refused k p) q a = let z : _≡_ {A = ℕ} 0 1 = cc in absurd (omega arith)
+unsuitable-by bytes l e0 e1 (parsed t) q a = go (firstClash (t .span) (rowsOf t)) refl a
+  where
+    go : (o : Option Triple) → firstClash (t .span) (rowsOf t) ≡ o → readTable t o .answer ≡ Unsuitable l e0 e1
+        → (t : Table) × (parse bytes ≡ parsed t) × First (t .span) (rowsOf t) l e0 e1
+        × CodeUnsuitable (t .span) (rowsOf t)
+    go none e a = let z : _≡_ {A = ℕ} 0 1 = cc in absurd (omega arith)
+    go (some c) e a =
+        let shifts : c .l ≡ l = cc in
+        let firsts : c .e0 ≡ e0 = cc in
+        let seconds : c .e1 ≡ e1 = cc in
+        let first : First (t .span) (rowsOf t) l e0 e1 =
+        rw (shifts, firsts, seconds) at (first-clash (t .span) (rowsOf t) (c .l) (c .e0) (c .e1) .0 e) in
+        (t, q, first, (l, e0, e1, first .clashes))
+
+pub refused-unsuitable : REFUSED-UNSUITABLE
+unfolding reading
+refused-unsuitable bytes l e0 e1 a = unsuitable-by bytes l e0 e1 (parse bytes) refl a
+
+pub unsuitable-numbers : UNSUITABLE-NUMBERS
+unsuitable-numbers bytes t q f = go (firstClash (t .span) (rowsOf t)) refl
+  where
+    go : (o : Option Triple) → firstClash (t .span) (rowsOf t) ≡ o
+        → (l : ℕ) × (e0 : ℕ) × (e1 : ℕ) × (readNumbers (reading bytes .answer) ≡ 10 ∷ l ∷ e0 ∷ e1 ∷ [])
+        × First (t .span) (rowsOf t) l e0 e1 × (reading bytes .table ≡ zeroTable)
+    go none e = absurd (f (no-clash (t .span) (rowsOf t) .0 e))
+    go (some c) e =
+        let r = reading-parsed bytes t q ∙ ap (readTable t) e in (
+          c .l,
+          c .e0,
+          c .e1,
+          ap (λ (x : Reading). readNumbers (x .answer)) r,
+          first-clash (t .span) (rowsOf t) (c .l) (c .e0) (c .e1) .0 e,
+          ap (λ (x : Reading). x .table) r,
+        )
 
 -- ---- the numbers of a parse that is refused
 
@@ -124,7 +195,7 @@ fault-nine g s e =
 
 place-here : (p : ℕ) (g : Progress) (s : List ℕ) → fault g s ≢ 0 → Placed p s (fault g s) (place (fault g s) p)
 unfolding place
-place-here p g s some = go (eqb (fault g s) 9) refl
+place-here p g s fails = go (eqb (fault g s) 9) refl
   where
     go : (b : Bool) → eqb (fault g s) 9 ≡ b → Placed p s (fault g s) (cond b (p + 1) p)
     go true e =
@@ -133,7 +204,7 @@ place-here p g s some = go (eqb (fault g s) 9) refl
         (omega arith, λ one. absurd (omega arith), λ other. omega arith)
     go false e = (
       omega arith,
-      λ one. let none = fault-one g s one in omega arith,
+      λ one. let empty = fault-one g s one in omega arith,
       λ other. let l : length s ≢ 0 = (λ z. other (fault-ended g s z)) in omega arith,
     )
 
@@ -163,7 +234,7 @@ place-from (suc left) p g s k q h e =
         let f = eqb-true (fault g s) 0 z in
         let whole = sound-whole g s (fault-sound g s f) in
         let d = length-drop n s in
-        let some = size-some (kind s) in
+        let size-from = size-some (kind s) in
         let r = rest (omega arith) e in
         (omega (arith, r .0), λ one. omega (arith, r .1 one), λ other. omega (arith, r .2 other))
     go false z b rest e =
@@ -178,46 +249,23 @@ refused-place bytes k p e =
     let r = place-from (length bytes) 0 begun bytes k p (omega arith) e in
     (omega (arith, r .0), λ one. omega (arith, r .1 one), λ other. omega (arith, r .2 other))
 
-read-refused : (bytes : List ℕ) (k p : ℕ) (a : ReadAnswer) (u : Table) → ReadNumbers bytes (numbers a) u
-    → parse bytes ≡ refused k p
-    → (numbers a ≡ k ∷ p ∷ []) × (u ≡ zeroTable)
-read-refused bytes k p Accepted u s e = never-refused (sym e ∙ s .0)
-read-refused bytes k p (Refused i q) u s e = let h : refused i q ≡ refused k p = sym (s .0) ∙ e in (cc, s .1)
-read-refused bytes k p (Unsuitable l e0 e1) u s e = never-refused (sym e ∙ s .1)
+-- a place is answered of a parse that is refused only
+pub refused-parse : (bytes : List ℕ) (k p : ℕ) → reading bytes .answer ≡ Refused k p → parse bytes ≡ refused k p
+unfolding reading
+refused-parse bytes k p a = go (parse bytes) refl a
+  where
+    table : (t : Table) (o : Option Triple) → readTable t o .answer ≡ Refused k p → parse bytes ≡ refused k p
+    table t none a = let z : _≡_ {A = ℕ} 0 1 = cc in absurd (omega arith)
+    table t (some c) a = let z : _≡_ {A = ℕ} 0 1 = cc in absurd (omega arith)
+
+    go : (q : Parse) → parse bytes ≡ q → readParse q .answer ≡ Refused k p → parse bytes ≡ refused k p
+    go (refused i at) e a =
+        let numbers : i ≡ k = cc in
+        let places : at ≡ p = cc in
+        cc
+    go (parsed t) e a = table t (firstClash (t .span) (rowsOf t)) a
 
 pub refused-numbers : REFUSED-NUMBERS
-refused-numbers bytes k p r s e = read-refused bytes k p (r .answer) (r .table) s e
-
-read-unsuitable : (bytes : List ℕ) (l e0 e1 : ℕ) (a : ReadAnswer) (u : Table) → ReadNumbers bytes (numbers a) u
-    → a ≡ Unsuitable l e0 e1
-    → (t : Table) × (parse bytes ≡ parsed t) × Clashes (t .span) (rowsOf t) l e0 e1
-    × CodeUnsuitable (t .span) (rowsOf t)
-read-unsuitable bytes l e0 e1 Accepted u s e = let z : _≡_ {A = ℕ} 0 1 = cc in absurd (omega arith)
-read-unsuitable bytes l e0 e1 (Refused k p) u s e = let z : _≡_ {A = ℕ} 0 1 = cc in absurd (omega arith)
-read-unsuitable bytes l e0 e1 (Unsuitable i d0 d1) u s e =
-    let t = s .0 in
-    let il : i ≡ l = cc in
-    let i0 : d0 ≡ e0 = cc in
-    let i1 : d1 ≡ e1 = cc in
-    let clash : Clashes (t .span) (rowsOf t) l e0 e1 = rw (il, i0, i1) at (s .2) in
-    (t, s .1, clash, (l, e0, e1, clash))
-
-pub refused-unsuitable : REFUSED-UNSUITABLE
-refused-unsuitable bytes l e0 e1 r s e = read-unsuitable bytes l e0 e1 (r .answer) (r .table) s e
-
-read-clash : (bytes : List ℕ) (t : Table) (a : ReadAnswer) (u : Table) → ReadNumbers bytes (numbers a) u
-    → parse bytes ≡ parsed t → (Suitable (t .span) (rowsOf t) → ⊥)
-    → (l : ℕ) × (e0 : ℕ) × (e1 : ℕ) × (numbers a ≡ 10 ∷ l ∷ e0 ∷ e1 ∷ []) × Clashes (t .span) (rowsOf t) l e0 e1
-    × (u ≡ zeroTable)
-read-clash bytes t Accepted u s e f =
-    let q : parsed u ≡ parsed t = sym (s .0) ∙ e in
-    let same : u ≡ t = cc in
-    absurd (f (rw same at (s .1)))
-read-clash bytes t (Refused k p) u s e f = never-refused (sym (s .0) ∙ e)
-read-clash bytes t (Unsuitable l e0 e1) u s e f =
-    let q : parsed (s .0) ≡ parsed t = sym (s .1) ∙ e in
-    let same : s .0 ≡ t = cc in
-    (l, e0, e1, refl, rw same at (s .2), s .3)
-
-pub unsuitable-numbers : UNSUITABLE-NUMBERS
-unsuitable-numbers bytes t r s e f = read-clash bytes t (r .answer) (r .table) s e f
+refused-numbers bytes k p e =
+    let r = reading-refused bytes k p e in
+    (ap (λ (x : Reading). readNumbers (x .answer)) r, ap (λ (x : Reading). x .table) r)

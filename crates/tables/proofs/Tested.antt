@@ -1,45 +1,15 @@
--- Suitability by a computed test, of small tables: over all shifts and blocks; and a clash by its triple. Assumes
--- nothing.
-use mathlib.Core.Path.{_≡_, sym, ap, _∙_}
-use mathlib.Core.Bool.{Bool, true, not, _&&_}
+-- A clash by its triple, which is computed. Assumes nothing.
+use mathlib.Core.Path.{_≡_}
+use mathlib.Core.Bool.{Bool, true, _&&_}
 use mathlib.Core.List.{List}
-use Prim.Native.Nat.{ℕ, suc, _-_, _^_}
+use Prim.Native.Nat.{ℕ, _^_}
 use native.Mathlib.Omega.{arith}
-use borrow.Author.Tests.{leb-true, ltb-true, eqb-true, eqb-false, not-true}
+use borrow.Author.Tests.{leb-true, ltb-true, eqb-true}
 use lib.Dec.{leb, ltb, eqb}
 use lib.ListN.{length}
-use Rattle.tables.specs.Code.{image, shiftedImage, Clashes, Suitable}
+use Rattle.tables.specs.Code.{image, shiftedImage, Clashes}
 use Rattle.tables.proofs.Fit.{and-left, and-right}
-use Rattle.tables.proofs.Every.{every, every-at}
 
--- no shift and no pair of blocks clash: shifts from 1, first blocks from 1
-unfoldable pub apart : ℕ → List ℕ → Bool
-apart N rows =
-    every
-    (λ l. every (λ e0. every (λ e1. not (eqb (image rows (suc e0)) (shiftedImage N rows (suc l) e1))) (2 ^ length rows))
-    (2 ^ length rows - 1)) (N - 1)
-
-pub apart-suitable : (N : ℕ) (rows : List ℕ) → apart N rows ≡ true → Suitable N rows
-unfolding apart
-apart-suitable N rows t l e0 e1 k =
-    let n = length rows in
-    let some = k .first-some in
-    let block = k .first-block in
-    let from = k .shift-from in
-    let to = k .shift-to in
-    let shift : suc (l - 1) ≡ l = omega arith in
-    let first : suc (e0 - 1) ≡ e0 = omega arith in
-    let test : ℕ → ℕ → ℕ → Bool = λ a b c. not (eqb (image rows (suc b)) (shiftedImage N rows (suc a) c)) in
-    let here : test (l - 1) (e0 - 1) e1 ≡ true =
-    every-at (test (l - 1) (e0 - 1)) (2 ^ n)
-    (every-at (λ b. every (test (l - 1) b) (2 ^ n)) (2 ^ n - 1)
-    (every-at (λ a. every (λ b. every (test a b) (2 ^ n)) (2 ^ n - 1)) (N - 1) t (l - 1) (omega arith)) (e0 - 1)
-    (omega arith)) e1 (k .second-block)
-    in
-    eqb-false (image rows (suc (e0 - 1))) (shiftedImage N rows (suc (l - 1)) e1) (not-true _ here)
-    (ap (image rows) first ∙ k .alike ∙ ap (λ (a : ℕ). shiftedImage N rows a e1) (sym shift))
-
--- one triple that clashes
 unfoldable pub clashing : ℕ → List ℕ → ℕ → ℕ → ℕ → Bool
 clashing N rows l e0 e1 =
     leb 1 l && ltb l N && leb 1 e0 && ltb e0 (2 ^ length rows) && ltb e1 (2 ^ length rows)

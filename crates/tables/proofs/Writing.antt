@@ -1,6 +1,6 @@
 -- What is written reads back, tells tables apart, and is the file that was read with its rows sorted. Assumes nothing.
 use mathlib.Core.Path.{_≡_, refl, sym, ap, subst, _∙_}
-use mathlib.Core.Bool.{Bool, true, false, cond, false≢true}
+use mathlib.Core.Bool.{Bool, true, false, cond}
 use mathlib.Core.List.{List, [], _∷_, _++_, map, flatMap}
 use Prim.Native.Nat.{ℕ, zero, suc, _+_, _-_, _*_, _≤_, _<_}
 use native.Mathlib.Omega.{arith}
@@ -14,16 +14,17 @@ use Rattle.tables.specs.declared.judge.Judgement.the-variants.{Unfit, Cl
 use Rattle.tables.specs.declared.read.ReadAnswer.the-variants.{Accepted}
 use Rattle.tables.specs.declared.write.WriteAnswer.{WriteAnswer}
 use Rattle.tables.specs.declared.write.WriteAnswer.the-variants.{Written as WrittenBytes, Refused, Unsuitable}
-use Rattle.tables.specs.Code.{Clashes, Suitable}
+use Rattle.tables.specs.Code.{Suitable}
 use Rattle.tables.specs.Table.{table, infoRows, codeRows, rowsOf, fit, SameTable}
-use Rattle.tables.specs.Judging.{Judges}
+use Rattle.tables.specs.Judging.{judging}
 use Rattle.tables.specs.Format.{parsed, parse}
 use Rattle.tables.specs.Reading.{reading}
 use Rattle.tables.specs.Written.{bytesOf, sizesRecord, rowRecord, rowRecords, EachOnce}
-use Rattle.tables.specs.Writing.{ascending, written, writtenLength, writeNumbers, writeResult, writeBuffer}
-use Rattle.tables.specs.Writing.{Writes, rowNumber, sorted, recordsIn, sortedFile}
+use Rattle.tables.specs.Writing.{ascending, written, writtenLength, writeNumbers, writeBy, writeAnswer}
+use Rattle.tables.specs.Writing.{writeResult, writeBuffer, Writes, rowNumber, sorted, recordsIn, sortedFile}
 use Rattle.tables.specs.Writing.{SOUND-WRITTEN, READS-BACK, SAME-BYTES, ACCEPTED-BYTES, FILE-SORTED, WRITES-SAME}
 use Rattle.tables.proofs.Fit.{fit-facts, fit-same, code-rows-same}
+use Rattle.tables.proofs.Judging.{judged}
 use Rattle.tables.proofs.Reading.{accepted-suitable, suitable-accepted}
 use Rattle.tables.proofs.Parsed.{parse-room}
 use Rattle.tables.proofs.Written.{written-parsed, parses-exactly}
@@ -31,36 +32,39 @@ use Rattle.tables.proofs.Stores.{records-length, ascending-length, writ
 use Rattle.tables.proofs.Same.{trimmed, trimmed-same, trimmed-whole, same-row, whole-same, sizes-are}
 use Rattle.tables.proofs.Sorted.{sortedNumbers, sorted-map, sorted-length, each-once, sorted-once}
 
--- ---- an answer by its numbers
+-- ---- by the judgement
 
-pub same-answer : (a b : WriteAnswer) → writeNumbers a ≡ writeNumbers b → a ≡ b
-same-answer (WrittenBytes c) (WrittenBytes d) e = ap WrittenBytes (ap (λ (l : List ℕ). getD l 1 0) e)
-same-answer (WrittenBytes c) (Refused k) e = absurd (omega (arith, ap length e))
-same-answer (WrittenBytes c) (Unsuitable l e0 e1) e = absurd (omega (arith, ap length e))
-same-answer (Refused k) (WrittenBytes c) e = absurd (omega (arith, ap length e))
-same-answer (Refused k) (Refused i) e = ap Refused (ap (λ (l : List ℕ). getD l 0 0) e)
-same-answer (Refused k) (Unsuitable l e0 e1) e = absurd (omega (arith, ap length e))
-same-answer (Unsuitable l e0 e1) (WrittenBytes c) e = absurd (omega (arith, ap length e))
-same-answer (Unsuitable l e0 e1) (Refused k) e = absurd (omega (arith, ap length e))
-same-answer (Unsuitable l e0 e1) (Unsuitable k d0 d1) e =
-    let p : l ≡ k = ap (λ (l : List ℕ). getD l 1 0) e in
-    let q : e0 ≡ d0 = ap (λ (l : List ℕ). getD l 2 0) e in
-    let r : e1 ≡ d1 = ap (λ (l : List ℕ). getD l 3 0) e in
-    rw (p, q, r)
+-- the answer that is given, its numbers, and the buffer
+pub writes-by : (t : Table) (before : List ℕ) (j : Judgement) (a : WriteAnswer) (after : List ℕ) → j ≡ judging t
+    → a ≡ writeBy t (length before) j → after ≡ writeBuffer a t before → Writes t before a after
+unfolding writeAnswer
+writes-by t before j a after right e b =
+    let answer : a ≡ writeAnswer t (length before) = e ∙ ap (writeBy t (length before)) right in
+    record {
+      answer = answer;
+      numbers = ap writeNumbers answer ∙ numbers-due (judging t);
+      buffer = b ∙ ap (λ (x : WriteAnswer). writeBuffer x t before) answer;
+    }
+  where
+    room-due : (b : Bool)
+        → writeNumbers (cond b (Refused 16) (WrittenBytes (writtenLength t)))
+        ≡ cond b (16 ∷ []) (0 ∷ writtenLength t ∷ [])
+    room-due true = refl
+    room-due false = refl
+
+    numbers-due : (j : Judgement) → writeNumbers (writeBy t (length before) j) ≡ writeResult t (length before) j
+    numbers-due Unfit = refl
+    numbers-due (Clash l e0 e1) = refl
+    numbers-due Sound = room-due (ltb (length before) (writtenLength t))
 
 -- ---- with room
 
 pub sound-written : SOUND-WRITTEN
+unfolding writeAnswer
 sound-written t before a after f suits room w =
-    let count = go (w .judgement) (w .right) (w .answer) in
-    (count, w .buffer ∙ rw count)
-  where
-    go : (j : Judgement) → Judges t j → writeNumbers a ≡ writeResult t (length before) j
-        → a ≡ WrittenBytes (writtenLength t)
-    go Unfit r e = absurd (false≢true (sym r ∙ f))
-    go (Clash l e0 e1) r e = absurd (suits l e0 e1 (r .1))
-    go Sound r e =
-        same-answer a (WrittenBytes (writtenLength t)) (e ∙ rw (le-ltb (length before) (writtenLength t) room))
+    let count : writeAnswer t (length before) ≡ WrittenBytes (writtenLength t) =
+    rw (judged t Sound .1 (f, suits), le-ltb (length before) (writtenLength t) room) in
+    (w .answer ∙ count, w .buffer ∙ rw count)
 
 -- ---- tables that are the same have the same bytes
 
@@ -101,35 +105,36 @@ record Stored (t : Table) (before : List ℕ) (c : ℕ) (after : List ℕ) : Typ
   bytes : take c after ≡ written t
 
 stored : (t : Table) (before after : List ℕ) (c : ℕ) → Writes t before (WrittenBytes c) after → Stored t before c after
-stored t before after c w = go (w .judgement) (w .right) (w .answer)
+unfolding writeAnswer
+stored t before after c w = go (judging t) refl (w .answer)
   where
-    counted : (b : Bool) → 0 ∷ c ∷ [] ≡ cond b (16 ∷ []) (0 ∷ writtenLength t ∷ []) → c ≡ writtenLength t
-    counted true e = absurd (omega (arith, ap length e))
-    counted false e = ap (λ (l : List ℕ). getD l 1 0) e
+    counted : (b : Bool) → WrittenBytes c ≡ cond b (Refused 16) (WrittenBytes (writtenLength t)) → c ≡ writtenLength t
+    counted true e = let z : _≡_ {A = ℕ} 0 1 = cc in absurd (omega arith)
+    counted false e = cc
 
-    go : (j : Judgement) → Judges t j → writeNumbers (WrittenBytes c) ≡ writeResult t (length before) j
-        → Stored t before c after
-    go Unfit r e = absurd (omega (arith, ap length e))
-    go (Clash l e0 e1) r e = absurd (omega (arith, ap length e))
-    go Sound r e =
+    go : (j : Judgement) → judging t ≡ j → WrittenBytes c ≡ writeBy t (length before) j → Stored t before c after
+    go Unfit q e = let z : _≡_ {A = ℕ} 0 1 = cc in absurd (omega arith)
+    go (Clash l e0 e1) q e = let z : _≡_ {A = ℕ} 0 1 = cc in absurd (omega arith)
+    go Sound q e =
         let n : c ≡ writtenLength t = counted (ltb (length before) (writtenLength t)) e in
+        let r = judged t Sound .0 q in
         let z = fit-facts t (r .0) in
         record {
           fits = r .0;
           suits = r .1;
           count = n;
-          bytes = ap (take c) (w .buffer)
+          bytes = ap (take c) (w .buffer ∙ ap (λ (x : WriteAnswer). writeBuffer x t before) (sym (w .answer)))
               ∙ take-at (written t) (drop c before) c (written-length t .0 (omega arith) ∙ sym n);
         }
 
 pub reads-back : READS-BACK
-reads-back t before after c r room w q =
+reads-back t before after c room w =
     let s = stored t before after c w in
     let whole = trimmed-whole t (s .fits) room in
     let same = trimmed-same t (s .fits) room in
     let rows : rowsOf (trimmed t) ≡ rowsOf t = code-rows-same (t .symbols) (trimmed t .rows) (t .rows) (same .rows) in
-    let back : r ≡ reading Accepted (trimmed t) =
-    suitable-accepted (take c after) (trimmed t) r q (ap parse (s .bytes) ∙ written-parses t (s .fits) room)
+    let back : reading (take c after) ≡ record { answer = Accepted; table = trimmed t } =
+    suitable-accepted (take c after) (trimmed t) (ap parse (s .bytes) ∙ written-parses t (s .fits) room)
     (subst (λ (l : List ℕ). Suitable (t .span) l) (sym rows) (s .suits)) in
     rw back (refl, whole, same, λ v. whole-same (trimmed t) t whole v same)
 
@@ -159,11 +164,12 @@ same-bytes t u f g a b = (
         }
 
 pub accepted-bytes : ACCEPTED-BYTES
-accepted-bytes bytes others r q p a p′ a′ =
-    let x = accepted-suitable bytes r p a in
-    let y = accepted-suitable others q p′ a′ in
-    same-bytes (r .table) (q .table) (x .1) (y .1) (parse-room bytes (r .table) (x .0))
-    (parse-room others (q .table) (y .0))
+accepted-bytes bytes others a b =
+    let x = accepted-suitable bytes a in
+    let y = accepted-suitable others b in
+    let t = reading bytes .table in
+    let u = reading others .table in
+    same-bytes t u (x .1) (y .1) (parse-room bytes t (x .0)) (parse-room others u (y .0))
 
 -- ---- an accepted file
 
@@ -218,9 +224,9 @@ module _ (t : Table) (js : List ℕ) (h : 1 ≤ t .symbols) (each : EachOnce (t 
   file-written = rw (rows-sorted, after-rows)
 
 pub file-sorted : FILE-SORTED
-file-sorted bytes r before after a b q acc room w =
-    let t = r .table in
-    let x = accepted-suitable bytes r q acc in
+file-sorted bytes before after a b accepted room w =
+    let t = reading bytes .table in
+    let x = accepted-suitable bytes accepted in
     let v = parses-exactly bytes t b .0 (x .0) in
     let z = fit-facts t (x .1) in
     let many : 1 ≤ t .symbols = omega arith in
@@ -241,16 +247,18 @@ module _ (n N m : ℕ) (us ts : List ℕ) (e : take (n - 1) us ≡ take (n - 1) 
   rows : codeRows n us ≡ codeRows n ts
   rows = code-rows-same n us ts e
 
-  judges-same : (j : Judgement) → Judges (table n N m us) j → Judges (table n N m ts) j
-  judges-same Unfit r = sym fits ∙ r
-  judges-same (Clash l e0 e1) r = (sym fits ∙ r .0, subst (λ (ws : List ℕ). Clashes N ws l e0 e1) rows (r .1))
-  judges-same Sound r = (sym fits ∙ r .0, subst (Suitable N) rows (r .1))
+  judging-same : judging (table n N m us) ≡ judging (table n N m ts)
+  unfolding judging
+  judging-same = rw (fits, rows)
 
-  result-same : (room : ℕ) (j : Judgement)
-      → writeResult (table n N m us) room j ≡ writeResult (table n N m ts) room j
-  result-same room Unfit = refl
-  result-same room (Clash l e0 e1) = refl
-  result-same room Sound = refl
+  answer-same : (room : ℕ) → writeAnswer (table n N m us) room ≡ writeAnswer (table n N m ts) room
+  unfolding writeAnswer
+  answer-same room = ap (writeBy (table n N m us) room) judging-same ∙ by-same (judging (table n N m ts))
+    where
+      by-same : (j : Judgement) → writeBy (table n N m us) room j ≡ writeBy (table n N m ts) room j
+      by-same Unfit = refl
+      by-same (Clash l e0 e1) = refl
+      by-same Sound = refl
 
   buffer-same : (a : WriteAnswer) (before : List ℕ)
       → writeBuffer a (table n N m us) before ≡ writeBuffer a (table n N m ts) before
@@ -261,16 +269,16 @@ module _ (n N m : ℕ) (us ts : List ℕ) (e : take (n - 1) us ≡ take (n - 1) 
   buffer-same (Refused k) before = refl
   buffer-same (Unsuitable l e0 e1) before = refl
 
-  writes-by : (before : List ℕ) (a : WriteAnswer) (after : List ℕ) → Writes (table n N m us) before a after
+  writes-as : (before : List ℕ) (a : WriteAnswer) (after : List ℕ) → Writes (table n N m us) before a after
       → Writes (table n N m ts) before a after
-  writes-by before a after w = record {
-    judgement = w .judgement;
-    right = judges-same (w .judgement) (w .right);
-    answer = w .answer ∙ result-same (length before) (w .judgement);
-    buffer = w .buffer ∙ buffer-same a before;
-  }
+  unfolding writeAnswer
+  writes-as before a after w =
+      writes-by (table n N m ts) before (judging (table n N m ts)) a after refl
+      (w .answer ∙ answer-same (length before))
+      (w .buffer ∙ ap (λ (x : WriteAnswer). writeBuffer x (table n N m us) before) (sym (w .answer))
+      ∙ buffer-same a before)
 
 pub writes-same : WRITES-SAME
 writes-same u t before a after s w =
-    writes-by (t .symbols) (t .span) (t .depth) (u .rows) (t .rows) (s .rows) before a after
+    writes-as (t .symbols) (t .span) (t .depth) (u .rows) (t .rows) (s .rows) before a after
     (subst (λ (v : Table). Writes v before a after) (sym (sizes-are u t s)) w)

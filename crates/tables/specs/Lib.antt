@@ -1,5 +1,6 @@
 -- `tables`: what a table of the code is, when it is suitable, the bytes that say one, and the tables that we make.
 pub mod Code
+pub mod Clash
 pub mod Table
 pub mod Lent
 pub mod Judging

@@ -6,7 +6,9 @@
 --   writtenLength t     how many they are, 10n − 5
 --   writeNumbers a      the number of an answer and its values: 0 and the count of bytes written; 12 or 16; 10 and its
 --                       triple
---   writeResult t room judgement   the numbers that are due, by the judgement of t and the length of the buffer
+--   writeBy t room j    the answer, by the judgement of t and the length of the buffer
+--   writeAnswer t room  what writing answers
+--   writeResult t room j   the numbers that are due
 --   writeBuffer a t before   what the answer a leaves of the buffer
 --   Writes t before a after   what `write` promises
 --   rowNumber r         the row number of a row record
@@ -32,13 +34,12 @@ use Rattle.tables.specs.declared.table.Table.{Table}
 use Rattle.tables.specs.declared.judge.Judgement.{Judgement}
 use Rattle.tables.specs.declared.judge.Judgement.the-variants.{Unfit, Clash, Sound}
 use Rattle.tables.specs.declared.read.ReadAnswer.the-variants.{Accepted}
-use Rattle.tables.specs.declared.read.Reading.{Reading}
 use Rattle.tables.specs.declared.write.WriteAnswer.{WriteAnswer}
 use Rattle.tables.specs.declared.write.WriteAnswer.the-variants.{Written, Refused, Unsuitable}
 use Rattle.tables.specs.Code.{Suitable}
 use Rattle.tables.specs.Table.{rowsOf, fit, Whole, SameTable}
-use Rattle.tables.specs.Judging.{Judges}
-use Rattle.tables.specs.Reading.{Read}
+use Rattle.tables.specs.Judging.{judging}
+use Rattle.tables.specs.Reading.{reading}
 use Rattle.tables.specs.Written.{sizesRecord, rowRecords}
 
 unfoldable pub ascending : ℕ → ℕ → List ℕ
@@ -59,6 +60,15 @@ writeNumbers (Unsuitable l e0 e1) = 10 ∷ l ∷ e0 ∷ e1 ∷ []
 
 -- "Answers: first 12 as for a step, then 10, then 16, the buffer is shorter than 10n − 5." The judgement is 12, 10 with
 -- its triple, or neither.
+abbrev pub writeBy : Table → ℕ → Judgement → WriteAnswer
+writeBy t room Unfit = Refused 12
+writeBy t room (Clash l e0 e1) = Unsuitable l e0 e1
+writeBy t room Sound = cond (ltb room (writtenLength t)) (Refused 16) (Written (writtenLength t))
+
+unfoldable pub writeAnswer : Table → ℕ → WriteAnswer
+writeAnswer t room = writeBy t room (judging t)
+
+-- the same in numbers
 abbrev pub writeResult : Table → ℕ → Judgement → List ℕ
 writeResult t room Unfit = 12 ∷ []
 writeResult t room (Clash l e0 e1) = 10 ∷ l ∷ e0 ∷ e1 ∷ []
@@ -70,13 +80,10 @@ writeBuffer (Written c) t before = written t ++ drop c before
 writeBuffer (Refused k) t before = before
 writeBuffer (Unsuitable l e0 e1) t before = before
 
--- As in reading, only the triple of 10 is left free. The judgement carries it; which of its three cases it is, the
--- answer and every byte are decided by the table and the buffer.
 pub record Writes (t : Table) (before : List ℕ) (a : WriteAnswer) (after : List ℕ) : Type 0 where
-  pub judgement : Judgement
-  pub right : Judges t judgement
-  pub answer : writeNumbers a ≡ writeResult t (length before) judgement
-  pub buffer : after ≡ writeBuffer a t before
+  pub answer : a ≡ writeAnswer t (length before)
+  pub numbers : writeNumbers a ≡ writeResult t (length before) (judging t)
+  pub buffer : after ≡ writeBuffer (writeAnswer t (length before)) t before
 
 -- of every table of at least one symbol; 155 bytes have room for any that is fit
 abbrev pub WRITTEN-LENGTH : Type 0
@@ -95,9 +102,9 @@ SOUND-WRITTEN =
 -- table that has them 0, as one that was read or made, comes back as it was. A table by value has fifteen rows.
 abbrev pub READS-BACK : Type 0
 READS-BACK =
-    (t : Table) (before after : List ℕ) (c : ℕ) (r : Reading) → length (t .rows) ≡ 15
-    → Writes t before (Written c) after → Read (take c after) r
-    → (r .answer ≡ Accepted) × Whole (r .table) × SameTable (r .table) t × (Whole t → r .table ≡ t)
+    (t : Table) (before after : List ℕ) (c : ℕ) → length (t .rows) ≡ 15 → Writes t before (Written c) after →
+    let r = reading (take c after) in
+    (r .answer ≡ Accepted) × Whole (r .table) × SameTable (r .table) t × (Whole t → r .table ≡ t)
 
 -- of any tables by value that are fit
 abbrev pub SAME-BYTES : Type 0
@@ -108,9 +115,10 @@ SAME-BYTES =
 -- "Two accepted tables, compared by n, N, m and rows 1 to n − 1, are equal exactly if their written bytes are."
 abbrev pub ACCEPTED-BYTES : Type 0
 ACCEPTED-BYTES =
-    (bytes others : List ℕ) (r q : Reading) → Read bytes r → r .answer ≡ Accepted → Read others q
-    → q .answer ≡ Accepted
-    → SameTable (r .table) (q .table) ↔ (written (r .table) ≡ written (q .table))
+    (bytes others : List ℕ) → reading bytes .answer ≡ Accepted → reading others .answer ≡ Accepted →
+    let t = reading bytes .table in
+    let u = reading others .table in
+    SameTable t u ↔ (written t ≡ written u)
 
 -- the byte after the kind
 abbrev pub rowNumber : List ℕ → ℕ
@@ -140,8 +148,8 @@ sortedFile bytes =
 -- less room than it is long, 16 applies.
 abbrev pub FILE-SORTED : Type 0
 FILE-SORTED =
-    (bytes : List ℕ) (r : Reading) (before after : List ℕ) (a : WriteAnswer) → ((i : ℕ) → getD bytes i 0 < 256)
-    → Read bytes r → r .answer ≡ Accepted → length bytes ≤ length before → Writes (r .table) before a after
+    (bytes before after : List ℕ) (a : WriteAnswer) → ((i : ℕ) → getD bytes i 0 < 256)
+    → reading bytes .answer ≡ Accepted → length bytes ≤ length before → Writes (reading bytes .table) before a after
     → (a ≡ Written (length bytes)) × (after ≡ sortedFile bytes ++ drop (length bytes) before)
 
 abbrev pub WRITES-SAME : Type 0

@@ -1,4 +1,4 @@
-// Judging any table value: unfit, a clash that shows it unsuitable, or sound.
+// Judging any table value: unfit, the first clash that shows it unsuitable, or sound.
 use crate::table::Table;
 use crate::table::is_fit;
 use span::bits::mask;
@@ -11,12 +11,13 @@ ghost use Prim.Native.Nat.{_+_, _-_, _≤_, _<_};
 ghost use lib.ListN.{length, getD, take};
 ghost use Rattle.span.specs.Word.{shifted};
 ghost use Rattle.tables.specs.Table.{codeRows};
-ghost use Rattle.tables.specs.Judging.{Judges, Searched};
+ghost use Rattle.tables.specs.Clash.{firstClash};
+ghost use Rattle.tables.specs.Judging.{judgementOf, judging};
 
 pub enum Judgement {
     // Refusal 12.
     Unfit,
-    // The shift l and the error blocks e0 and e1 that show the table unsuitable.
+    // The least shift l, then the least error block e0, then the least e1 that show the table unsuitable.
     Clash(u64, u64, u64),
     Sound,
 }
@@ -32,7 +33,8 @@ fn code_row(rows: &[u64], n: usize, i: usize) -> u64
     1
 }
 
-// The n shifted rows, then the n rows: each row is fetched once.
+// The n shifted rows, then the n rows, so that the least relation has the least e0 and then the least e1: each row is
+// fetched once.
 fn clash_words(rows: &[u64], n: usize, span: usize, l: usize) -> [u64; 32]
     requires { ⌜ (2 ≤ n) × (n ≤ 16) × (span ≤ 64) × (n - 1 ≤ length (now rows)) ⌝ }
     ensures { λ r.
@@ -49,10 +51,10 @@ fn clash_words(rows: &[u64], n: usize, span: usize, l: usize) -> [u64; 32]
     words
 }
 
-// The first shift at which an image is a shifted one.
+// The first clash at the first shift at which an image is a shifted one.
 fn search(rows: &[u64], n: usize, span: usize) -> Judgement
     requires { ⌜ (2 ≤ n) × (n ≤ 16) × (span ≤ 64) × (n - 1 ≤ length (now rows)) ⌝ }
-    ensures { λ r. ⌜ Searched span (codeRows n (now (rows .entry))) r ⌝ }
+    ensures { λ r. ⌜ r ≡ judgementOf (firstClash span (codeRows n (now (rows .entry)))) ⌝ }
 {
     let mut l = 1;
     while l < span {
@@ -67,7 +69,7 @@ fn search(rows: &[u64], n: usize, span: usize) -> Judgement
 }
 
 pub(crate) fn judge(t: Table) -> Judgement
-    ensures { λ r. ⌜ Judges t r ⌝ }
+    ensures { λ r. ⌜ r ≡ judging t ⌝ }
 {
     // The rows alone are lent: less is copied than of a lent table.
     let copied = t.rows;

@@ -8,21 +8,21 @@ use crate::table::zero_table;
 use span::bits::mask;
 ghost use mathlib.Core.Path.{_≡_};
 ghost use mathlib.Core.Logic.{_≢_};
-ghost use mathlib.Core.Bool.{cond, not};
-ghost use mathlib.Core.List.{List};
-ghost use Prim.Native.Nat.{ℕ, _+_, _-_, _^_, _≤_, _<_};
+ghost use mathlib.Core.Bool.{true, cond, not};
+ghost use Prim.Native.Nat.{_+_, _-_, _^_, _≤_, _<_};
 ghost use lib.Dec.{leb, ltb, eqb};
 ghost use lib.ListN.{length, getD, drop};
-ghost use Rattle.tables.specs.Format.{kind, size, rowWord, allGiven, unavailable, fault, place, after, parsed};
-ghost use Rattle.tables.specs.Format.{parse};
-ghost use Rattle.tables.specs.Table.{zeroTable};
-ghost use Rattle.tables.specs.Reading.{reading, Read};
+ghost use Rattle.tables.specs.Table.{fit};
+ghost use Rattle.tables.specs.Format.{kind, size, rowWord, allGiven, unavailable, fault, place, after, refused};
+ghost use Rattle.tables.specs.Format.{parsed};
+ghost use Rattle.tables.specs.Reading.{readParse, Read};
 
 pub enum ReadAnswer {
     Accepted,
     // A number from 1 to 9, and the place.
     Refused(u64, usize),
-    // The shift l and the error blocks e0 and e1 that show the table unsuitable: 10.
+    // The first clash: the least shift l, then the least error block e0, then the least e1 that show the table
+    // unsuitable: 10.
     Unsuitable(u64, u64, u64),
 }
 
@@ -180,7 +180,7 @@ fn after(bytes: &[u8], at: usize, g: Progress) -> Progress
 // A refusal of the record at `at`.
 fn refusal(number: u64, at: usize) -> Reading
     requires { ⌜ at + 1 < 2 ^ 64 ⌝ }
-    ensures { λ r. ⌜ r ≡ reading (ReadAnswer.Refused number (place number at)) zeroTable ⌝ }
+    ensures { λ r. ⌜ r ≡ readParse (refused number (place number at)) ⌝ }
 {
     let table = zero_table();
     let place = if number == 9 { at + 1 } else { at };
@@ -192,7 +192,8 @@ fn refusal(number: u64, at: usize) -> Reading
 
 // The reading of a table that was parsed.
 fn judged(t: Table) -> Reading
-    ensures { λ r. ⌜ ((bytes : List ℕ) → parse bytes ≡ parsed t → Read bytes r) ⌝ }
+    requires { ⌜ fit t ≡ true ⌝ }
+    ensures { λ r. ⌜ r ≡ readParse (parsed t) ⌝ }
 {
     let judgement = judge(t);
     if let Judgement::Clash(l, e0, e1) = judgement {

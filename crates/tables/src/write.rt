@@ -8,14 +8,14 @@ ghost use Prim.Native.Nat.{_+_, _-_, _*_, _≤_};
 ghost use lib.ListN.{length};
 ghost use lib.Seq.{sets};
 ghost use Rattle.tables.specs.Written.{bytesOf, sizesRecord, rowRecords};
-ghost use Rattle.tables.specs.Writing.{ascending, writeNumbers, writeResult, writeBuffer, Writes};
+ghost use Rattle.tables.specs.Writing.{ascending, writeBy, writeBuffer, Writes};
 
 pub enum WriteAnswer {
     // How many bytes were written.
     Written(usize),
     // 12 or 16.
     Refused(u64),
-    // The shift l and the error blocks e0 and e1 that show the table unsuitable: 10.
+    // The first clash, as in reading: 10.
     Unsuitable(u64, u64, u64),
 }
 
@@ -63,7 +63,7 @@ fn put_rows(t: Table, out: &mut [u8])
 // All records of a sound table, or 16 if there is no room for them.
 fn put(t: Table, out: &mut [u8]) -> WriteAnswer
     requires { ⌜ (1 ≤ t .symbols) × (t .symbols ≤ 16) × (t .span ≤ 64) × (t .depth ≤ 64) ⌝ }
-    ensures answer { λ r. ⌜ writeNumbers r ≡ writeResult t (length (now (out .entry))) Judgement.Sound ⌝ }
+    ensures answer { λ r. ⌜ r ≡ writeBy t (length (now (out .entry))) Judgement.Sound ⌝ }
     ensures buffer { λ r. ⌜ now (out .exit) ≡ writeBuffer r t (now (out .entry)) ⌝ }
 {
     let length = 10 * t.symbols - 5;

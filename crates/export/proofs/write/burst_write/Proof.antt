@@ -1,6 +1,9 @@
 -- `export::write::burst_write`: the writing of the table of the numbers. Assumes nothing.
-use mathlib.Core.Path.{subst}
+use mathlib.Core.Path.{ap, subst, _∙_}
 use Rattle.tables.specs.declared.table.Table.{Table}
+use Rattle.tables.specs.declared.write.WriteAnswer.{WriteAnswer}
+use Rattle.tables.specs.Writing.{writeNumbers}
+use Rattle.export.specs.Answers.{writtenOf}
 use Rattle.export.specs.Promises.{WritesBy}
 use borrow.Author.Needs.{needs}
 use Rattle.export.proofs.write.burst_write.Statement.{statement}
@@ -24,7 +27,10 @@ returns c =
     let of = m .before .before in
     let bytes = of .before .before .args .bytes .now in
     subst (λ (u : Table). WritesBy u bytes (c .written .result) (m .write .last .1 .0)) (of .table-of .ensures)
-    (record { writing = m .write .result; right = m .write .ensures; answer = c .written .ensures })
+    (record {
+      answer = c .written .ensures ∙ ap (λ (a : WriteAnswer). writtenOf (writeNumbers a)) (m .write .ensures .answer);
+      buffer = m .write .ensures .buffer;
+    })
 
 pub burst-write-spec : {M : Type 1} → statement M
 burst-write-spec =

@@ -1,15 +1,10 @@
 -- `tables::judge::judge`: a fit table is searched for a clash. Assumes nothing.
 use mathlib.Core.Path.{_≡_, sym, _∙_}
-use mathlib.Core.Bool.{true}
 use native.Mathlib.Omega.{arith}
 use lib.ListN.{length}
 use borrow.Author.Needs.{needs}
-use Rattle.tables.specs.declared.table.Table.{Table}
-use Rattle.tables.specs.declared.judge.Judgement.{Judgement}
-use Rattle.tables.specs.declared.judge.Judgement.the-variants.{Unfit, Clash, Sound}
-use Rattle.tables.specs.Table.{rowsOf, fit}
-use Rattle.tables.specs.Judging.{Searched, Judges}
 use Rattle.tables.proofs.Fit.{fit-facts}
+use Rattle.tables.proofs.Judging.{judging-unfit, judging-fit}
 use Rattle.tables.proofs.judge.judge.Statement.{statement}
 use Rattle.tables.proofs.judge.judge.Tie as tie
 
@@ -18,11 +13,6 @@ slice-aggregate-rows c = search needs
 
 is-fit-requires : tie.Need-is-fit-requires
 is-fit-requires c κs = search needs
-
-searched : (t : Table) (j : Judgement) → fit t ≡ true → Searched (t .span) (rowsOf t) j → Judges t j
-searched t Unfit f h = absurd h
-searched t (Clash l e0 e1) f h = (f, h)
-searched t Sound f h = (f, h)
 
 search-requires : tie.Need-search-requires
 search-requires c κs =
@@ -33,11 +23,13 @@ search-requires c κs =
 
 returns : tie.Need-returns
 returns c =
-    searched (c .before .before .before .before .before .args .t) (c .search .result)
-    (sym (c .before .before .is-fit .ensures) ∙ c .before .if1 .taken) (c .search .ensures)
+    c .search .ensures
+    ∙ sym (judging-fit (c .before .before .before .before .before .args .t)
+    (sym (c .before .before .is-fit .ensures) ∙ c .before .if1 .taken))
 
 returns-2 : tie.Need-returns-2
-returns-2 c = sym (c .before .is-fit .ensures) ∙ c .if1 .left
+returns-2 c =
+    sym (judging-unfit (c .before .before .before .before .args .t) (sym (c .before .is-fit .ensures) ∙ c .if1 .left))
 
 pub judge-spec : {M : Type 1} → statement M
 judge-spec = tie.close (tie.spec slice-aggregate-rows is-fit-requires search-requires returns returns-2)

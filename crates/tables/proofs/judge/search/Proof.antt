@@ -1,4 +1,5 @@
--- `tables::judge::search`: no shift below l has a clash. Assumes nothing.
+-- `tables::judge::search`: no shift below l has a clash, and the least relation at l is the least clash there. Assumes
+-- nothing.
 use mathlib.Core.Path.{_≡_, sym, ap, _∙_, subst}
 use mathlib.Core.List.{List}
 use Prim.Native.Nat.{ℕ, _+_, _-_, _/_, _%_, _^_, _≤_, _<_, min}
@@ -10,7 +11,9 @@ use lib.ListN.{length}
 use Rattle.tables.specs.Code.{Clashes}
 use Rattle.tables.specs.Table.{codeRows}
 use Rattle.tables.proofs.Fit.{code-length}
-use Rattle.tables.proofs.Clash.{clash-found, clash-missing, clash-counted}
+use Rattle.tables.specs.Judging.{judgementOf}
+use Rattle.tables.proofs.Clash.{LeastAt, first-at, first-clash, no-clash}
+use Rattle.tables.proofs.ClashWords.{clash-found, clash-missing, clash-counted}
 use Rattle.tables.proofs.judge.search.Statement.{statement}
 use Rattle.tables.proofs.judge.search.Tie as tie
 
@@ -73,9 +76,12 @@ returns c =
     let low : bitAnd e (c .mask .result) ≡ e % 2 ^ n =
     ap (bitAnd e) (c .mask .ensures ∙ ap (λ (k : ℕ). 2 ^ k - 1) small) ∙ and-mask e n
     in
-    subst (λ (x : ℕ). Clashes N R (l .loop .l) (e / 2 ^ n) x) (sym low)
-    (subst (λ (k : ℕ). Clashes N R (l .loop .l) (e / 2 ^ k) (e % 2 ^ k)) size
+    let least =
+    subst (λ (x : ℕ). LeastAt N R (l .loop .l) (e / 2 ^ n) x) (sym low)
+    (subst (λ (k : ℕ). LeastAt N R (l .loop .l) (e / 2 ^ k) (e % 2 ^ k)) size
     (clash-found N R (l .loop .l) (l .loop .inv .0) (omega arith) e (sym same ∙ found .given .1)))
+    in
+    sym (ap judgementOf (first-clash N R _ _ _ .1 (first-at N R _ _ _ (l .loop .inv .1) least)))
 
 enum-told : tie.Need-enum-told Inv-loop μ-loop
 enum-told c = search needs
@@ -104,7 +110,9 @@ loop-again c =
 returns-2 : tie.Need-returns-2 Inv-loop μ-loop
 returns-2 c =
     let l = c .before in
-    λ k e0 e1 h. let z = h .shift-to in l .loop .inv .1 k e0 e1 (omega arith) h
+    let a = l .before .before .args in
+    sym (ap judgementOf (no-clash (a .span) (codeRows (a .n) (a .rows .now)) .1
+    (λ k e0 e1 h. let z = h .shift-to in l .loop .inv .1 k e0 e1 (omega arith) h)))
 
 pub search-spec : {M : Type 1} → statement M
 search-spec =

@@ -10,12 +10,12 @@ use native.Mathlib.Omega.{arith}
 use borrow.Author.Tests.{eqb-true, eqb-false, not-true, not-false}
 use lib.Dec.{eqb}
 use lib.ListN.{length, drop, length-drop}
-use Rattle.tables.specs.Format.{kind, size, fault, place, after}
+use Rattle.tables.specs.Format.{kind, size, fault, place, after, refused, parsed, parse}
 use Rattle.tables.proofs.Fit.{and-left, and-right}
 use Rattle.tables.proofs.Format.{Reaches, fault-sound, sound-whole, size-some, reaches-start, reaches-refused}
 use Rattle.tables.proofs.Format.{reaches-done, reaches-next}
-use Rattle.tables.proofs.Progress.{Good, good-begun, good-after, good-bounds}
-use Rattle.tables.proofs.Reading.{refused-read}
+use Rattle.tables.proofs.Progress.{Good, good-begun, good-after, good-bounds, parse-fit}
+use Rattle.tables.proofs.Reading.{read-by}
 use Rattle.tables.proofs.read.read.Statement.{statement}
 use Rattle.tables.proofs.read.read.Tie as tie
 
@@ -144,26 +144,30 @@ returns c =
     let l = t .before .before .before in
     let bytes = l .before .before .before .before .args .bytes .now in
     let n : fault (l .loop .g) (drop (l .loop .at) bytes) ≢ 0 = λ e. t .if2 .taken (l .loop .inv .3 ∙ e) in
-    refused-read bytes (l .loop .number) (place (l .loop .number) (l .loop .at)) (c .refusal .result)
+    read-by bytes (refused (l .loop .number) (place (l .loop .number) (l .loop .at))) (c .refusal .result)
     (rw (l .loop .inv .3) (reaches-refused bytes (l .loop .at) (l .loop .g) (l .loop .inv .2) n)) (c .refusal .ensures)
 
-judged-requires : tie.Need-judged-requires Inv-loop μ-loop
-judged-requires c κs = search needs
-
-returns-2 : tie.Need-returns-2 Inv-loop μ-loop
-returns-2 c =
-    let e = c .before in
-    let k = e .before .before in
+-- the bytes say the table that the loop has
+says : (c : tie.Else2 Inv-loop μ-loop) →
+    let l = c .before .before .before in
+    parse (l .before .before .before .before .args .bytes .now) ≡ parsed (l .loop .g .table)
+says c =
+    let k = c .before .before in
     let l = k .before in
     let bytes = l .before .before .before .before .args .bytes .now in
     let s = drop (l .loop .at) bytes in
-    let z : fault (l .loop .g) s ≡ 0 = sym (l .loop .inv .3) ∙ e .if2 .left in
+    let z : fault (l .loop .g) s ≡ 0 = sym (l .loop .inv .3) ∙ c .if2 .left in
     let whole = sound-whole (l .loop .g) s (fault-sound (l .loop .g) s z) in
     let len = length-drop (l .loop .at) bytes in
     let some = size-some (kind s) in
-    c .judged .ensures bytes
-    (reaches-done bytes (l .loop .at) (l .loop .g) (l .loop .inv .2) (omega arith) z
-    (sym (k .byte .ensures) ∙ ended (l .loop .number) (k .byte .result) (e .if2 .left) (e .before .if1 .left)))
+    reaches-done bytes (l .loop .at) (l .loop .g) (l .loop .inv .2) (omega arith) z
+    (sym (k .byte .ensures) ∙ ended (l .loop .number) (k .byte .result) (c .if2 .left) (c .before .if1 .left))
+
+judged-requires : tie.Need-judged-requires Inv-loop μ-loop
+judged-requires c κs = parse-fit _ (c .before .before .before .loop .g .table) (says c)
+
+returns-2 : tie.Need-returns-2 Inv-loop μ-loop
+returns-2 c = read-by _ _ (c .judged .result) (says (c .before)) (c .judged .ensures)
 
 pub read-spec : {M : Type 1} → statement M
 read-spec =

@@ -1,0 +1,59 @@
+-- 02, CR 5, "The first clash": which triple refusal 10 returns.
+--
+--   Triple                 a shift l and two error blocks, e0 and e1
+--   firstFrom f a c        what f finds at the first number where it finds something, of the c numbers from a on
+--   clashOf N rows l e0    the first clash of the block e0 at the shift l
+--   clashAt N rows l       the first clash at the shift l
+--   firstClash N rows      the first clash of a table, or none
+--   First N rows l e0 e1   the triple clashes, and is the least in this order
+--   FIRST-CLASH            the search finds exactly that triple
+--   NO-CLASH               it finds none exactly if the table is suitable
+use mathlib.Core.Path.{_≡_}
+use mathlib.Core.Logic.{_↔_}
+use mathlib.Core.Bool.{cond}
+use mathlib.Core.List.{List}
+use mathlib.Core.Option.{Option, none, some, orElse}
+use Prim.Native.Nat.{ℕ, zero, suc, _-_, _^_, _≤_}
+use lib.Dec.{eqb}
+use lib.ListN.{length}
+use Rattle.tables.specs.Code.{image, shiftedImage, Clashes, Suitable}
+
+pub record Triple : Type 0 where
+  pub l : ℕ
+  pub e0 : ℕ
+  pub e1 : ℕ
+
+abbrev pub triple : ℕ → ℕ → ℕ → Triple
+triple l e0 e1 = record { l = l; e0 = e0; e1 = e1 }
+
+-- by ascending search
+unfoldable pub firstFrom : {A : Type 0} → (ℕ → Option A) → ℕ → ℕ → Option A
+firstFrom f a zero = none
+firstFrom f a (suc c) = orElse (f a) (firstFrom f (suc a) c)
+
+-- "least l, then least e0, then least e1": of a block e0 at a shift l, second blocks from 0 to 2^n − 1; at a shift,
+-- first blocks from 1 to 2^n − 1; and shifts from 1 to N − 1
+unfoldable pub clashOf : ℕ → List ℕ → ℕ → ℕ → Option Triple
+clashOf N rows l e0 =
+    firstFrom (λ e1. cond (eqb (image rows e0) (shiftedImage N rows l e1)) (some (triple l e0 e1)) none) 0
+    (2 ^ length rows)
+
+unfoldable pub clashAt : ℕ → List ℕ → ℕ → Option Triple
+clashAt N rows l = firstFrom (clashOf N rows l) 1 (2 ^ length rows - 1)
+
+unfoldable pub firstClash : ℕ → List ℕ → Option Triple
+firstClash N rows = firstFrom (clashAt N rows) 1 (N - 1)
+
+-- the same by its order
+pub record First (N : ℕ) (rows : List ℕ) (l e0 e1 : ℕ) : Type 0 where
+  pub clashes : Clashes N rows l e0 e1
+  pub least-shift : (k d0 d1 : ℕ) → Clashes N rows k d0 d1 → l ≤ k
+  pub least-first : (d0 d1 : ℕ) → Clashes N rows l d0 d1 → e0 ≤ d0
+  pub least-second : (d1 : ℕ) → Clashes N rows l e0 d1 → e1 ≤ d1
+
+abbrev pub FIRST-CLASH : Type 0
+FIRST-CLASH =
+    (N : ℕ) (rows : List ℕ) (l e0 e1 : ℕ) → (firstClash N rows ≡ some (triple l e0 e1)) ↔ First N rows l e0 e1
+
+abbrev pub NO-CLASH : Type 0
+NO-CLASH = (N : ℕ) (rows : List ℕ) → (firstClash N rows ≡ none) ↔ Suitable N rows
