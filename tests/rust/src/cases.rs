@@ -1,6 +1,6 @@
 //! Drawn cases: tables, table bytes, memories, fades and inputs of the listing program, repeatable from a seed.
 
-use crate::oracle::{code, image, is_below, make_table, shifted_image, unsuitable, Table, MARKS, MOST_ROWS};
+use crate::oracle::{code, image, is_below, is_suitable, make_table, shifted_image, Table, MARKS, MOST_ROWS};
 
 /// The xorshift generator.
 pub struct Draw(u64);
@@ -161,7 +161,7 @@ fn suitable_from_made(draw: &mut Draw, n: u64, span: u64, depth: u64) -> Option<
 fn suitable_by_chance(draw: &mut Draw, n: u64, span: u64, depth: u64) -> Option<Table> {
     let rows: Vec<u64> = (1..n).map(|_| draw.bits(span)).collect();
     let table = Table::new(n, span, depth, &rows);
-    unsuitable(&table).is_none().then_some(table)
+    is_suitable(&table).then_some(table)
 }
 
 /// A suitable table; there is none if N < 2n.
@@ -188,19 +188,58 @@ pub fn any_suitable_table(draw: &mut Draw) -> Table {
     }
 }
 
+/// Where a shift lies: 0 if it is 1, 1 if it is 2 to n − 1, 2 if it is n or more.
+pub fn range_of_shift(n: u64, l: u64) -> usize {
+    usize::from(l > 1) + usize::from(l >= n)
+}
+
+fn suitable_or_fit_table(draw: &mut Draw, n: u64, span: u64, depth: u64) -> Table {
+    match suitable_table(draw, n, span, depth) {
+        Some(table) => table,
+        None => fit_table(draw, n, span, depth),
+    }
+}
+
+/// Makes a row a shifted image plus some of the other rows, both of these symbols only.
+fn spoil_row(draw: &mut Draw, table: &mut Table, which: usize, l: u64, symbols: u64) {
+    let e1 = draw.bits(table.n) & symbols;
+    let others = draw.bits(table.n) & symbols;
+    table.rows[which] = shifted_image(table, e1, l) ^ image(table, others);
+}
+
 /// A table that the shift l shows unsuitable: one row is made a shifted image, plus some of the other rows.
 /// Often no other shift shows it.
 pub fn spoilt_table(draw: &mut Draw, n: u64, span: u64, depth: u64) -> Table {
-    let mut table = match suitable_table(draw, n, span, depth) {
-        Some(table) => table,
-        None => fit_table(draw, n, span, depth),
-    };
-    let own = 1 << draw.below(n - 1);
+    let mut table = suitable_or_fit_table(draw, n, span, depth);
+    let own = draw.below(n - 1) as usize;
     let l = draw.between(1, span - 1);
-    let e1 = draw.bits(n) & !own;
-    let others = draw.bits(n) & !own;
-    table.rows[u64::ilog2(own) as usize] = shifted_image(&table, e1, l) ^ image(&table, others);
+    spoil_row(draw, &mut table, own, l, !(1 << own));
     table
+}
+
+/// A table with a clash at l, which is 1, less than n, or n and more, and often with others: a second row is spoilt at
+/// the same l or at a greater one, so that another e0 clashes, or shifting by l drops all of it, so that several e1
+/// have one shifted image.
+pub fn clashing_table(draw: &mut Draw, n: u64, span: u64, depth: u64) -> Table {
+    let mut table = suitable_or_fit_table(draw, n, span, depth);
+    let l = match draw.below(3) {
+        0 => 1,
+        1 => draw.between(1, (n - 1).min(span - 1)),
+        _ => draw.between(n.min(span - 1), span - 1),
+    };
+    let greater = draw.between(l, span - 1);
+    let (own, second) = (draw.below(n - 1) as usize, draw.below(n - 1) as usize);
+    if second != own {
+        // The first row is spoilt last, so the second one does without it.
+        let symbols = !(1 << own | 1 << second);
+        match draw.below(3) {
+            0 => spoil_row(draw, &mut table, second, l, symbols),
+            1 => spoil_row(draw, &mut table, second, greater, symbols),
+            _ => table.rows[second] = draw.bits(l) << (span - l),
+        }
+    }
+    spoil_row(draw, &mut table, own, l, !(1 << own));
+    with_unused_rows(draw, table)
 }
 
 /// A number that is out of range, some of which are in range once cut to fewer bits.

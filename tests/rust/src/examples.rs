@@ -1,13 +1,38 @@
 //! Listed cases, those that are easy to get wrong: table bytes and what reading them says, tables and what writing
 //! them does, and steps of the coder and the decoder with the memory after them.
 
-use crate::cases::{row_record, sizes_record};
-use crate::oracle::Table;
+use crate::cases::{row_record, sizes_record, table_bytes, Draw};
+use crate::oracle::{Table, Triple};
 use crate::{Coded, Decoded};
 
 /// "Z" is n = 2, N = 4, row 10, and m is 1 in the scope. Its images are 0, 10, 1, 11.
 pub fn z(depth: u64) -> Table {
     Table::new(2, 4, depth, &[10])
+}
+
+// ---- Unsuitable tables ----
+
+/// Tables and their first triples, which reading and writing return alike.
+pub fn first_triples() -> [(Table, Triple); 9] {
+    let first = |table, l, e0, e1| (table, Triple { l, e0, e1 });
+    [
+        // T6
+        first(Table::new(2, 4, 1, &[2]), 1, 1, 2),
+        // row 1 is row n, or zero; rows 1 and 2 are equal: e1 is 0, and l is 1, as every shift shows it
+        first(Table::new(2, 4, 1, &[1]), 1, 3, 0),
+        first(Table::new(2, 4, 1, &[0]), 1, 1, 0),
+        first(Table::new(3, 6, 1, &[56, 56]), 1, 3, 0),
+        // rows 1 and 2 are equal, but a lesser e0 has another e1
+        first(Table::new(3, 4, 1, &[2, 2]), 1, 1, 4),
+        // T9: the least l goes before the least e0, as 3, 3, 26 shows it too
+        first(Table::new(5, 10, 1, &[976, 904, 772, 514]), 2, 7, 29),
+        // the least e0 goes before the least e1, as 1, 2, 1 shows it too
+        first(Table::new(3, 4, 1, &[2, 4]), 1, 1, 4),
+        // rows 1 and n are equal once shifted by 1: 1, 2, 4 shows it too
+        first(Table::new(3, 4, 1, &[9, 2]), 1, 2, 1),
+        // the last shift alone; and no row of 64 bits is too long for N = 64
+        first(Table::new(2, 64, 64, &[1 << 63]), 63, 1, 2),
+    ]
 }
 
 // ---- Table bytes ----
@@ -18,8 +43,8 @@ pub enum Says {
     /// The number, 1 to 9, and the place.
     Refused(u64, u64),
     Accepted(Table),
-    /// Refusal 10: the records are right and give this table, which the triple shows unsuitable.
-    Unsuitable(Table),
+    /// Refusal 10, with the first triple.
+    Unsuitable(Triple),
 }
 
 #[derive(Debug)]
@@ -32,8 +57,16 @@ fn says(records: &[&[u8]], says: Says) -> ReadCase {
     ReadCase { bytes: records.concat(), says }
 }
 
-pub fn read_cases() -> [ReadCase; 17] {
-    use Says::{Accepted, Refused, Unsuitable};
+pub fn read_cases() -> Vec<ReadCase> {
+    let mut draw = Draw::from_seed(1);
+    let unsuitable = first_triples()
+        .map(|(table, triple)| says(&[&table_bytes(&mut draw, &table)], Says::Unsuitable(triple)));
+    other_read_cases().into_iter().chain(unsuitable).collect()
+}
+
+/// Those that are not refused 10.
+fn other_read_cases() -> [ReadCase; 16] {
+    use Says::{Accepted, Refused};
     // of Z: its sizes, its row, and a row of any number that has a one at bit 4, too high
     let sizes = sizes_record(2, 4, 1);
     let row = row_record(1, 10);
@@ -53,12 +86,6 @@ pub fn read_cases() -> [ReadCase; 17] {
         says(&[&sizes, &long(2)], Refused(6, 4)),
         says(&[&sizes, &row, &long(1)], Refused(6, 14)),
         says(&[&sizes, &long(1)], Refused(7, 4)),
-        // no row of 64 bits is too long: not 7 but 10, as row n shifted by 63 is row 1; the triple of that fits no
-        // other row
-        says(
-            &[&sizes_record(2, 64, 64), &row_record(1, 1 << 63), &[0]],
-            Unsuitable(Table::new(2, 64, 64, &[1 << 63])),
-        ),
         // T1 without its last byte
         says(&[&sizes, &row], Refused(1, 14)),
         // an early end, alone and with bytes after it; bytes after the end
@@ -82,8 +109,8 @@ pub fn read_cases() -> [ReadCase; 17] {
 pub enum Writes {
     /// The number, 12 or 16.
     Refused(u64),
-    /// Refusal 10.
-    Unsuitable,
+    /// Refusal 10, with the first triple.
+    Unsuitable(Triple),
     Bytes(Vec<u8>),
 }
 
@@ -109,18 +136,21 @@ fn no_write(table: &Table, room: usize, refused: u64) -> WriteCase {
     write(table, room, Writes::Refused(refused))
 }
 
-/// A table that is refused, 10.
-fn clash(table: &Table, room: usize) -> WriteCase {
-    write(table, room, Writes::Unsuitable)
+/// Each unsuitable table into as many bytes as it would take, and into one less and none: 10 before 16.
+pub fn write_cases() -> Vec<WriteCase> {
+    let unsuitable = first_triples().into_iter().flat_map(|(table, triple)| {
+        let length = 10 * table.n as usize - 5;
+        [length, length - 1, 0].map(|room| write(&table, room, Writes::Unsuitable(triple)))
+    });
+    other_write_cases().into_iter().chain(unsuitable).collect()
 }
 
-/// n = 2 takes 15 bytes, n = 3 takes 25.
-pub fn write_cases() -> [WriteCase; 32] {
+/// Those that are not refused 10: n = 2 takes 15 bytes, n = 3 takes 25.
+fn other_write_cases() -> [WriteCase; 26] {
     let t1 = [1, 2, 4, 1, 2, 1, 0x0A, 0, 0, 0, 0, 0, 0, 0, 0];
     let two_rows = [1, 3, 6, 9, 2, 1, 56, 0, 0, 0, 0, 0, 0, 0, 2, 2, 34, 0, 0, 0, 0, 0, 0, 0, 0];
     let long_row = [1, 2, 64, 64, 2, 1, 0xF0, 0xE1, 0xD2, 0xC3, 0xB4, 0xA5, 0x96, 0x87, 0];
     let (n2, n3) = (z(1), Table::new(3, 6, 9, &[56, 34]));
-    let t6 = Table::new(2, 4, 1, &[2]);
     let sized = |n, span, depth| Table::new(n, span, depth, &[10]);
     [
         // into as many bytes as it takes, into more, which stay, and into one less
@@ -139,14 +169,6 @@ pub fn write_cases() -> [WriteCase; 32] {
         writes(&Table::new(2, 4, 1, &[10, 16, u64::MAX]), 15, &t1),
         writes(&Table::new(2, 4, 1, &[10; 15]), 15, &t1),
         no_write(&Table::new(2, 4, 1, &[10, 16, u64::MAX]), 14, 16),
-        // 10 before 16
-        clash(&t6, 15),
-        clash(&t6, 14),
-        clash(&t6, 0),
-        // a zero row, equal rows; a table that only the shift by 63 shows
-        clash(&Table::new(2, 4, 1, &[0]), 15),
-        clash(&Table::new(3, 6, 1, &[56, 56]), 25),
-        clash(&Table::new(2, 64, 1, &[1 << 63]), 15),
         // 12 before 10 and 16: a row that is zero once cut to N bits; and rows that are right once cut
         no_write(&Table::new(2, 4, 1, &[16]), 0, 12),
         no_write(&Table::new(2, 4, 1, &[1 << 63 | 10]), 15, 12),

@@ -1,5 +1,6 @@
 //! The codec written plainly from its scope: right by reading, not fast.
 
+use std::collections::HashMap;
 use std::sync::OnceLock;
 
 /// The most rows a table can be handed with (n = 16).
@@ -133,31 +134,83 @@ pub fn shows_unsuitable(table: &Table, triple: Triple) -> bool {
     in_range && e0 != 0 && image(table, e0) == shifted_image(table, e1, l)
 }
 
+/// The first triple, least l, then least e0, then least e1, by trying all in that order; for small tables.
+pub fn first_by_trying(table: &Table) -> Option<Triple> {
+    let blocks = 1u64 << table.n;
+    let of_pair = |l, e0| (0..blocks).map(move |e1| Triple { l, e0, e1 });
+    let of_shift = |l| (1..blocks).flat_map(move |e0| of_pair(l, e0));
+    (1..table.span).flat_map(of_shift).find(|&triple| shows_unsuitable(table, triple))
+}
+
+/// Each e0 that clashes at l, with its least e1, ascending: by looking its image up among all shifted ones.
+pub fn clashes_by_lookup(table: &Table, l: u64) -> Vec<Triple> {
+    let blocks = 1u64 << table.n;
+    let mut least_e1 = HashMap::new();
+    for e1 in 0..blocks {
+        least_e1.entry(shifted_image(table, e1, l)).or_insert(e1);
+    }
+    let clash = |e0| least_e1.get(&image(table, e0)).map(|&e1| Triple { l, e0, e1 });
+    (1..blocks).filter_map(clash).collect()
+}
+
 /// Whether e0 ≠ 0 and e1 exist for this l. The shifted rows come first: a row that depends on them and on
 /// rows before it gives e0 ≠ 0, as it stands in its own combination; if none does, only e0 = 0 is left.
-pub fn unsuitable_at(table: &Table, l: u64) -> Option<Triple> {
-    const E1: u64 = 32; // e1 stands above e0 in a combination
+fn clashes_at(table: &Table, l: u64) -> bool {
     let mut echelon = Echelon::default();
     for j in 0..table.n {
-        echelon.offer(shifted_image(table, 1 << j, l), 1 << j << E1);
+        echelon.offer(shifted_image(table, 1 << j, l), 0);
     }
-    for j in 0..table.n {
-        if let Some(zero) = echelon.offer(image(table, 1 << j), 1 << j) {
-            return Some(Triple { l, e0: zero % (1 << E1), e1: zero >> E1 });
-        }
-    }
-    None
+    (0..table.n).any(|j| echelon.offer(image(table, 1 << j), 0).is_some())
 }
 
+pub fn is_suitable(table: &Table) -> bool {
+    (1..table.span).all(|l| !clashes_at(table, l))
+}
+
+/// Whether some of the vectors, or none of them, sum to this.
+fn is_sum(vectors: &[u64], sum: u64) -> bool {
+    let mut echelon = Echelon::default();
+    for &vector in vectors {
+        echelon.offer(vector, 0);
+    }
+    echelon.reduce(sum, 0).0 == 0
+}
+
+/// The least number that serves and begins with these high bits. The `open` bits below them are decided from the top:
+/// a bit is 0 if `begins` says that some number that serves goes on so.
+fn least_that_begins(high: u64, open: u64, begins: impl Fn(u64, u64) -> bool) -> u64 {
+    (0..open).rev().fold(high, |high, bit| if begins(high, bit) { high } else { high | 1 << bit })
+}
+
+/// The first triple of this l, bit by bit. The open bits of e0 or e1 can add any sum of their rows, so whether one that
+/// serves begins so is whether what is left to add is such a sum.
+pub fn first_at_by_descent(table: &Table, l: u64) -> Option<Triple> {
+    let rows: Vec<u64> = (0..table.n).map(|j| image(table, 1 << j)).collect();
+    let shifted: Vec<u64> = (0..table.n).map(|j| shifted_image(table, 1 << j, l)).collect();
+    let some_e0 = |high, open: u64| is_sum(&[&rows[..open as usize], &shifted].concat(), image(table, high));
+    // e0 is not 0: it has a highest one, which is the lowest that can be.
+    let highest = (0..table.n).find(|&bit| some_e0(1 << bit, bit))?;
+    let e0 = least_that_begins(1 << highest, highest, some_e0);
+    let some_e1 =
+        |high, open: u64| is_sum(&shifted[..open as usize], image(table, e0) ^ shifted_image(table, high, l));
+    Some(Triple { l, e0, e1: least_that_begins(0, table.n, some_e1) })
+}
+
+pub fn first_by_descent(table: &Table) -> Option<Triple> {
+    let l = (1..table.span).find(|&l| clashes_at(table, l))?;
+    first_at_by_descent(table, l)
+}
+
+/// Up to this N × 2^n × 2^n all triples are tried; that is every N for n up to 5.
+const FEW_TRIPLES: u64 = 1 << 16;
+
+/// The first triple that shows a table unsuitable.
 pub fn unsuitable(table: &Table) -> Option<Triple> {
-    (1..table.span).find_map(|l| unsuitable_at(table, l))
-}
-
-/// The same by trying all pairs; for small n.
-pub fn unsuitable_by_trying(table: &Table) -> bool {
-    let blocks = 1u64 << table.n;
-    (1..table.span)
-        .any(|l| (1..blocks).any(|e0| (0..blocks).any(|e1| shows_unsuitable(table, Triple { l, e0, e1 }))))
+    if table.span << (2 * table.n) <= FEW_TRIPLES {
+        first_by_trying(table)
+    } else {
+        first_by_descent(table)
+    }
 }
 
 // ---- Table bytes ----
@@ -264,7 +317,7 @@ pub fn suitable_fillings(columns: &[u64]) -> Vec<u64> {
     let n = columns.len() as u64 + 2;
     let serves = |filling: &u64| {
         let longer = [columns, &[*filling]].concat();
-        unsuitable(&table_of_triangle(&longer, 1)).is_none()
+        is_suitable(&table_of_triangle(&longer, 1))
     };
     (0..1 << (n - 1)).filter(serves).collect()
 }

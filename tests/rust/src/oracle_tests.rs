@@ -1,7 +1,7 @@
-//! The plain implementation tested by itself: the scope's examples, its own two ways, and fades.
+//! The plain implementation tested by itself: the scope's examples, its own two or three ways, and fades.
 
 use crate::cases::*;
-use crate::examples::z;
+use crate::examples::{first_triples, z};
 use crate::oracle::*;
 
 fn bytes_of(table: &Table) -> Vec<u8> {
@@ -12,12 +12,8 @@ fn at(number: u64, place: usize) -> Result<Table, ReadRefusal> {
     Err(ReadRefusal::At { number, place })
 }
 
-/// The refusal 10 of a table, with its triple checked.
-fn assert_unsuitable(table: &Table) {
-    match read_table(&bytes_of(table)) {
-        Err(ReadRefusal::Unsuitable(triple)) => assert!(shows_unsuitable(table, triple)),
-        other => panic!("{other:?}"),
-    }
+fn clash(l: u64, e0: u64, e1: u64) -> Result<Table, ReadRefusal> {
+    Err(ReadRefusal::Unsuitable(Triple { l, e0, e1 }))
 }
 
 #[test]
@@ -37,8 +33,7 @@ fn t2_to_t5_short_inputs() {
 #[test]
 fn t6_row_2_is_unsuitable() {
     let table = Table::new(2, 4, 1, &[2]);
-    assert_unsuitable(&table);
-    assert!(shows_unsuitable(&table, Triple { l: 1, e0: 1, e1: 2 }));
+    assert_eq!(read_table(&bytes_of(&table)), clash(1, 1, 2));
     assert!(!shows_unsuitable(&table, Triple { l: 1, e0: 0, e1: 0 }));
 }
 
@@ -61,7 +56,7 @@ fn t8_made_rows() {
 fn t9_all_ones_fail_at_5() {
     let table = Table::new(5, 10, 1, &[976, 904, 772, 514]);
     assert_eq!(table, table_of_triangle(&[0b1, 0b11, 0b111, 0b1111], 1));
-    assert_unsuitable(&table);
+    assert_eq!(read_table(&bytes_of(&table)), clash(2, 7, 29));
     assert!(shows_unsuitable(&table, Triple { l: 3, e0: 3, e1: 26 }));
 }
 
@@ -206,13 +201,8 @@ fn writing_has_12_before_10_before_16() {
         }
         assert_not_written(&Table::new(258, 260, 257, &[10]), room, 12);
         assert_not_written(&Table::new(u64::MAX, 4, 1, &[10]), room, 12);
-        match write(&unsuitable, room) {
-            (Err(WriteRefusal::Unsuitable(triple)), bytes) => {
-                assert!(shows_unsuitable(&unsuitable, triple));
-                assert_eq!(bytes, vec![STOOD; room]);
-            }
-            other => panic!("{other:?}"),
-        }
+        let first = Triple { l: 1, e0: 1, e1: 2 };
+        assert_eq!(write(&unsuitable, room), (Err(WriteRefusal::Unsuitable(first)), vec![STOOD; room]));
     }
     assert_not_written(&z(1), 14, 16);
     assert_not_written(&z(1), 0, 16);
@@ -277,23 +267,76 @@ fn each_column_is_forced() {
     }
 }
 
+fn first_by_lookup(table: &Table) -> Option<Triple> {
+    (1..table.span).find_map(|l| clashes_by_lookup(table, l).first().copied())
+}
+
+/// The first triple, which the descent finds as another way does.
+fn first_both_ways(table: &Table, other_way: fn(&Table) -> Option<Triple>) -> Option<Triple> {
+    let first = other_way(table);
+    assert_eq!(first_by_descent(table), first, "{table:?}");
+    assert_eq!(unsuitable(table), first, "{table:?}");
+    assert_eq!(is_suitable(table), first.is_none(), "{table:?}");
+    first
+}
+
 #[test]
-fn elimination_decides_suitability_as_trying_does() {
-    let mut draw = Draw::from_seed(2);
-    let mut suitable = 0;
-    for _ in 0..3000 {
-        let (n, span) = (draw.between(2, 4), draw.between(2, 12));
-        let table = match draw.below(3) {
-            0 => fit_table(&mut draw, n, span, 1),
-            1 => spoilt_table(&mut draw, n, span, 1),
-            _ => suitable_table(&mut draw, n, span, 1).unwrap_or(fit_table(&mut draw, n, span, 1)),
-        };
-        let shown = unsuitable(&table);
-        assert_eq!(shown.is_some(), unsuitable_by_trying(&table), "{table:?}");
-        assert!(shown.iter().all(|&triple| shows_unsuitable(&table, triple)));
-        suitable += u64::from(shown.is_none());
+fn first_triples_as_listed() {
+    assert_eq!(read_table(&bytes_of(&Table::new(2, 4, 1, &[1]))), clash(1, 3, 0));
+    for (table, triple) in first_triples() {
+        for way in [first_by_trying, first_by_lookup] {
+            assert_eq!(first_both_ways(&table, way), Some(triple));
+        }
+        assert_eq!(read_table(&bytes_of(&table)), Err(ReadRefusal::Unsuitable(triple)));
+        assert_eq!(write(&table, 0).0, Err(WriteRefusal::Unsuitable(triple)));
     }
-    assert!((300..2700).contains(&suitable), "{suitable}");
+}
+
+#[test]
+fn first_triples_of_all_small_tables() {
+    for (n, span) in (2..=8).map(|span| (2, span)).chain([(3, 2), (3, 3), (3, 4), (3, 5), (4, 2), (4, 3)]) {
+        for all_rows in 0..1u64 << (span * (n - 1)) {
+            let row = |j| all_rows >> (span * j) & ((1 << span) - 1);
+            let table = Table::new(n, span, 1, &(0..n - 1).map(row).collect::<Vec<u64>>());
+            first_both_ways(&table, first_by_trying);
+            first_both_ways(&table, first_by_lookup);
+        }
+    }
+}
+
+#[test]
+fn first_triples_of_drawn_tables() {
+    let mut draw = Draw::from_seed(2);
+    let (mut suitable, mut dependent, mut shifts) = (0, 0, [0; 3]);
+    for round in 0..6_000 {
+        // all triples of few symbols are tried; of more, images are looked up
+        let (n, span, way): (_, _, fn(&Table) -> _) = match round % 20 {
+            0 => (draw.between(7, 10), draw.between(2, 32), first_by_lookup),
+            _ => (draw.between(2, 6), draw.between(2, 16), first_by_trying),
+        };
+        let table = match draw.below(6) {
+            0 | 1 => fit_table(&mut draw, n, span, 1),
+            2 => spoilt_table(&mut draw, n, span, 1),
+            3 => suitable_table(&mut draw, n, span, 1).unwrap_or(fit_table(&mut draw, n, span, 1)),
+            _ => clashing_table(&mut draw, n, span, 1),
+        };
+        match first_both_ways(&table, way) {
+            None => suitable += 1,
+            Some(Triple { e1: 0, .. }) => dependent += 1,
+            Some(Triple { l, .. }) => shifts[range_of_shift(n, l)] += 1,
+        }
+    }
+    let reached = suitable > 300 && dependent > 300 && shifts.iter().all(|&count| count > 200);
+    assert!(reached, "{suitable} suitable, {dependent} dependent, others by l {shifts:?}");
+}
+
+#[test]
+fn first_triples_of_16_symbols() {
+    let mut draw = Draw::from_seed(10);
+    for _ in 0..20 {
+        let span = draw.between(32, 64);
+        first_both_ways(&clashing_table(&mut draw, 16, span, 1), first_by_lookup);
+    }
 }
 
 #[test]
@@ -302,7 +345,7 @@ fn drawn_tables_are_as_meant() {
     let mut beyond_n = 0;
     for _ in 0..2000 {
         let table = any_suitable_table(&mut draw);
-        assert_eq!(unsuitable(&table), None, "{table:?}");
+        assert!(is_suitable(&table), "{table:?}");
         let spoilt = spoilt_table(&mut draw, table.n, table.span, table.depth);
         let shown = unsuitable(&spoilt).expect("spoilt");
         beyond_n += u64::from(shown.l >= spoilt.n);

@@ -10,6 +10,7 @@ use std::ops::Range;
 use std::time::Instant;
 
 mod batches;
+mod clashes;
 mod images;
 mod writing;
 
@@ -28,6 +29,7 @@ struct Tally {
     guard_end: [u64; MARKS],
     batches: batches::Count,
     writing: writing::Count,
+    clashes: clashes::Count,
     mismatches: u64,
     shown: Vec<String>,
 }
@@ -130,45 +132,31 @@ impl Twin {
 /// What reading answers of a table that it accepts.
 const READ: Reading = Reading { refused: 0, place: 0, l: 0, e0: 0, e1: 0 };
 
+/// Refusals 1 to 9.
+fn refused_at(refused: u64, place: u64) -> Reading {
+    Reading { refused, place, ..READ }
+}
+
+/// Refusal 10.
+fn unsuitable_by(Triple { l, e0, e1 }: Triple) -> Reading {
+    Reading { refused: 10, l, e0, e1, ..READ }
+}
+
 /// The answer, and what the table's numbers hold after it.
 fn plain_read(bytes: &[u8]) -> (Reading, Numbers) {
     let refusal = match oracle::read_table(bytes) {
         Ok(table) => return (READ, table.numbers()),
-        Err(ReadRefusal::At { number, place }) => Reading { refused: number, place: place as u64, ..READ },
-        Err(ReadRefusal::Unsuitable(Triple { l, e0, e1 })) => Reading { refused: 10, l, e0, e1, ..READ },
+        Err(ReadRefusal::At { number, place }) => refused_at(number, place as u64),
+        Err(ReadRefusal::Unsuitable(triple)) => unsuitable_by(triple),
     };
     (refusal, linked::UNWRITTEN)
-}
-
-/// The table of bytes that only refusal 10 meets: the records without the judgement.
-fn table_read_from(bytes: &[u8]) -> Table {
-    let mut table = Table::new(u64::from(bytes[1]), u64::from(bytes[2]), u64::from(bytes[3]), &[]);
-    for record in bytes[4..bytes.len() - 1].chunks_exact(10) {
-        let row = record[2..].iter().rev().fold(0, |row, &byte| row << 8 | u64::from(byte));
-        table.rows[usize::from(record[1]) - 1] = row;
-    }
-    table
-}
-
-/// Whether an answer of reading or writing is refusal 10 of this table: the number, no place or length, and a triple,
-/// which is free: it need only show the table unsuitable.
-fn is_refusal_10(table: &Table, [refused, rest, l, e0, e1]: [u64; 5]) -> bool {
-    (refused, rest) == (10, 0) && oracle::shows_unsuitable(table, Triple { l, e0, e1 })
-}
-
-fn readings_agree(bytes: &[u8], expected: Reading, got: Reading) -> bool {
-    let Reading { refused, place, l, e0, e1 } = got;
-    if expected.refused == 10 {
-        return is_refusal_10(&table_read_from(bytes), [refused, place, l, e0, e1]);
-    }
-    got == expected
 }
 
 fn compare_read(tally: &mut Tally, bytes: &[u8]) -> Reading {
     let (expected, numbers) = plain_read(bytes);
     let (got, got_numbers) = linked::read(bytes);
     tally.count(expected.refused);
-    tally.check(readings_agree(bytes, expected, got) && got_numbers == numbers, || {
+    tally.check(got == expected && got_numbers == numbers, || {
         format!("read {bytes:02X?}: expected {expected:?} {numbers:?}, got {got:?} {got_numbers:?}")
     });
     got
@@ -366,26 +354,24 @@ impl Side {
 
 // ---- Groups: the scope's examples ----
 
-fn expect_reading(tally: &mut Tally, bytes: &[u8], refused: u64, place: u64) {
+fn expect_reading(tally: &mut Tally, bytes: &[u8], due: Reading) {
     let got = compare_read(tally, bytes);
-    tally.check(got.refused == refused && got.place == place, || {
-        format!("read {bytes:02X?}: {refused} at {place} is due, got {got:?}")
-    });
+    tally.check(got == due, || format!("read {bytes:02X?}: {due:?} is due, got {got:?}"));
 }
 
 fn examples_of_tables(tally: &mut Tally, draw: &mut Draw) {
-    expect_reading(tally, &[1, 2, 4, 1, 2, 1, 0x0A, 0, 0, 0, 0, 0, 0, 0, 0], 0, 0);
-    expect_reading(tally, &[], 1, 0);
-    expect_reading(tally, &[0], 4, 0);
-    expect_reading(tally, &[1], 3, 0);
-    expect_reading(tally, &[1, 17, 4, 1], 5, 0);
+    expect_reading(tally, &[1, 2, 4, 1, 2, 1, 0x0A, 0, 0, 0, 0, 0, 0, 0, 0], READ);
+    expect_reading(tally, &[], refused_at(1, 0));
+    expect_reading(tally, &[0], refused_at(4, 0));
+    expect_reading(tally, &[1], refused_at(3, 0));
+    expect_reading(tally, &[1, 17, 4, 1], refused_at(5, 0));
     let tables = [
-        (Table::new(2, 4, 1, &[2]), 10),
-        (Table::new(3, 6, 1, &[56, 34]), 0),
-        (Table::new(5, 10, 1, &[976, 904, 772, 514]), 10),
+        (Table::new(2, 4, 1, &[2]), unsuitable_by(Triple { l: 1, e0: 1, e1: 2 })),
+        (Table::new(3, 6, 1, &[56, 34]), READ),
+        (Table::new(5, 10, 1, &[976, 904, 772, 514]), unsuitable_by(Triple { l: 2, e0: 7, e1: 29 })),
     ];
-    for (table, refused) in tables {
-        expect_reading(tally, &table_bytes(draw, &table), refused, 0);
+    for (table, due) in tables {
+        expect_reading(tally, &table_bytes(draw, &table), due);
     }
     for rows in [&[52, 34][..], &[232, 196, 130], &[976, 392, 772, 514]] {
         let n = rows.len() as u64 + 1;
@@ -421,7 +407,7 @@ fn bytes_of_every_refusal(tally: &mut Tally, _: &mut Draw) {
     let sizes = sizes_record(3, 6, 1);
     let (row_1, row_2) = (row_record(1, 56), row_record(2, 34));
     let mut expect = |parts: &[&[u8]], refused, place| {
-        expect_reading(tally, &parts.concat(), refused, place);
+        expect_reading(tally, &parts.concat(), refused_at(refused, place));
     };
     for (before, place) in [(vec![], 0), (sizes.clone(), 4), ([&sizes[..], &row_1].concat(), 14)] {
         expect(&[&before], 1, place);
@@ -461,9 +447,10 @@ fn bytes_of_every_refusal(tally: &mut Tally, _: &mut Draw) {
     expect(&[&sizes, &row_1, &row_2, &[0; 100_000]], 9, 25);
     let dependent = row_record(2, 56);
     expect(&[&sizes, &row_1, &dependent, &[0, 1]], 9, 25);
-    expect(&[&sizes, &row_1, &dependent, &[0]], 10, 0);
-    expect(&[&sizes, &row_1, &row_record(2, 0), &[0]], 10, 0);
-    expect(&[&sizes, &row_1, &row_record(2, 1), &[0]], 10, 0);
+    for (row_2, e0) in [(56, 3), (0, 2), (1, 6)] {
+        let bytes = [&sizes[..], &row_1, &row_record(2, row_2), &[0]].concat();
+        expect_reading(tally, &bytes, unsuitable_by(Triple { l: 1, e0, e1: 0 }));
+    }
 }
 
 fn bytes_cut_at_each_place(tally: &mut Tally, draw: &mut Draw) {
@@ -529,21 +516,15 @@ fn tables_of_all_sizes(tally: &mut Tally, draw: &mut Draw) {
     tally.check(accepted > 1000, || format!("only {accepted} tables accepted"));
 }
 
-/// Every row of n = 2 at small spans, and pairs of rows of n = 3: suitability also by trying all pairs.
+/// All rows of small tables: the first triple by trying all.
 fn small_tables_all(tally: &mut Tally, draw: &mut Draw) {
-    for span in 2..=9 {
-        for row in 0..1 << span {
-            judge_by_trying(tally, draw, &Table::new(2, span, 1, &[row]));
-        }
+    for (n, span) in (2..=9).map(|span| (2, span)).chain([(3, 2), (3, 4), (3, 5), (3, 6)]) {
+        each_tuple(&vec![(1 << span) - 1; n as usize - 1], |rows| {
+            let table = Table::new(n, span, 1, rows);
+            let due = oracle::first_by_trying(&table).map_or(READ, unsuitable_by);
+            expect_reading(tally, &table_bytes(draw, &table), due);
+        });
     }
-    for (row_1, row_2) in (0..64).flat_map(|row_1| (0..64).map(move |row_2| (row_1, row_2))) {
-        judge_by_trying(tally, draw, &Table::new(3, 6, 1, &[row_1, row_2]));
-    }
-}
-
-fn judge_by_trying(tally: &mut Tally, draw: &mut Draw, table: &Table) {
-    let refused = if oracle::unsuitable_by_trying(table) { 10 } else { 0 };
-    expect_reading(tally, &table_bytes(draw, table), refused, 0);
 }
 
 fn made_tables(tally: &mut Tally, draw: &mut Draw) {
@@ -561,7 +542,7 @@ fn made_tables(tally: &mut Tally, draw: &mut Draw) {
     }
     for n in 2..=16 {
         let made = oracle::table_of_triangle(&oracle::triangle()[..n - 1], 1);
-        expect_reading(tally, &table_bytes(draw, &made), 0, 0);
+        expect_reading(tally, &table_bytes(draw, &made), READ);
     }
 }
 
@@ -812,7 +793,7 @@ fn accepted_table(tally: &mut Tally, draw: &mut Draw) -> Table {
         return made_table(tally, table.n, table.depth);
     }
     let bytes = table_bytes(draw, &table);
-    expect_reading(tally, &bytes, 0, 0);
+    expect_reading(tally, &bytes, READ);
     table
 }
 
@@ -963,36 +944,26 @@ fn everything_reached(tally: &mut Tally, _: &mut Draw) {
     check_guard_end(tally, tally.guard_end, "in single calls");
     batches::everything_reached(tally);
     writing::everything_reached(tally);
+    clashes::everything_reached(tally);
     let calls = tally.calls - tally.batches.batches;
     tally.check(calls >= LEAST_CALLS, || format!("only {calls} calls compared, batches apart"));
 }
 
 // ---- Listed cases ----
 
-/// Whether reading said this, and wrote the table or nothing. The triple of refusal 10 is free.
-fn is_said(says: &Says, reading: Reading, numbers: Numbers) -> bool {
-    let (right, written) = match *says {
-        Says::Refused(refused, place) => (reading == Reading { refused, place, ..READ }, linked::UNWRITTEN),
-        Says::Accepted(ref table) => (reading == READ, table.numbers()),
-        Says::Unsuitable(ref table) => {
-            let Reading { refused, place, l, e0, e1 } = reading;
-            (is_refusal_10(table, [refused, place, l, e0, e1]), linked::UNWRITTEN)
-        }
-    };
-    right && numbers == written
-}
-
-/// Holds the plain answer and the linked one to the case, each by itself.
-fn check_reading(tally: &mut Tally, ReadCase { bytes, says }: &ReadCase) {
-    for (which, (reading, numbers)) in [("plain", plain_read(bytes)), ("linked", linked::read(bytes))] {
-        let said = is_said(says, reading, numbers);
-        tally.check(said, || format!("{which} answer: {reading:?} {numbers:?}"));
-    }
-}
-
 /// Holds both answers to the one that is due.
 fn check_answers<A: PartialEq + Debug>(tally: &mut Tally, due: A, plain: A, linked: A) {
     tally.check(plain == due && linked == due, || format!("plain answer: {plain:?}, linked: {linked:?}"));
+}
+
+/// Holds both answers to the case, and the table that is written or not.
+fn check_reading(tally: &mut Tally, ReadCase { bytes, says }: &ReadCase) {
+    let due = match says {
+        Says::Refused(number, place) => (refused_at(*number, *place), linked::UNWRITTEN),
+        Says::Unsuitable(triple) => (unsuitable_by(*triple), linked::UNWRITTEN),
+        Says::Accepted(table) => (READ, table.numbers()),
+    };
+    check_answers(tally, due, plain_read(bytes), linked::read(bytes));
 }
 
 /// Holds both answers to the case, and every word of both memories.
@@ -1016,7 +987,7 @@ fn check_step(tally: &mut Tally, StepCase { table, memory, step, after }: &StepC
 
 type Group = (&'static str, fn(&mut Tally, &mut Draw));
 
-const GROUPS: [Group; 47] = [
+const GROUPS: [Group; 48] = [
     ("examples of tables", examples_of_tables),
     ("examples of steps", examples_of_steps),
     ("bytes of every refusal and place", bytes_of_every_refusal),
@@ -1063,6 +1034,7 @@ const GROUPS: [Group; 47] = [
     ("images: all error blocks, by batches of the decoder", images::by_decoder_batches),
     ("short guard", after_a_short_guard),
     ("short guard, one place less", shorter_guard_fails),
+    ("first triples of unsuitable tables, read and written", clashes::drawn),
     ("everything reached", everything_reached),
 ];
 
@@ -1123,6 +1095,7 @@ fn main() {
     println!("{}", guard_end_line(tally.guard_end, "in single calls"));
     println!("{}", tally.batches);
     println!("{}", tally.writing);
+    println!("{}", tally.clashes);
     println!("{passed} passed, {failed} failed");
     std::process::exit(i32::from(failed > 0));
 }

@@ -51,11 +51,31 @@ const MARGIN: usize = 11;
 
 const NOTHING: Written = Written { refused: 0, length: 0, l: 0, e0: 0, e1: 0 };
 
+/// Refusals 12 and 16.
+fn refusal(refused: u64) -> Written {
+    Written { refused, ..NOTHING }
+}
+
+/// Refusal 10.
+fn unsuitable_by(Triple { l, e0, e1 }: Triple) -> Written {
+    Written { refused: 10, l, e0, e1, ..NOTHING }
+}
+
+/// Refusal 10 of a table that was made unsuitable. If no triple is found, its l is 0, which no answer has.
+fn refusal_10(spoilt: &Table) -> Written {
+    oracle::unsuitable(spoilt).map_or(refusal(10), unsuitable_by)
+}
+
+/// What writing answers of a table of n symbols that it writes.
+fn written(n: u64) -> Written {
+    Written { length: length(n) as u64, ..NOTHING }
+}
+
 fn plain_written(answer: Result<usize, WriteRefusal>) -> Written {
     match answer {
         Ok(length) => Written { length: length as u64, ..NOTHING },
-        Err(WriteRefusal::Number(refused)) => Written { refused, ..NOTHING },
-        Err(WriteRefusal::Unsuitable(Triple { l, e0, e1 })) => Written { refused: 10, l, e0, e1, ..NOTHING },
+        Err(WriteRefusal::Number(refused)) => refusal(refused),
+        Err(WriteRefusal::Unsuitable(triple)) => unsuitable_by(triple),
     }
 }
 
@@ -72,26 +92,15 @@ fn linked_write(table: &Table, mut bytes: Vec<u8>) -> Outcome {
     (linked::write(&table.numbers(), &mut bytes[lent]), bytes)
 }
 
-/// The triple of refusal 10 is free.
-fn answers_agree(table: &Table, expected: Written, got: Written) -> bool {
-    let Written { refused, length, l, e0, e1 } = got;
-    if expected.refused == 10 {
-        return is_refusal_10(table, [refused, length, l, e0, e1]);
-    }
-    got == expected
-}
-
 /// Compares a write into so many bytes, and returns the answer and the bytes that it says are written.
-fn compare_write(tally: &mut Tally, draw: &mut Draw, table: &Table, room: usize) -> (Written, Vec<u8>) {
+pub fn compare_write(tally: &mut Tally, draw: &mut Draw, table: &Table, room: usize) -> (Written, Vec<u8>) {
     let before = any_bytes(draw, MARGIN + room + MARGIN);
     let (expected, plain) = plain_write(table, before.clone());
     let (got, bytes) = linked_write(table, before);
     let call = || format!("write {table:?} into {room} bytes");
     tally.calls += 1;
     tally.writing.add(expected.refused);
-    tally.check(answers_agree(table, expected, got), || {
-        format!("{}: expected {expected:?}, got {got:?}", call())
-    });
+    tally.check(got == expected, || format!("{}: expected {expected:?}, got {got:?}", call()));
     tally.check(bytes == plain, || {
         let at = plain.iter().zip(&bytes).position(|(plain, linked)| plain != linked);
         format!("{}: differs first at byte {:?}", call(), at.map(|at| at as isize - MARGIN as isize))
@@ -106,11 +115,10 @@ fn length(n: u64) -> usize {
 }
 
 /// Compares a write of which the answer is known, and returns the written bytes.
-fn expect_write(tally: &mut Tally, draw: &mut Draw, table: &Table, room: usize, due: u64) -> Vec<u8> {
+fn expect_write(tally: &mut Tally, draw: &mut Draw, table: &Table, room: usize, due: Written) -> Vec<u8> {
     let (got, written) = compare_write(tally, draw, table, room);
-    let taken = if due == 0 { length(table.n) } else { 0 };
-    tally.check(got.refused == due && written.len() == taken, || {
-        format!("write {table:?} into {room} bytes: {due} is due, got {got:?}")
+    tally.check(got == due && written.len() as u64 == due.length, || {
+        format!("write {table:?} into {room} bytes: {due:?} is due, got {got:?}")
     });
     written
 }
@@ -122,16 +130,13 @@ pub fn check_case(tally: &mut Tally, WriteCase { table, room, writes }: &WriteCa
     if let Writes::Bytes(bytes) = writes {
         after[MARGIN..MARGIN + bytes.len()].copy_from_slice(bytes);
     }
-    let outcomes = [("plain", plain_write(table, before.clone())), ("linked", linked_write(table, before))];
-    for (which, (answer, bytes)) in outcomes {
-        let Written { refused, length, l, e0, e1 } = answer;
-        let right = match writes {
-            Writes::Refused(number) => answer == Written { refused: *number, ..NOTHING },
-            Writes::Unsuitable => is_refusal_10(table, [refused, length, l, e0, e1]),
-            Writes::Bytes(bytes) => answer == Written { length: bytes.len() as u64, ..NOTHING },
-        };
-        tally.check(right && bytes == after, || format!("{which} answer: {answer:?}, bytes {bytes:02X?}"));
-    }
+    let due = match writes {
+        Writes::Refused(number) => refusal(*number),
+        Writes::Unsuitable(triple) => unsuitable_by(*triple),
+        Writes::Bytes(bytes) => Written { length: bytes.len() as u64, ..NOTHING },
+    };
+    let (plain, linked) = (plain_write(table, before.clone()), linked_write(table, before));
+    check_answers(tally, (due, after), plain, linked);
 }
 
 // ---- Drawn tables and rooms ----
@@ -156,7 +161,7 @@ fn changed_made_table(draw: &mut Draw, n: u64, depth: u64) -> Table {
     for _ in 0..draw.between(1, 6) {
         let mut changed = table.clone();
         change_row(draw, &mut changed);
-        if oracle::unsuitable(&changed).is_none() {
+        if oracle::is_suitable(&changed) {
             table = changed;
         }
     }
@@ -180,7 +185,7 @@ fn enough(draw: &mut Draw, n: u64) -> usize {
 }
 
 /// Enough, or less.
-fn any_room(draw: &mut Draw, n: u64) -> usize {
+pub fn any_room(draw: &mut Draw, n: u64) -> usize {
     match draw.below(6) {
         0 => 0,
         1 => length(n) - 1,
@@ -198,7 +203,7 @@ fn given_back(table: &Table) -> Table {
 
 /// Compares a reading that returns this table.
 fn expect_table(tally: &mut Tally, bytes: &[u8], table: &Table) {
-    expect_reading(tally, bytes, 0, 0);
+    expect_reading(tally, bytes, READ);
     let read = linked::read(bytes);
     tally.check(read == (READ, given_back(table).numbers()), || {
         format!("read {bytes:02X?}: {table:?} is due, got {read:?}")
@@ -211,10 +216,10 @@ pub fn read_back(tally: &mut Tally, draw: &mut Draw) {
         let n = 2 + round % 15;
         let table = accepted(draw, n);
         let room = enough(draw, n);
-        let written = expect_write(tally, draw, &table, room, 0);
-        expect_table(tally, &written, &table);
-        let again = expect_write(tally, draw, &given_back(&table), length(n), 0);
-        tally.check(again == written, || format!("{written:02X?} written again is {again:02X?}"));
+        let bytes = expect_write(tally, draw, &table, room, written(n));
+        expect_table(tally, &bytes, &table);
+        let again = expect_write(tally, draw, &given_back(&table), length(n), written(n));
+        tally.check(again == bytes, || format!("{bytes:02X?} written again is {again:02X?}"));
     }
 }
 
@@ -236,9 +241,9 @@ pub fn files_sorted(tally: &mut Tally, draw: &mut Draw) {
         let file = table_bytes(draw, &table);
         expect_table(tally, &file, &table);
         let room = enough(draw, n);
-        let written = expect_write(tally, draw, &given_back(&table), room, 0);
+        let bytes = expect_write(tally, draw, &given_back(&table), room, written(n));
         let sorted = with_rows_sorted(&file);
-        tally.check(written == sorted, || format!("file {file:02X?} is written as {written:02X?}"));
+        tally.check(bytes == sorted, || format!("file {file:02X?} is written as {bytes:02X?}"));
         moved += u64::from(sorted != file);
     }
     tally.check(moved > 2_000, || format!("only {moved} files were not sorted"));
@@ -250,12 +255,13 @@ pub fn every_room(tally: &mut Tally, draw: &mut Draw) {
     for n in (2..=16).flat_map(|n| [n; 4]) {
         let table = accepted(draw, n);
         let spoilt = spoilt_table(draw, n, table.span, table.depth);
+        let first = refusal_10(&spoilt);
         let unfit = unfit_table(draw, &table);
         for room in (0..=length(n) + 7).chain([256, 1 << 16]) {
-            let due = if room < length(n) { 16 } else { 0 };
+            let due = if room < length(n) { refusal(16) } else { written(n) };
             expect_write(tally, draw, &table, room, due);
-            expect_write(tally, draw, &spoilt, room, 10);
-            expect_write(tally, draw, &unfit, room, 12);
+            expect_write(tally, draw, &spoilt, room, first);
+            expect_write(tally, draw, &unfit, room, refusal(12));
         }
     }
 }
@@ -271,7 +277,8 @@ pub fn unfit(tally: &mut Tally, draw: &mut Draw) {
                 let fit = (2..=16).contains(&n) && (2..=64).contains(&span) && (1..=64).contains(&depth);
                 let room = any_room(draw, n.clamp(2, 16));
                 let table = Table::new(n, span, depth, &[]);
-                expect_write(tally, draw, &table, room, if fit { 10 } else { 12 });
+                let due = if fit { unsuitable_by(Triple { l: 1, e0: 1, e1: 0 }) } else { refusal(12) };
+                expect_write(tally, draw, &table, room, due);
             }
         }
     }
@@ -284,13 +291,13 @@ pub fn unfit(tally: &mut Tally, draw: &mut Draw) {
             let mut unfit = table.clone();
             unfit.rows[j as usize - 1] |= 1 << bit;
             let room = any_room(draw, n);
-            expect_write(tally, draw, &unfit, room, 12);
+            expect_write(tally, draw, &unfit, room, refusal(12));
         }
     }
     for _ in 0..20_000 {
         let table = any_table(draw);
         let (unfit, room) = (unfit_table(draw, &table), any_room(draw, table.n));
-        expect_write(tally, draw, &unfit, room, 12);
+        expect_write(tally, draw, &unfit, room, refusal(12));
     }
 }
 
@@ -301,7 +308,7 @@ pub fn unsuitable(tally: &mut Tally, draw: &mut Draw) {
         let depth = any_depth(draw);
         let spoilt = spoilt_table(draw, n, span, depth);
         let (table, room) = (with_unused_rows(draw, spoilt), any_room(draw, n));
-        expect_write(tally, draw, &table, room, 10);
+        expect_write(tally, draw, &table, room, refusal_10(&table));
     }
     let (mut stayed, mut spoilt) = (0, 0);
     for round in 0..3_000 {
@@ -318,20 +325,18 @@ pub fn unsuitable(tally: &mut Tally, draw: &mut Draw) {
         .check(stayed > 500 && spoilt > 500, || format!("{stayed} tables stayed suitable, {spoilt} did not"));
 }
 
-/// All rows of small tables, to 2^N, suitability by trying all pairs; with just the room, and a byte less.
+/// All rows of small tables, to 2^N, the first triple by trying all; with just the room, and a byte less.
 pub fn small_tables_all(tally: &mut Tally, draw: &mut Draw) {
-    for (n, span) in (2..=8).map(|span| (2, span)).chain([(3, 2), (3, 4), (3, 6)]) {
+    for (n, span) in (2..=8).map(|span| (2, span)).chain([(3, 2), (3, 4), (3, 5), (3, 6)]) {
         each_tuple(&vec![1 << span; n as usize - 1], |rows| {
             let table = Table::new(n, span, 1, rows);
-            let due = if rows.contains(&(1 << span)) {
-                12
-            } else if oracle::unsuitable_by_trying(&table) {
-                10
+            let refused = if rows.contains(&(1 << span)) {
+                Some(refusal(12))
             } else {
-                0
+                oracle::first_by_trying(&table).map(unsuitable_by)
             };
-            expect_write(tally, draw, &table, length(n), due);
-            expect_write(tally, draw, &table, length(n) - 1, if due == 0 { 16 } else { due });
+            expect_write(tally, draw, &table, length(n), refused.unwrap_or(written(n)));
+            expect_write(tally, draw, &table, length(n) - 1, refused.unwrap_or(refusal(16)));
         });
     }
 }
@@ -399,7 +404,7 @@ fn table_and_neighbours(draw: &mut Draw, n: u64) -> Vec<Table> {
     }
     let mut by_a_bit = table.clone();
     by_a_bit.rows[which] ^= 1 << draw.below(table.span);
-    if oracle::unsuitable(&by_a_bit).is_none() {
+    if oracle::is_suitable(&by_a_bit) {
         tables.push(by_a_bit);
     }
     tables
@@ -411,24 +416,24 @@ pub fn equal_tables(tally: &mut Tally, draw: &mut Draw) {
     let mut small = Vec::new();
     for (span, depth) in (4..=7).flat_map(|span| [(span, 1), (span, 2)]) {
         let tables = (0..1 << span).map(|row| Table::new(2, span, depth, &[row]));
-        for table in tables.filter(|table| oracle::unsuitable(table).is_none()) {
+        for table in tables.filter(oracle::is_suitable) {
             for table in [with_unused_rows(draw, table.clone()), table] {
-                let written = expect_write(tally, draw, &table, length(2), 0);
-                small.push((table, written));
+                let bytes = expect_write(tally, draw, &table, length(2), written(2));
+                small.push((table, bytes));
             }
         }
     }
     check_each_pair(tally, &small);
     for round in 0..600 {
         let tables = table_and_neighbours(draw, 2 + round % 15);
-        let written: Vec<(Table, Vec<u8>)> = tables
+        let with_bytes: Vec<(Table, Vec<u8>)> = tables
             .into_iter()
             .map(|table| {
                 let room = enough(draw, table.n);
-                let written = expect_write(tally, draw, &table, room, 0);
-                (table, written)
+                let bytes = expect_write(tally, draw, &table, room, written(table.n));
+                (table, bytes)
             })
             .collect();
-        check_each_pair(tally, &written);
+        check_each_pair(tally, &with_bytes);
     }
 }
