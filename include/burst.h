@@ -51,7 +51,8 @@
  *      7  the row has a one at bit N or above
  *      8  the end comes before every row was given
  *      9  bytes follow the end (place: the first of them)
- *     10  the table is unsuitable; l, e0 and e1 show it, and there is no place
+ *     10  the table is unsuitable; l, e0 and e1 show it, the first that do: the least l, of that the least e0, and of
+ *         that the least e1; there is no place
  *   making a table
  *     11  n or m is out of range
  *   starting and stepping, in this order
@@ -61,7 +62,7 @@
  *         is 2^(N-1) or more or a delayed block 2^(n-1) or more (never so once started, and stepped with one table;
  *         such a memory is to be started again)
  *     15  a step: the block is 2^(n-1) or more (information) or 2^n or more (received)
- *   writing a table: 12, then 10 (l, e0 and e1 show it), then
+ *   writing a table: 12, then 10 (with the same l, e0 and e1), then
  *     16  the lent bytes are fewer than 10n - 5
  *
  * A call that refuses writes nothing that it is lent, so a sequence goes on as if the call had not come.
@@ -80,16 +81,16 @@ extern "C" {
 struct burst_reading {
     uint64_t refused; /* 0: accepted; else 1 to 10 */
     uint64_t place;   /* of refusals 1 to 9: the offset into the bytes */
-    uint64_t l;       /* of refusal 10: a shift, 1 to N - 1, */
-    uint64_t e0;      /* an error block, below 2^n and not 0, */
-    uint64_t e1;      /* and an error block, below 2^n and perhaps 0, whose image shifted by l is that of e0 */
+    uint64_t l;       /* of refusal 10: the least shift, 1 to N - 1, that shows it, */
+    uint64_t e0;      /* the least error block, below 2^n and not 0, that shows it with l, */
+    uint64_t e1;      /* and the least error block, perhaps 0, whose image shifted by l is that of e0 */
 };
 
 /* What writing a table says. What does not apply is 0. */
 struct burst_written {
     uint64_t refused; /* 0: written; else 12, 10 or 16 */
     uint64_t length;  /* how many bytes were written: 10n - 5, at most 155 */
-    uint64_t l;       /* of refusal 10: a shift and two error blocks, as in struct burst_reading */
+    uint64_t l;       /* of refusal 10: the shift and the two error blocks, as in struct burst_reading */
     uint64_t e0;
     uint64_t e1;
 };
