@@ -51,8 +51,8 @@
  *      7  the row has a one at bit N or above
  *      8  the end comes before every row was given
  *      9  bytes follow the end (place: the first of them)
- *     10  the table is unsuitable; l, e0 and e1 show it, the first that do: the least l, of that the least e0, and of
- *         that the least e1; there is no place
+ *     10  the table is unsuitable; l, e0 and e1 show it, the first that do: the least l, for this l the least e0, and
+ *         for these two the least e1; there is no place
  *   making a table
  *     11  n or m is out of range
  *   starting and stepping, in this order

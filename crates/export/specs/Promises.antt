@@ -7,6 +7,8 @@
 --   StartsBy t words before r after   `burst_start_coder` and `burst_start_decoder`
 --   CodesBy t before info r after   `burst_code`
 --   DecodesBy t before received r after   `burst_decode`
+--
+-- What `burst_code_batch` and `burst_decode_batch` promise is `Fills` of `link`.
 use mathlib.Core.Path.{_≡_}
 use mathlib.Core.List.{List, [], _∷_}
 use Prim.Native.Nat.{ℕ}

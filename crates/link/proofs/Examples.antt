@@ -23,7 +23,7 @@ use Rattle.link.specs.Coder.{coderJoining, codedBlock, coderNext, codeAn
 use Rattle.link.specs.Decoder.{decoderJoining, decoderRegister, decoderFound, partNext, decoderNext, delivered}
 use Rattle.link.specs.Decoder.{delivery, decodeAnswer, decodeMemory}
 use Rattle.link.specs.Computed.{Z, answersBy}
-use Rattle.link.specs.Examples.{Reads, bytesOfZ, EXAMPLES}
+use Rattle.link.specs.Examples.{ReadsAs, bytesOfZ, EXAMPLES}
 
 -- T1
 z-reading : reading bytesOfZ ≡ record { answer = Accepted; table = Z 1 }
@@ -34,7 +34,7 @@ z-reading = refl
 pub z-accepted : (reading bytesOfZ .answer ≡ Accepted) × (reading bytesOfZ .table ≡ Z 1)
 z-accepted = rw z-reading (refl, refl)
 
-z-read : Reads bytesOfZ (0 ∷ []) (Z 1)
+z-read : ReadsAs bytesOfZ (0 ∷ []) (Z 1)
 z-read = rw z-reading (refl, refl)
 
 pub examples-hold : EXAMPLES
@@ -54,7 +54,7 @@ examples-hold = (
         (
           (refl, refl),
           (
-            (table 2 4 1 (2 ∷ replicate 14 0), refl, clash-here 4 (2 ∷ 1 ∷ []) 1 1 2 refl, refl),
+            (refl, refl),
             (
               (refl, refl),
               (
@@ -68,6 +68,7 @@ examples-hold = (
                         table 5 10 1 (976 ∷ 904 ∷ 772 ∷ 514 ∷ replicate 11 0),
                         refl,
                         clash-here 10 (976 ∷ 904 ∷ 772 ∷ 514 ∷ 1 ∷ []) 3 3 26 refl,
+                        refl,
                         refl,
                       ),
                       (

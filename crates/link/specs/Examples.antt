@@ -1,7 +1,7 @@
 -- The examples T1 to T12 of 01, and the two of 02, CR 5, as data. The depth m is 1 throughout.
 --
 --   Example     what is asked and what is answered
---   Reads bytes ns t      reading the bytes answers with the numbers ns, and the table t beside them
+--   ReadsAs bytes ns t    reading the bytes answers with the numbers ns, and the table t beside them
 --   Holds x, AllHold xs   the definitions give that answer, and all of these
 --   row j a b   a row record
 --   bytesOfZ    the bytes of T1
@@ -40,24 +40,24 @@ pub data Example : Type 0 where
   codes : List ℕ → List ℕ → List ℕ → List CodeAnswer → Example
   decodes : List ℕ → List ℕ → List ℕ → List DecodeAnswer → Example
 
-abbrev pub Reads : List ℕ → List ℕ → Table → Type 0
-Reads bytes ns t = (readNumbers (reading bytes .answer) ≡ ns) × (reading bytes .table ≡ t)
+abbrev pub ReadsAs : List ℕ → List ℕ → Table → Type 0
+ReadsAs bytes ns t = (readNumbers (reading bytes .answer) ≡ ns) × (reading bytes .table ≡ t)
 
 -- the bytes are accepted as the table; refused with a number and a place; refused for 10, which the triple shows;
 -- refused for 10 with the triple, the first; n and m = 1 make these rows; the bytes are accepted, and with their table
 -- the calls so answer
 abbrev pub Holds : Example → Type 0
-Holds (accepts bytes t) = Reads bytes (0 ∷ []) t
-Holds (refuses bytes k p) = Reads bytes (k ∷ p ∷ []) zeroTable
+Holds (accepts bytes t) = ReadsAs bytes (0 ∷ []) t
+Holds (refuses bytes k p) = ReadsAs bytes (k ∷ p ∷ []) zeroTable
 Holds (clashes bytes l e0 e1) =
     (t : Table) × (parse bytes ≡ parsed t) × Clashes (t .span) (rowsOf t) l e0 e1
-    × (getD (readNumbers (reading bytes .answer)) 0 0 ≡ 10)
-Holds (clashes-first bytes l e0 e1) = Reads bytes (10 ∷ l ∷ e0 ∷ e1 ∷ []) zeroTable
+    × (getD (readNumbers (reading bytes .answer)) 0 0 ≡ 10) × (reading bytes .table ≡ zeroTable)
+Holds (clashes-first bytes l e0 e1) = ReadsAs bytes (10 ∷ l ∷ e0 ∷ e1 ∷ []) zeroTable
 Holds (makes n rows) = making n 1 ≡ record { answer = Made; table = table n (2 * n) 1 (rows ++ replicate (16 - n) 0) }
 Holds (codes bytes s bs cs) =
-    (t : Table) × Reads bytes (0 ∷ []) t × (answersBy codeAnswer codeMemory s (calls t bs) ≡ cs)
+    (t : Table) × ReadsAs bytes (0 ∷ []) t × (answersBy codeAnswer codeMemory s (calls t bs) ≡ cs)
 Holds (decodes bytes s rs ds) =
-    (t : Table) × Reads bytes (0 ∷ []) t × (answersBy decodeAnswer decodeMemory s (calls t rs) ≡ ds)
+    (t : Table) × ReadsAs bytes (0 ∷ []) t × (answersBy decodeAnswer decodeMemory s (calls t rs) ≡ ds)
 
 abbrev pub AllHold : List Example → Type 0
 AllHold [] = Unit {0}
@@ -84,8 +84,8 @@ examples =
     ∷ refuses (0 ∷ []) 4 0
     ∷ refuses (1 ∷ []) 3 0
     ∷ refuses (1 ∷ 17 ∷ 4 ∷ 1 ∷ []) 5 0
-    -- T6: n = 2, N = 4, row 2
-    ∷ clashes ((1 ∷ 2 ∷ 4 ∷ 1 ∷ []) ++ row 1 2 0 ++ (0 ∷ [])) 1 1 2
+    -- T6: n = 2, N = 4, row 2: no other triple shows it
+    ∷ clashes-first ((1 ∷ 2 ∷ 4 ∷ 1 ∷ []) ++ row 1 2 0 ++ (0 ∷ [])) 1 1 2
     -- T7: n = 3, N = 6, rows 56, 34 (000, example 2)
     ∷ accepts ((1 ∷ 3 ∷ 6 ∷ 1 ∷ []) ++ row 1 56 0 ++ row 2 34 0 ++ (0 ∷ [])) (table 3 6 1 (56 ∷ 34 ∷ replicate 13 0))
     -- T8

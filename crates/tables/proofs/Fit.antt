@@ -11,7 +11,7 @@ use lib.Seq.{length-take-le, getD-append-add}
 use Rattle.span.specs.Combination.{Below}
 use Rattle.tables.specs.declared.table.Table.{Table}
 use Rattle.tables.specs.Table.{table, infoRows, codeRows, sizesFit, rowsFit, fit}
-use Rattle.tables.specs.Laws.{ZERO-UNFIT}
+use Rattle.tables.specs.Laws.{ZERO-UNFIT, CODE-ROWS}
 
 pub and-left : (s t : Bool) → s && t ≡ true → s ≡ true
 and-left true t e = refl
@@ -110,6 +110,11 @@ pub code-length : (n : ℕ) (rows : List ℕ) → 1 ≤ n → n - 1 ≤ length r
 code-length n rows h room =
     let size = length-take-le (n - 1) rows room in
     length-append (take (n - 1) rows) (1 ∷ []) ∙ (let e : length (take (n - 1) rows) + 1 ≡ n = omega arith in e)
+
+pub code-rows : CODE-ROWS
+code-rows t f room =
+    let z = fit-facts t f in
+    code-length (t .symbols) (t .rows) (omega arith) (omega arith)
 
 -- a list of zeros is 0 at every index
 pub zeros-at : (c i : ℕ) → _≡_ {A = ℕ} (getD (replicate c 0) i 0) 0

@@ -1,11 +1,12 @@
--- 02, CR 5, "The first clash": which triple refusal 10 returns.
+-- 02, CR 5, "The first clash": which triple refusal 10 returns. The rows are n in number, the parity's among them.
 --
---   Triple                 a shift l and two error blocks, e0 and e1
+--   Triple, triple l e0 e1 a shift l and two error blocks, e0 and e1
 --   firstFrom f a c        what f finds at the first number where it finds something, of the c numbers from a on
 --   clashOf N rows l e0    the first clash of the block e0 at the shift l
 --   clashAt N rows l       the first clash at the shift l
 --   firstClash N rows      the first clash of a table, or none
---   First N rows l e0 e1   the triple clashes, and is the least in this order
+--   First N rows l e0 e1   of all triples that clash this one has the least l, of those the least e0, of those the
+--                          least e1
 --   FIRST-CLASH            the search finds exactly that triple
 --   NO-CLASH               it finds none exactly if the table is suitable
 use mathlib.Core.Path.{_≡_}

@@ -4,7 +4,8 @@
 --   weight j                    the weight of symbol j in a block's number
 --   image rows e                the image of an error block
 --   shiftedImage N rows l e     the image of e shifted by l
---   Clashes N rows l e0 e1      what the triple of refusal 10 shows: the image of e0 is that of e1 shifted by l
+--   Clashes N rows l e0 e1      what the triple of refusal 10 shows: l is a shift, e0 and e1 are blocks, e0 is not 0,
+--                               and the image of e0 is that of e1 shifted by l
 --   Unsuitable N rows           some triple shows it
 --   Suitable N rows             none does
 use mathlib.Core.Path.{_≡_}

@@ -1,5 +1,6 @@
 -- What the crate proves of tables and refusals.
 --
+--   CODE-ROWS     a fit table by value has n rows, the parity's among them
 --   IMAGE         the image of one symbol is its row, and images are linear
 --   FIRST-APPLIES the test that it has the number of applies, and none before it
 --   FIRST-NONE    no refusal is the first that applies only if none applies
@@ -12,13 +13,18 @@ use mathlib.Core.List.{List, _∷_}
 use Prim.Native.Nat.{ℕ, suc, _+_, _-_, _≤_, _<_}
 use lib.ListN.{length, getD}
 use Rattle.span.specs.Word.{_⊕_}
+use Rattle.tables.specs.declared.table.Table.{Table}
 use Rattle.tables.specs.Code.{weight, image}
-use Rattle.tables.specs.Table.{zeroTable, fit}
+use Rattle.tables.specs.Table.{zeroTable, rowsOf, fit}
 use Rattle.tables.specs.Refusal.{firstOf}
 
 -- the table beside every refusal
 abbrev pub ZERO-UNFIT : Type 0
 ZERO-UNFIT = fit zeroTable ≡ false
+
+-- so that an error block of a table, which is below 2 to the number of its rows, is below 2^n
+abbrev pub CODE-ROWS : Type 0
+CODE-ROWS = (t : Table) → fit t ≡ true → length (t .rows) ≡ 15 → length (rowsOf t) ≡ t .symbols
 
 abbrev pub IMAGE : Type 0
 IMAGE = (rows : List ℕ)

@@ -9,7 +9,7 @@
 --   sizesFit n N m     n is 2 to 16, N is 2 to 64, m is 1 to 64
 --   rowsFit N rows     no row has a one at bit N or above
 --   fit t              refusal 12 does not apply
---   Whole t            t is fit, and its rows past n − 1 are 0
+--   Whole t            t is fit, it holds fifteen rows, and those past n − 1 are 0
 --   SameTable u t      u and t have the same n, N, m and rows 1 to n − 1: no call tells them apart
 use mathlib.Core.Path.{_≡_}
 use mathlib.Core.Bool.{Bool, true, _&&_}
@@ -49,7 +49,7 @@ rowsFit N (w ∷ ws) = ltb w (2 ^ N) && rowsFit N ws
 unfoldable pub fit : Table → Bool
 fit t = sizesFit (t .symbols) (t .span) (t .depth) && rowsFit (t .span) (take (t .symbols - 1) (t .rows))
 
--- a table as reading gives it: fit, and its other rows 0
+-- a table as reading gives it: fit, of fifteen rows, and those past n − 1 are 0
 pub record Whole (t : Table) : Type 0 where
   pub fits : fit t ≡ true
   pub room : length (t .rows) ≡ 15

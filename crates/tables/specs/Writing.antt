@@ -16,7 +16,7 @@
 --   sorted key rs       rs by the key, ascending: insertion sort
 --   recordsIn c s       the first c row records of s
 --   sortedFile bytes    a file with its rows sorted
---   WRITTEN-LENGTH      there are 10n − 5 of them, and of a fit table at most 155
+--   WRITTEN-LENGTH      the bytes of a table are 10n − 5, and of a fit one at most 155
 --   SOUND-WRITTEN       with room for them, a fit and suitable table is written
 --   READS-BACK          what was written is accepted, and says the table
 --   SAME-BYTES          fit tables are the same exactly if their bytes are

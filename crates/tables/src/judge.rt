@@ -51,7 +51,7 @@ fn clash_words(rows: &[u64], n: usize, span: usize, l: usize) -> [u64; 32]
     words
 }
 
-// The first clash at the first shift at which an image is a shifted one.
+// The least clash of the first shift that has one.
 fn search(rows: &[u64], n: usize, span: usize) -> Judgement
     requires { ⌜ (2 ≤ n) × (n ≤ 16) × (span ≤ 64) × (n - 1 ≤ length (now rows)) ⌝ }
     ensures { λ r. ⌜ r ≡ judgementOf (firstClash span (codeRows n (now (rows .entry)))) ⌝ }
