@@ -13,8 +13,8 @@ use lib.Dec.{eqb}
 use lib.ListN.{length}
 use lib.Pow.{pow-pos}
 use Rattle.tables.specs.Code.{image, shiftedImage, Clashes, Suitable}
-use Rattle.tables.specs.Clash.{Triple, triple, firstFrom, clashOf, clashAt, firstClash, First, FIRST-CLASH}
-use Rattle.tables.specs.Clash.{NO-CLASH}
+use Rattle.tables.specs.Clash.{Triple, triple, firstFrom, clashBy, clashOf, clashAt, firstClash, First}
+use Rattle.tables.specs.Clash.{FIRST-CLASH, NO-CLASH}
 
 -- what a search of the c numbers from a on says of them
 abbrev Finds : {A : Type 0} → (ℕ → Option A) → ℕ → ℕ → Option A → Type 0
@@ -46,7 +46,7 @@ finds {A} f a (suc c) = go (f a) refl (finds f (suc a) c)
     go (some x) e rest = (a, omega arith, omega arith, e, λ j l u. absurd (omega arith))
     go none e rest = finds-skip f a c e (firstFrom f (suc a) c) rest
 
--- where nothing is found below k, whatever stands where something is found stands from k on
+-- if nothing is found below k, and Q holds only where something is found, then it holds from k on only
 least-by : {A : Type 0} (f : ℕ → Option A) (a k : ℕ) → ((j : ℕ) → a ≤ j → j < k → f j ≡ none)
     → (Q : ℕ → Type 0) → ((j : ℕ) → f j ≡ none → Q j → ⊥) → (d : ℕ) → a ≤ d → Q d → k ≤ d
 least-by f a k below Q clear d from q = go (decLe k d)
@@ -78,17 +78,14 @@ first-at N rows l e0 e1 below least = record {
 module _ (N : ℕ) (rows : List ℕ) where
   -- of a block e0 at a shift l
   module _ (l e0 : ℕ) where
-    abbrev tried : ℕ → Option Triple
-    tried e1 = cond (eqb (image rows e0) (shiftedImage N rows l e1)) (some (triple l e0 e1)) none
-
-    tried-none : (e1 : ℕ) → tried e1 ≡ none → Clashes N rows l e0 e1 → ⊥
-    tried-none e1 e clash =
+    by-none : (e1 : ℕ) → clashBy N rows l e0 e1 ≡ none → Clashes N rows l e0 e1 → ⊥
+    by-none e1 e clash =
         Option·some-ne-none (triple l e0 e1)
         (sym (ap (λ (b : Bool). cond b (some (triple l e0 e1)) none) (eq-eqb _ _ (clash .alike))) ∙ e)
 
-    tried-some : (e1 : ℕ) (x : Triple) → tried e1 ≡ some x
+    by-some : (e1 : ℕ) (x : Triple) → clashBy N rows l e0 e1 ≡ some x
         → (image rows e0 ≡ shiftedImage N rows l e1) × (x ≡ triple l e0 e1)
-    tried-some e1 x e = go (eqb (image rows e0) (shiftedImage N rows l e1)) refl e
+    by-some e1 x e = go (eqb (image rows e0) (shiftedImage N rows l e1)) refl e
       where
         go : (b : Bool) → eqb (image rows e0) (shiftedImage N rows l e1) ≡ b
             → cond b (some (triple l e0 e1)) none ≡ some x
@@ -96,20 +93,21 @@ module _ (N : ℕ) (rows : List ℕ) where
         go true q h = (eqb-true _ _ q, sym (Option·some-injective (triple l e0 e1) x h))
         go false q h = absurd (Option·none-ne-some x h)
 
-    of-finds : Finds tried 0 (2 ^ length rows) (clashOf N rows l e0)
+    of-finds : Finds (clashBy N rows l e0) 0 (2 ^ length rows) (clashOf N rows l e0)
     unfolding clashOf
-    of-finds = finds tried 0 (2 ^ length rows)
+    of-finds = finds (clashBy N rows l e0) 0 (2 ^ length rows)
 
     of-none : clashOf N rows l e0 ≡ none → (e1 : ℕ) → Clashes N rows l e0 e1 → ⊥
     of-none e e1 clash =
         let below = clash .second-block in
-        tried-none e1 (subst (Finds tried 0 (2 ^ length rows)) e of-finds e1 (omega arith) (omega arith)) clash
+        by-none e1
+        (subst (Finds (clashBy N rows l e0) 0 (2 ^ length rows)) e of-finds e1 (omega arith) (omega arith)) clash
 
     of-some : (x : Triple) → 1 ≤ l → l < N → 1 ≤ e0 → e0 < 2 ^ length rows → clashOf N rows l e0 ≡ some x
         → (e1 : ℕ) × (x ≡ triple l e0 e1) × Clashes N rows l e0 e1 × ((d1 : ℕ) → Clashes N rows l e0 d1 → e1 ≤ d1)
     of-some x from to least small e =
-        let (e1, at, room, here, below) = subst (Finds tried 0 (2 ^ length rows)) e of-finds in
-        let (alike, same) = tried-some e1 x here in (
+        let (e1, at, room, here, below) = subst (Finds (clashBy N rows l e0) 0 (2 ^ length rows)) e of-finds in
+        let (alike, same) = by-some e1 x here in (
           e1,
           same,
           record {
@@ -120,7 +118,7 @@ module _ (N : ℕ) (rows : List ℕ) where
             second-block = omega arith;
             alike = alike;
           },
-          λ d1 clash. least-by tried 0 e1 below (Clashes N rows l e0) tried-none d1 (omega arith) clash,
+          λ d1 clash. least-by (clashBy N rows l e0) 0 e1 below (Clashes N rows l e0) by-none d1 (omega arith) clash,
         )
 
   -- at a shift l

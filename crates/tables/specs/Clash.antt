@@ -2,6 +2,7 @@
 --
 --   Triple, triple l e0 e1 a shift l and two error blocks, e0 and e1
 --   firstFrom f a c        what f finds at the first number where it finds something, of the c numbers from a on
+--   clashBy N rows l e0 e1 the triple, if the image of e0 is that of e1 shifted by l
 --   clashOf N rows l e0    the first clash of the block e0 at the shift l
 --   clashAt N rows l       the first clash at the shift l
 --   firstClash N rows      the first clash of a table, or none
@@ -32,12 +33,13 @@ unfoldable pub firstFrom : {A : Type 0} → (ℕ → Option A) → ℕ → ℕ �
 firstFrom f a zero = none
 firstFrom f a (suc c) = orElse (f a) (firstFrom f (suc a) c)
 
+abbrev pub clashBy : ℕ → List ℕ → ℕ → ℕ → ℕ → Option Triple
+clashBy N rows l e0 e1 = cond (eqb (image rows e0) (shiftedImage N rows l e1)) (some (triple l e0 e1)) none
+
 -- "least l, then least e0, then least e1": of a block e0 at a shift l, second blocks from 0 to 2^n − 1; at a shift,
 -- first blocks from 1 to 2^n − 1; and shifts from 1 to N − 1
 unfoldable pub clashOf : ℕ → List ℕ → ℕ → ℕ → Option Triple
-clashOf N rows l e0 =
-    firstFrom (λ e1. cond (eqb (image rows e0) (shiftedImage N rows l e1)) (some (triple l e0 e1)) none) 0
-    (2 ^ length rows)
+clashOf N rows l e0 = firstFrom (clashBy N rows l e0) 0 (2 ^ length rows)
 
 unfoldable pub clashAt : ℕ → List ℕ → ℕ → Option Triple
 clashAt N rows l = firstFrom (clashOf N rows l) 1 (2 ^ length rows - 1)

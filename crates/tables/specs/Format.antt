@@ -134,8 +134,8 @@ parseAt p g s = parseFrom (length s) p g s
 unfoldable pub parse : List ℕ → Parse
 parse bytes = parseAt 0 begun bytes
 
--- The bound makes no difference: a record that 1 to 9 refuse ends the reading, an end record ends it with the table, and
--- after any other the bytes that follow it are read.
+-- The bound makes no difference: a record that 1 to 9 refuse ends the reading, an end record ends it with the table,
+-- and after any other the bytes that follow it are read.
 abbrev pub PARSE-STEP : Type 0
 PARSE-STEP =
     (p : ℕ) (g : Progress) (s : List ℕ) →
