@@ -52,7 +52,7 @@
  *      8  the end comes before every row was given
  *      9  bytes follow the end (place: the first of them)
  *     10  the table is unsuitable; l, e0 and e1 show it, the first that do: the least l, for this l the least e0, and
- *         for these two the least e1; there is no place
+ *         for these two the least e1; there is no place. If e1 is 0, l is 1, and the rows of the ones of e0 sum to 0
  *   making a table
  *     11  n or m is out of range
  *   starting and stepping, in this order

@@ -12,9 +12,12 @@ use borrow.Author.Tests.{eq-eqb, eqb-true}
 use lib.Dec.{eqb}
 use lib.ListN.{length}
 use lib.Pow.{pow-pos}
+use Rattle.span.specs.Word.{shifted}
+use Rattle.span.proofs.Word.{shifted-zero}
+use Rattle.span.proofs.Combination.{combination-zero}
 use Rattle.tables.specs.Code.{image, shiftedImage, Clashes, Suitable}
 use Rattle.tables.specs.Clash.{Triple, triple, firstFrom, clashBy, clashOf, clashAt, firstClash, First}
-use Rattle.tables.specs.Clash.{FIRST-CLASH, NO-CLASH}
+use Rattle.tables.specs.Clash.{FIRST-CLASH, NO-CLASH, CLASH-ZERO}
 
 -- what a search of the c numbers from a on says of them
 abbrev Finds : {A : Type 0} → (ℕ → Option A) → ℕ → ℕ → Option A → Type 0
@@ -202,3 +205,22 @@ no-clash N rows = (first-none N rows, λ suits. go suits (firstClash N rows) ref
     go : Suitable N rows → (o : Option Triple) → firstClash N rows ≡ o → firstClash N rows ≡ none
     go suits none e = e
     go suits (some x) e = absurd (suits (x .l) (x .e0) (x .e1) (first-some N rows x e .clashes))
+
+pub clash-zero : CLASH-ZERO
+unfolding image shiftedImage
+clash-zero N rows l e0 f =
+    let c = f .clashes in
+    let from = c .shift-from in
+    let to = c .shift-to in
+    let none : (k : ℕ) → shiftedImage N rows k 0 ≡ 0 =
+    λ k. ap (shifted N k) (combination-zero rows) ∙ shifted-zero N k in
+    let zero : image rows e0 ≡ 0 = c .alike ∙ none l in
+    let least = f .least-shift 1 e0 0 (record {
+      shift-from = omega arith;
+      shift-to = omega arith;
+      first-some = c .first-some;
+      first-block = c .first-block;
+      second-block = c .second-block;
+      alike = zero ∙ sym (none 1);
+    }) in
+    (omega arith, zero)

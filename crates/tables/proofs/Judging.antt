@@ -5,7 +5,7 @@ use mathlib.Core.Option.{Option, none, some}
 use Rattle.tables.specs.declared.table.Table.{Table}
 use Rattle.tables.specs.declared.judge.Judgement.{Judgement}
 use Rattle.tables.specs.declared.judge.Judgement.the-variants.{Unfit, Clash, Sound}
-use Rattle.tables.specs.Clash.{Triple, triple, firstClash}
+use Rattle.tables.specs.Clash.{Triple, firstClash}
 use Rattle.tables.specs.Table.{rowsOf, fit}
 use Rattle.tables.specs.Judging.{judgementOf, judging, Judges, JUDGED}
 use Rattle.tables.proofs.Clash.{first-clash, no-clash}

@@ -10,6 +10,7 @@
 --                          least e1
 --   FIRST-CLASH            the search finds exactly that triple
 --   NO-CLASH               it finds none exactly if the table is suitable
+--   CLASH-ZERO             a first clash with e1 = 0 is at the shift 1, and the image of e0 is 0
 use mathlib.Core.Path.{_≡_}
 use mathlib.Core.Logic.{_↔_}
 use mathlib.Core.Bool.{cond}
@@ -60,3 +61,8 @@ FIRST-CLASH =
 
 abbrev pub NO-CLASH : Type 0
 NO-CLASH = (N : ℕ) (rows : List ℕ) → (firstClash N rows ≡ none) ↔ Suitable N rows
+
+-- "with e1 = 0 added so that the rows are independent": what a table designer is told by e1 = 0 is that the rows of the
+-- ones of e0 sum to 0
+abbrev pub CLASH-ZERO : Type 0
+CLASH-ZERO = (N : ℕ) (rows : List ℕ) (l e0 : ℕ) → First N rows l e0 0 → (l ≡ 1) × (image rows e0 ≡ 0)
