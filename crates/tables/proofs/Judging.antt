@@ -14,27 +14,23 @@ module _ (t : Table) where
   abbrev clash : Option Triple
   clash = firstClash (t .span) (rowsOf t)
 
-  pub judging-unfit : fit t ≡ false → judging t ≡ Unfit
+  pub judging-by : (b : Bool) → fit t ≡ b → judging t ≡ cond b (judgementOf clash) Unfit
   unfolding judging
-  judging-unfit e = ap (λ (b : Bool). cond b (judgementOf clash) Unfit) e
-
-  pub judging-fit : fit t ≡ true → judging t ≡ judgementOf clash
-  unfolding judging
-  judging-fit e = ap (λ (b : Bool). cond b (judgementOf clash) Unfit) e
+  judging-by b e = ap (λ (f : Bool). cond f (judgementOf clash) Unfit) e
 
   judges-fit : fit t ≡ true → (o : Option Triple) → clash ≡ o → Judges t (judgementOf o)
   judges-fit f none e = (f, no-clash (t .span) (rowsOf t) .0 e)
   judges-fit f (some c) e = (f, first-clash (t .span) (rowsOf t) (c .l) (c .e0) (c .e1) .0 e)
 
   judges : (b : Bool) → fit t ≡ b → Judges t (judging t)
-  judges true e = subst (Judges t) (sym (judging-fit e)) (judges-fit e clash refl)
-  judges false e = subst (Judges t) (sym (judging-unfit e)) e
+  judges true e = subst (Judges t) (sym (judging-by true e)) (judges-fit e clash refl)
+  judges false e = subst (Judges t) (sym (judging-by false e)) e
 
   judges-one : (j : Judgement) → Judges t j → judging t ≡ j
-  judges-one Unfit f = judging-unfit f
+  judges-one Unfit f = judging-by false f
   judges-one (Clash l e0 e1) (f, first) =
-      judging-fit f ∙ ap judgementOf (first-clash (t .span) (rowsOf t) l e0 e1 .1 first)
-  judges-one Sound (f, suits) = judging-fit f ∙ ap judgementOf (no-clash (t .span) (rowsOf t) .1 suits)
+      judging-by true f ∙ ap judgementOf (first-clash (t .span) (rowsOf t) l e0 e1 .1 first)
+  judges-one Sound (f, suits) = judging-by true f ∙ ap judgementOf (no-clash (t .span) (rowsOf t) .1 suits)
 
 pub judged : JUDGED
 judged t j = (λ e. subst (Judges t) e (judges t (fit t) refl), judges-one t j)

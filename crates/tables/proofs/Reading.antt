@@ -12,9 +12,10 @@ use lib.ListN.{length, drop, length-drop}
 use Rattle.tables.specs.declared.table.Table.{Table}
 use Rattle.tables.specs.declared.judge.Judgement.{Judgement}
 use Rattle.tables.specs.declared.judge.Judgement.the-variants.{Unfit, Clash, Sound}
+use Rattle.tables.specs.declared.read.ReadAnswer.{ReadAnswer}
 use Rattle.tables.specs.declared.read.ReadAnswer.the-variants.{Accepted, Refused, Unsuitable}
 use Rattle.tables.specs.declared.read.Reading.{Reading}
-use Rattle.tables.specs.Code.{Suitable, Unsuitable as CodeUnsuitable}
+use Rattle.tables.specs.Code.{Suitable}
 use Rattle.tables.specs.Clash.{Triple, firstClash, First}
 use Rattle.tables.specs.Table.{rowsOf, zeroTable, fit}
 use Rattle.tables.specs.Judging.{judging}
@@ -34,21 +35,14 @@ use Rattle.tables.proofs.Refusal.{first-range, first-applies}
 
 -- ---- by the parse
 
-reading-refused : (bytes : List ℕ) (k p : ℕ) → parse bytes ≡ refused k p
-    → reading bytes ≡ record { answer = Refused k p; table = zeroTable }
+reading-by : (bytes : List ℕ) (p : Parse) → parse bytes ≡ p → reading bytes ≡ readParse p
 unfolding reading
-reading-refused bytes k p e = ap readParse e
-
-reading-parsed : (bytes : List ℕ) (t : Table) → parse bytes ≡ parsed t
-    → reading bytes ≡ readTable t (firstClash (t .span) (rowsOf t))
-unfolding reading
-reading-parsed bytes t e = ap readParse e
+reading-by bytes p e = ap readParse e
 
 -- the answer that is given, and its numbers
 pub read-by : (bytes : List ℕ) (p : Parse) (r : Reading) → parse bytes ≡ p → r ≡ readParse p → Read bytes r
-unfolding reading
 read-by bytes p r q e = record {
-  answer = e ∙ ap readParse (sym q);
+  answer = e ∙ sym (reading-by bytes p q);
   numbers = ap (λ (x : Reading). readNumbers (x .answer)) e ∙ numbers-due p ∙ ap readResult (sym q);
 }
   where
@@ -75,50 +69,49 @@ sound-read t Unfit f e n = absurd (false≢true (sym (judged t Unfit .0 e) ∙ f
 sound-read t (Clash l e0 e1) f e n = absurd (n l e0 e1 refl)
 sound-read t Sound f e n = ap (readTable t) (no-clash (t .span) (rowsOf t) .1 (judged t Sound .0 e .1))
 
--- ---- a table that was parsed
+-- ---- by the answer
 
-accepted-by : (bytes : List ℕ) (p : Parse) → parse bytes ≡ p → readParse p .answer ≡ Accepted →
-    let t = readParse p .table in
-    (parse bytes ≡ parsed t) × Suitable (t .span) (rowsOf t)
-accepted-by bytes (refused k p) q a = let z : _≡_ {A = ℕ} 0 1 = cc in absurd (omega arith)
-accepted-by bytes (parsed t) q a = go (firstClash (t .span) (rowsOf t)) refl a
+-- what an answer, with the table u beside it, says of the bytes
+abbrev Told : List ℕ → ReadAnswer → Table → Type 0
+Told bytes Accepted u = (parse bytes ≡ parsed u) × Suitable (u .span) (rowsOf u)
+Told bytes (Refused k p) u = parse bytes ≡ refused k p
+Told bytes (Unsuitable l e0 e1) u = (t : Table) × (parse bytes ≡ parsed t) × First (t .span) (rowsOf t) l e0 e1
+
+told : (bytes : List ℕ) → Told bytes (reading bytes .answer) (reading bytes .table)
+unfolding reading
+told bytes = go (parse bytes) refl
   where
-    go : (o : Option Triple) → firstClash (t .span) (rowsOf t) ≡ o → readTable t o .answer ≡ Accepted →
-        let u = readTable t o .table in
-        (parse bytes ≡ parsed u) × Suitable (u .span) (rowsOf u)
-    go none e a = (q, no-clash (t .span) (rowsOf t) .0 e)
-    go (some c) e a = let z : _≡_ {A = ℕ} 0 1 = cc in absurd (omega arith)
+    table : (t : Table) → parse bytes ≡ parsed t → (o : Option Triple) → firstClash (t .span) (rowsOf t) ≡ o
+        → Told bytes (readTable t o .answer) (readTable t o .table)
+    table t q none e = (q, no-clash (t .span) (rowsOf t) .0 e)
+    table t q (some c) e = (t, q, first-clash (t .span) (rowsOf t) (c .l) (c .e0) (c .e1) .0 e)
+
+    go : (p : Parse) → parse bytes ≡ p → Told bytes (readParse p .answer) (readParse p .table)
+    go (refused k p) q = q
+    go (parsed t) q = table t q (firstClash (t .span) (rowsOf t)) refl
+
+told-by : (bytes : List ℕ) (a : ReadAnswer) → reading bytes .answer ≡ a → Told bytes a (reading bytes .table)
+told-by bytes a e = subst (λ (x : ReadAnswer). Told bytes x (reading bytes .table)) e (told bytes)
 
 pub accepted-suitable : ACCEPTED-SUITABLE
-unfolding reading
 accepted-suitable bytes a =
-    let s = accepted-by bytes (parse bytes) refl a in
+    let s = told-by bytes Accepted a in
     (s .0, parse-fit bytes (reading bytes .table) (s .0), s .1)
+
+-- a place is answered of a parse that is refused only
+pub refused-parse : (bytes : List ℕ) (k p : ℕ) → reading bytes .answer ≡ Refused k p → parse bytes ≡ refused k p
+refused-parse bytes k p a = told-by bytes (Refused k p) a
+
+pub refused-unsuitable : REFUSED-UNSUITABLE
+refused-unsuitable bytes l e0 e1 a =
+    let (t, q, first) = told-by bytes (Unsuitable l e0 e1) a in
+    (t, q, first, (l, e0, e1, first .clashes))
+
+-- ---- a table that was parsed
 
 pub suitable-accepted : SUITABLE-ACCEPTED
 suitable-accepted bytes t e suits =
-    reading-parsed bytes t e ∙ ap (readTable t) (no-clash (t .span) (rowsOf t) .1 suits)
-
-unsuitable-by : (bytes : List ℕ) (l e0 e1 : ℕ) (p : Parse) → parse bytes ≡ p → readParse p .answer ≡ Unsuitable l e0 e1
-    → (t : Table) × (parse bytes ≡ parsed t) × First (t .span) (rowsOf t) l e0 e1 × CodeUnsuitable (t .span) (rowsOf t)
-unsuitable-by bytes l e0 e1 (refused k p) q a = let z : _≡_ {A = ℕ} 0 1 = cc in absurd (omega arith)
-unsuitable-by bytes l e0 e1 (parsed t) q a = go (firstClash (t .span) (rowsOf t)) refl a
-  where
-    go : (o : Option Triple) → firstClash (t .span) (rowsOf t) ≡ o → readTable t o .answer ≡ Unsuitable l e0 e1
-        → (t : Table) × (parse bytes ≡ parsed t) × First (t .span) (rowsOf t) l e0 e1
-        × CodeUnsuitable (t .span) (rowsOf t)
-    go none e a = let z : _≡_ {A = ℕ} 0 1 = cc in absurd (omega arith)
-    go (some c) e a =
-        let shifts : c .l ≡ l = cc in
-        let firsts : c .e0 ≡ e0 = cc in
-        let seconds : c .e1 ≡ e1 = cc in
-        let first : First (t .span) (rowsOf t) l e0 e1 =
-        rw (shifts, firsts, seconds) at (first-clash (t .span) (rowsOf t) (c .l) (c .e0) (c .e1) .0 e) in
-        (t, q, first, (l, e0, e1, first .clashes))
-
-pub refused-unsuitable : REFUSED-UNSUITABLE
-unfolding reading
-refused-unsuitable bytes l e0 e1 a = unsuitable-by bytes l e0 e1 (parse bytes) refl a
+    reading-by bytes (parsed t) e ∙ ap (readTable t) (no-clash (t .span) (rowsOf t) .1 suits)
 
 pub unsuitable-numbers : UNSUITABLE-NUMBERS
 unsuitable-numbers bytes t q f = go (firstClash (t .span) (rowsOf t)) refl
@@ -128,7 +121,7 @@ unsuitable-numbers bytes t q f = go (firstClash (t .span) (rowsOf t)) refl
         × First (t .span) (rowsOf t) l e0 e1 × (reading bytes .table ≡ zeroTable)
     go none e = absurd (f (no-clash (t .span) (rowsOf t) .0 e))
     go (some c) e =
-        let r = reading-parsed bytes t q ∙ ap (readTable t) e in (
+        let r = reading-by bytes (parsed t) q ∙ ap (readTable t) e in (
           c .l,
           c .e0,
           c .e1,
@@ -249,23 +242,7 @@ refused-place bytes k p e =
     let r = place-from (length bytes) 0 begun bytes k p (omega arith) e in
     (omega (arith, r .0), λ one. omega (arith, r .1 one), λ other. omega (arith, r .2 other))
 
--- a place is answered of a parse that is refused only
-pub refused-parse : (bytes : List ℕ) (k p : ℕ) → reading bytes .answer ≡ Refused k p → parse bytes ≡ refused k p
-unfolding reading
-refused-parse bytes k p a = go (parse bytes) refl a
-  where
-    table : (t : Table) (o : Option Triple) → readTable t o .answer ≡ Refused k p → parse bytes ≡ refused k p
-    table t none a = let z : _≡_ {A = ℕ} 0 1 = cc in absurd (omega arith)
-    table t (some c) a = let z : _≡_ {A = ℕ} 0 1 = cc in absurd (omega arith)
-
-    go : (q : Parse) → parse bytes ≡ q → readParse q .answer ≡ Refused k p → parse bytes ≡ refused k p
-    go (refused i at) e a =
-        let numbers : i ≡ k = cc in
-        let places : at ≡ p = cc in
-        cc
-    go (parsed t) e a = table t (firstClash (t .span) (rowsOf t)) a
-
 pub refused-numbers : REFUSED-NUMBERS
 refused-numbers bytes k p e =
-    let r = reading-refused bytes k p e in
+    let r = reading-by bytes (refused k p) e in
     (ap (λ (x : Reading). readNumbers (x .answer)) r, ap (λ (x : Reading). x .table) r)

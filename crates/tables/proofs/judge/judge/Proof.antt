@@ -1,10 +1,11 @@
 -- `tables::judge::judge`: a fit table is searched for a clash. Assumes nothing.
 use mathlib.Core.Path.{_≡_, sym, _∙_}
+use mathlib.Core.Bool.{true, false}
 use native.Mathlib.Omega.{arith}
 use lib.ListN.{length}
 use borrow.Author.Needs.{needs}
 use Rattle.tables.proofs.Fit.{fit-facts}
-use Rattle.tables.proofs.Judging.{judging-unfit, judging-fit}
+use Rattle.tables.proofs.Judging.{judging-by}
 use Rattle.tables.proofs.judge.judge.Statement.{statement}
 use Rattle.tables.proofs.judge.judge.Tie as tie
 
@@ -24,12 +25,13 @@ search-requires c κs =
 returns : tie.Need-returns
 returns c =
     c .search .ensures
-    ∙ sym (judging-fit (c .before .before .before .before .before .args .t)
+    ∙ sym (judging-by (c .before .before .before .before .before .args .t) true
     (sym (c .before .before .is-fit .ensures) ∙ c .before .if1 .taken))
 
 returns-2 : tie.Need-returns-2
 returns-2 c =
-    sym (judging-unfit (c .before .before .before .before .args .t) (sym (c .before .is-fit .ensures) ∙ c .if1 .left))
+    sym (judging-by (c .before .before .before .before .args .t) false
+    (sym (c .before .is-fit .ensures) ∙ c .if1 .left))
 
 pub judge-spec : {M : Type 1} → statement M
 judge-spec = tie.close (tie.spec slice-aggregate-rows is-fit-requires search-requires returns returns-2)
