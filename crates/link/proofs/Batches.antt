@@ -229,7 +229,7 @@ module _ (memory kept : Table → List ℕ → ℕ → List ℕ) (one : List ℕ
           → (one s h .entries ++ filled one there hs ≡ run memory kept s (first ++ more))
           × (after one there hs ≡ ran memory s (first ++ more))
       joined rest =
-          let both = run-append ℕ memory kept s first more in
+          let both = run-append Table ℕ memory kept s first more in
           let here = is-run s h in (
             ap₂ (λ (xs ys : List ℕ). xs ++ ys) (here .0)
                 (rest .0 ∙ ap (λ (m : List ℕ). run memory kept m more) (here .1))

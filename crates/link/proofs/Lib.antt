@@ -1,6 +1,7 @@
 -- The laws of coder and decoder, and why they together have the properties that 01 asks for; the lowest file first. A
 -- crate above sees those that are public.
 mod Parts
+pub mod Memory
 pub mod Refusals
 mod Malformed
 pub mod Starting
@@ -17,25 +18,25 @@ mod Reached
 mod Entries
 mod Suitable
 mod Origin
-mod Step
+pub mod Step
 mod Sequence
 mod ParitySymbol
 mod ShortGuard
-mod Convolution
+pub mod Convolution
 mod Register
 mod Interleaving
 mod Streams
 mod Turn
 mod Delay
 mod Rows
-mod Runs
+pub mod Runs
 mod OneTable
 mod Formed
 mod Seen
 mod Going
 mod CodeWords
 mod Massey
-mod Bursts
+pub mod Bursts
 mod Fade
 mod Recovery
 mod Guard

@@ -25,17 +25,17 @@ use Rattle.link.specs.Memory.{fillOf, delayOf}
 use Rattle.link.specs.Refusals.{coderFault, decoderFault, answered, leaves}
 use Rattle.link.specs.Coder.{codedBlock, coderNext, codeAnswer, codeMemory}
 use Rattle.link.specs.Decoder.{decoderNext, delivered, delivery, decodeAnswer, decodeMemory}
-use Rattle.link.specs.Runs.{Call, Sent, Taken, sentOf, takenOf, run, ran, placed, sentBy, takenBy, RUN-APPEND}
+use Rattle.link.specs.Runs.{CallOf, Call, Sent, Taken, sentOf, takenOf, run, ran, placed, sentBy, takenBy, RUN-APPEND}
 use Rattle.link.specs.Runs.{REFUSED-SKIPPED}
 
 -- a call's fault and the memory after it where that is 0: what every call leaves
-module _ (fault : Table → List ℕ → ℕ → ℕ) (next memory : Table → List ℕ → ℕ → List ℕ)
-    (is-memory : (t : Table) (s : List ℕ) (b : ℕ) → memory t s b ≡ leaves (fault t s b) (next t s b) s) where
-  memory-taken : (t : Table) (s : List ℕ) (b : ℕ) → fault t s b ≡ 0 → memory t s b ≡ next t s b
+module _ {T : Type 0} (fault : T → List ℕ → ℕ → ℕ) (next memory : T → List ℕ → ℕ → List ℕ)
+    (is-memory : (t : T) (s : List ℕ) (b : ℕ) → memory t s b ≡ leaves (fault t s b) (next t s b) s) where
+  memory-taken : (t : T) (s : List ℕ) (b : ℕ) → fault t s b ≡ 0 → memory t s b ≡ next t s b
   unfolding leaves
   memory-taken t s b e = is-memory t s b ∙ rw (eq-eqb (fault t s b) 0 e)
 
-  memory-refused : (t : Table) (s : List ℕ) (b : ℕ) → fault t s b ≢ 0 → memory t s b ≡ s
+  memory-refused : (t : T) (s : List ℕ) (b : ℕ) → fault t s b ≢ 0 → memory t s b ≡ s
   unfolding leaves
   memory-refused t s b e = is-memory t s b ∙ rw (ne-eqb (fault t s b) 0 e)
 
@@ -44,23 +44,23 @@ module _ (fault : Table → List ℕ → ℕ → ℕ) (next memory : Table → L
   later s f (suc p) = f p
 
   -- the memory before the call that is taken at place p, counted from 0
-  pub before : List ℕ → List Call → ℕ → List ℕ
+  pub before : List ℕ → List (CallOf T) → ℕ → List ℕ
   before s [] p = s
   before s (c ∷ cs) p =
       cond (eqb (fault (c .table) s (c .block)) 0)
       (later s (before (next (c .table) s (c .block)) cs) p) (before s cs p)
 
-  before-taken : (s : List ℕ) (c : Call) (cs : List Call) (p : ℕ) → fault (c .table) s (c .block) ≡ 0
+  before-taken : (s : List ℕ) (c : CallOf T) (cs : List (CallOf T)) (p : ℕ) → fault (c .table) s (c .block) ≡ 0
       → before s (c ∷ cs) p ≡ later s (before (next (c .table) s (c .block)) cs) p
   unfolding before
   before-taken s c cs p e = rw (eq-eqb (fault (c .table) s (c .block)) 0 e)
 
-  before-refused : (s : List ℕ) (c : Call) (cs : List Call) (p : ℕ) → fault (c .table) s (c .block) ≢ 0
+  before-refused : (s : List ℕ) (c : CallOf T) (cs : List (CallOf T)) (p : ℕ) → fault (c .table) s (c .block) ≢ 0
       → before s (c ∷ cs) p ≡ before s cs p
   unfolding before
   before-refused s c cs p e = rw (ne-eqb (fault (c .table) s (c .block)) 0 e)
 
-  pub before-first : (s : List ℕ) (cs : List Call) → before s cs 0 ≡ s
+  pub before-first : (s : List ℕ) (cs : List (CallOf T)) → before s cs 0 ≡ s
   unfolding before later
   before-first s [] = refl
   before-first s (c ∷ cs) = go (eqb (fault (c .table) s (c .block)) 0) (before-first s cs)
@@ -69,11 +69,11 @@ module _ (fault : Table → List ℕ → ℕ → ℕ) (next memory : Table → L
       go true h = refl
       go false h = h
 
-  pub Told : {X : Type 0} → (Table → List ℕ → ℕ → List X) → (Table → List ℕ → ℕ → X) → Type 0
-  Told kept entry = (t : Table) (s : List ℕ) (b : ℕ) → kept t s b ≡ placed fault entry t s b
+  pub Told : {X : Type 0} → (T → List ℕ → ℕ → List X) → (T → List ℕ → ℕ → X) → Type 0
+  Told kept entry = (t : T) (s : List ℕ) (b : ℕ) → kept t s b ≡ placed fault entry t s b
 
-  module _ {X : Type 0} (kept : Table → List ℕ → ℕ → List X) (entry : Table → List ℕ → ℕ → X) (told : Told kept entry)
-      (s : List ℕ) (c : Call) (cs : List Call) where
+  module _ {X : Type 0} (kept : T → List ℕ → ℕ → List X) (entry : T → List ℕ → ℕ → X) (told : Told kept entry)
+      (s : List ℕ) (c : CallOf T) (cs : List (CallOf T)) where
     run-taken : fault (c .table) s (c .block) ≡ 0
         → run memory kept s (c ∷ cs) ≡ entry (c .table) s (c .block) ∷ run memory kept (next (c .table) s (c .block)) cs
     unfolding run Told
@@ -94,15 +94,15 @@ module _ (fault : Table → List ℕ → ℕ → ℕ) (next memory : Table → L
 
   -- At a place a call is taken, on the memory there. Whatever is told of the calls, that of this call stands at the
   -- place.
-  pub record Place (s : List ℕ) (cs : List Call) (p : ℕ) : Type 1 where
-    pub call : Call
+  pub record Place (s : List ℕ) (cs : List (CallOf T)) (p : ℕ) : Type 1 where
+    pub call : CallOf T
     pub taken : fault (call .table) (before s cs p) (call .block) ≡ 0
-    pub is : {X : Type 0} (kept : Table → List ℕ → ℕ → List X) (entry : Table → List ℕ → ℕ → X)
+    pub is : {X : Type 0} (kept : T → List ℕ → ℕ → List X) (entry : T → List ℕ → ℕ → X)
         → Told kept entry → (d : X)
         → getD (run memory kept s cs) p d ≡ entry (call .table) (before s cs p) (call .block)
     pub on : before s cs (suc p) ≡ next (call .table) (before s cs p) (call .block)
 
-  module _ (s : List ℕ) (c : Call) (cs : List Call) where
+  module _ (s : List ℕ) (c : CallOf T) (cs : List (CallOf T)) where
     place-first : fault (c .table) s (c .block) ≡ 0 → Place s (c ∷ cs) 0
     unfolding later
     place-first e =
@@ -148,8 +148,8 @@ module _ (fault : Table → List ℕ → ℕ → ℕ) (next memory : Table → L
               ∙ ap (λ (m : List ℕ). next (k .call .table) m (k .call .block)) (sym here);
         }
 
-  pub run-place : {X : Type 0} (kept : Table → List ℕ → ℕ → List X) (entry : Table → List ℕ → ℕ → X) → Told kept entry
-      → (s : List ℕ) (cs : List Call) (p : ℕ) → p < length (run memory kept s cs) → Place s cs p
+  pub run-place : {X : Type 0} (kept : T → List ℕ → ℕ → List X) (entry : T → List ℕ → ℕ → X) → Told kept entry
+      → (s : List ℕ) (cs : List (CallOf T)) (p : ℕ) → p < length (run memory kept s cs) → Place s cs p
   unfolding run
   run-place kept entry told s [] p h = absurd (omega arith)
   run-place {X} kept entry told s (c ∷ cs) p h =
@@ -172,11 +172,11 @@ module _ (fault : Table → List ℕ → ℕ → ℕ) (next memory : Table → L
           place-same s c cs z q (subst (Place s cs) k (same (omega arith)))
 
   -- what a call that is taken keeps, a run keeps, if each of its entries allows it
-  pub ran-keeps : {X : Type 0} (kept : Table → List ℕ → ℕ → List X) (entry : Table → List ℕ → ℕ → X) → Told kept entry
+  pub ran-keeps : {X : Type 0} (kept : T → List ℕ → ℕ → List X) (entry : T → List ℕ → ℕ → X) → Told kept entry
       → (Kept : List ℕ → Type 0) (allows : X → Type 0) (d : X)
-      → ((c : Call) (s : List ℕ) → fault (c .table) s (c .block) ≡ 0 → allows (entry (c .table) s (c .block)) → Kept s
+      → ((c : CallOf T) (s : List ℕ) → fault (c .table) s (c .block) ≡ 0 → allows (entry (c .table) s (c .block)) → Kept s
       → Kept (next (c .table) s (c .block)))
-      → (s : List ℕ) (cs : List Call) → Kept s
+      → (s : List ℕ) (cs : List (CallOf T)) → Kept s
       → ((p : ℕ) → p < length (run memory kept s cs) → allows (getD (run memory kept s cs) p d))
       → Kept (ran memory s cs)
   unfolding ran
@@ -210,22 +210,22 @@ module _ (fault : Table → List ℕ → ℕ → ℕ) (next memory : Table → L
 
 pub run-append : RUN-APPEND
 unfolding run ran
-run-append X memory kept s [] cs′ = (refl, refl)
-run-append X memory kept s (c ∷ cs) cs′ =
+run-append T X memory kept s [] cs′ = (refl, refl)
+run-append T X memory kept s (c ∷ cs) cs′ =
     let here = kept (c .table) s (c .block) in
     let there = memory (c .table) s (c .block) in
-    let rest = run-append X memory kept there cs cs′ in (
+    let rest = run-append T X memory kept there cs cs′ in (
       ap (λ (xs : List X). here ++ xs) (rest .0)
           ∙ sym (append-assoc here (run memory kept there cs) (run memory kept (ran memory there cs) cs′)),
       rest .1,
     )
 
 -- a call that is refused, anywhere in a list
-module _ (fault : Table → List ℕ → ℕ → ℕ) (next memory : Table → List ℕ → ℕ → List ℕ)
-    (is-memory : (t : Table) (s : List ℕ) (b : ℕ) → memory t s b ≡ leaves (fault t s b) (next t s b) s) {X : Type 0}
-    (kept : Table → List ℕ → ℕ → List X) (entry : Table → List ℕ → ℕ → X)
+module _ {T : Type 0} (fault : T → List ℕ → ℕ → ℕ) (next memory : T → List ℕ → ℕ → List ℕ)
+    (is-memory : (t : T) (s : List ℕ) (b : ℕ) → memory t s b ≡ leaves (fault t s b) (next t s b) s) {X : Type 0}
+    (kept : T → List ℕ → ℕ → List X) (entry : T → List ℕ → ℕ → X)
     (told : Told fault next memory is-memory kept entry)
-    (s : List ℕ) (cs : List Call) (c : Call) (cs′ : List Call)
+    (s : List ℕ) (cs : List (CallOf T)) (c : CallOf T) (cs′ : List (CallOf T))
     (refused : fault (c .table) (ran memory s cs) (c .block) ≢ 0) where
   there : List ℕ
   there = ran memory s cs
@@ -234,8 +234,8 @@ module _ (fault : Table → List ℕ → ℕ → ℕ) (next memory : Table → L
       × (ran memory s (cs ++ (c ∷ cs′)) ≡ ran memory s (cs ++ cs′))
   unfolding ran there
   skipped =
-      let with-c = run-append X memory kept s cs (c ∷ cs′) in
-      let without = run-append X memory kept s cs cs′ in (
+      let with-c = run-append T X memory kept s cs (c ∷ cs′) in
+      let without = run-append T X memory kept s cs cs′ in (
         with-c .0
             ∙ ap (λ (xs : List X). run memory kept s cs ++ xs)
             (run-refused fault next memory is-memory kept entry told there c cs′ refused)

@@ -12,11 +12,12 @@
 --   joining infos pending info     the word w of a step
 --   nextPending w                  the pending word that it leaves
 --   nextTurn m turn, fillNext t fill   turn and fill after a step
+--   pushed from y s                the words of s from `from` on without the first of them, and y as the last
 use mathlib.Core.Bool.{cond}
-use mathlib.Core.List.{List}
+use mathlib.Core.List.{List, [], _∷_, _++_}
 use Prim.Native.Nat.{ℕ, suc, _+_, _-_, _*_, _/_, _^_}
 use lib.Dec.{ltb, eqb}
-use lib.ListN.{getD, take, drop, replicate}
+use lib.ListN.{length, getD, take, drop, replicate}
 use Rattle.span.specs.Word.{_⊕_}
 use Rattle.span.specs.Combination.{combination}
 use Rattle.tables.specs.declared.table.Table.{Table}
@@ -74,6 +75,11 @@ fillNext t fill = cond (ltb fill (delayOf t)) (fill + 1) fill
 -- "Starting sets every word to zero."
 abbrev pub started : ℕ → List ℕ
 started words = replicate words 0
+
+-- "the oldest delayed block of that stream leaves and the received information, uncorrected, joins as the youngest";
+-- where there are no words from there on, nothing moves
+unfoldable pub pushed : ℕ → ℕ → List ℕ → List ℕ
+pushed from y s = cond (ltb from (length s)) (take from s ++ (drop (suc from) s ++ (y ∷ []))) s
 
 -- "In every step, of coder or decoder, w is the exclusive or of the pending word of the turn's stream and the rows of
 -- the ones in the block's information (for the decoder, as received)." The rows 1 to n − 1 of the information are a

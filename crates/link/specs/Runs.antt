@@ -1,6 +1,6 @@
 -- Runs of steps: each step gets the memory as the last left it (01, "After a fade").
 --
---   Call                     what a step is handed: a table and a block
+--   CallOf T, Call           what a step is handed: a table, or what stands for it, and a block
 --   Sent, Taken              what is kept of a coder step, and of a decoder step, that is not refused
 --   sentOf, takenOf          the same of an answer; nothing of a refusal
 --   run memory kept s cs     what is kept of the calls cs, in order, from the memory s on
@@ -30,9 +30,13 @@ use Rattle.link.specs.Refusals.{coderFault, decoderFault}
 use Rattle.link.specs.Coder.{codeAnswer, codeMemory}
 use Rattle.link.specs.Decoder.{decodeAnswer, decodeMemory}
 
-pub record Call : Type 0 where
-  pub table : Table
+-- stations with a code of their own have no table: `iwadare` hands nothing in its place
+pub record CallOf (T : Type 0) : Type 0 where
+  pub table : T
   pub block : ℕ
+
+abbrev pub Call : Type 0
+Call = CallOf Table
 
 -- "Sent block p is the answer of the p-th coder step that is not refused; the information sent in it is what that step
 -- was handed."
@@ -58,8 +62,8 @@ takenOf t r (DecodeRefused k) = []
 
 -- "Each step gets the memory as the last left it, nothing else writes it". "A refused step may stand anywhere in either
 -- list, whatever it is refused for. It has no place in the count."
-unfoldable pub run : {X : Type 0} (memory : Table → List ℕ → ℕ → List ℕ) (kept : Table → List ℕ → ℕ → List X)
-    → List ℕ → List Call → List X
+unfoldable pub run : {T X : Type 0} (memory : T → List ℕ → ℕ → List ℕ) (kept : T → List ℕ → ℕ → List X)
+    → List ℕ → List (CallOf T) → List X
 run memory kept s [] = []
 run memory kept s (c ∷ cs) = kept (c .table) s (c .block) ++ run memory kept (memory (c .table) s (c .block)) cs
 
@@ -70,7 +74,7 @@ sentBy = run codeMemory (λ t s b. sentOf t b (codeAnswer t s b))
 abbrev pub takenBy : List ℕ → List Call → List Taken
 takenBy = run decodeMemory (λ t s r. takenOf t r (decodeAnswer t s r))
 
-unfoldable pub ran : (memory : Table → List ℕ → ℕ → List ℕ) → List ℕ → List Call → List ℕ
+unfoldable pub ran : {T : Type 0} (memory : T → List ℕ → ℕ → List ℕ) → List ℕ → List (CallOf T) → List ℕ
 ran memory s [] = s
 ran memory s (c ∷ cs) = ran memory (memory (c .table) s (c .block)) cs
 
@@ -80,8 +84,7 @@ coderAfter = ran codeMemory
 abbrev pub decoderAfter : List ℕ → List Call → List ℕ
 decoderAfter = ran decodeMemory
 
-abbrev pub placed : {X : Type 0} → (Table → List ℕ → ℕ → ℕ) → (Table → List ℕ → ℕ → X)
-    → Table → List ℕ → ℕ → List X
+abbrev pub placed : {T X : Type 0} → (T → List ℕ → ℕ → ℕ) → (T → List ℕ → ℕ → X) → T → List ℕ → ℕ → List X
 placed fault entry t s b = cond (eqb (fault t s b) 0) (entry t s b ∷ []) []
 
 -- past the end of a list
@@ -107,8 +110,8 @@ DecoderTables t s ds = (p : ℕ) → 1 ≤ p → p ≤ length (takenBy s ds) →
 
 abbrev pub RUN-APPEND : Type 1
 RUN-APPEND =
-    (X : Type 0) (memory : Table → List ℕ → ℕ → List ℕ) (kept : Table → List ℕ → ℕ → List X) (s : List ℕ)
-    (cs cs′ : List Call)
+    (T X : Type 0) (memory : T → List ℕ → ℕ → List ℕ) (kept : T → List ℕ → ℕ → List X) (s : List ℕ)
+    (cs cs′ : List (CallOf T))
     → (run memory kept s (cs ++ cs′) ≡ run memory kept s cs ++ run memory kept (ran memory s cs) cs′)
     × (ran memory s (cs ++ cs′) ≡ ran memory (ran memory s cs) cs′)
 

@@ -1,6 +1,7 @@
 // The decoder: one step on lent memory, in 01's four lines.
 use crate::stream::next_turn;
 use crate::stream::one_at;
+use crate::stream::push;
 use span::bits::mask;
 use span::bits::select;
 use span::combine::combination;
@@ -248,21 +249,6 @@ fn explain(rows: &[u64], n: usize, x: u64) -> Least
 
 // ---- the memory
 
-// The oldest delayed block leaves, and another joins as the youngest.
-fn push(part: &mut [u64], youngest: u64)
-    requires { ⌜ 3 ≤ length (now part) ⌝ }
-    ensures { λ r.
-        ⌜ now (part .exit) ≡ take 2 (now (part .entry)) ++ (drop 3 (now (part .entry)) ++ (youngest ∷ [])) ⌝ }
-{
-    let last = part.len() - 1;
-    let mut i = 2;
-    while i < last {
-        part[i] = part[i + 1];
-        i += 1;
-    }
-    part[last] = youngest;
-}
-
 // The turn's stream after a step: w halved, the syndrome word that stays, and the delayed blocks, of which the oldest
 // is handed back.
 fn advance(part: &mut [u64], w: u64, kept: u64, youngest: u64) -> u64
@@ -273,7 +259,7 @@ fn advance(part: &mut [u64], w: u64, kept: u64, youngest: u64) -> u64
     let oldest = part[2];
     part[0] = w >> 1;
     part[1] = kept;
-    push(part, youngest);
+    push(part, 2, youngest);
     oldest
 }
 

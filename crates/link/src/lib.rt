@@ -4,4 +4,4 @@ pub mod code_batch;
 pub mod decode;
 pub mod decode_batch;
 pub mod start;
-mod stream;
+pub mod stream;

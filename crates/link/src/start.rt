@@ -2,12 +2,10 @@
 use tables::table::Table;
 use tables::table::is_fit;
 ghost use mathlib.Core.Path.{_≡_};
-ghost use mathlib.Core.Bool.{true};
 ghost use lib.ListN.{length, replicate};
-ghost use Rattle.tables.specs.declared.table.Table.{Table};
 ghost use Rattle.tables.specs.Table.{fit};
 ghost use Rattle.link.specs.Memory.{coderWords, decoderWords};
-ghost use Rattle.link.specs.Start.{Starts};
+ghost use Rattle.link.specs.Start.{StartsWords, Starts};
 
 pub enum StartAnswer {
     Started,
@@ -31,10 +29,9 @@ fn fits(t: Table) -> bool
     is_fit(t.symbols, t.span, t.depth, &t.rows)
 }
 
-// The length is looked at once the table is known to be fit, which is why the answer is that of any fit table.
-fn start(state: &mut [u64], words: usize) -> StartAnswer
-    ensures { λ r.
-        ⌜ ((t : Table) → fit t ≡ true → Starts t words (now (state .entry)) r (now (state .exit))) ⌝ }
+// A memory that is to have so many words, whatever the code: 13 alone is looked at.
+pub fn start(state: &mut [u64], words: usize) -> StartAnswer
+    ensures { λ r. ⌜ StartsWords words (now (state .entry)) r (now (state .exit)) ⌝ }
 {
     if state.len() != words {
         return StartAnswer::Refused(13);

@@ -1,8 +1,8 @@
-// What coder and decoder do alike in a step: the weight of a bit, and the turn.
+// What steps do alike: the weight of a bit, the turn, and delayed blocks that move.
 use span::bits::shift;
 ghost use mathlib.Core.Path.{_≡_};
 ghost use Prim.Native.Nat.{_^_, _≤_, _<_};
-ghost use Rattle.link.specs.Memory.{nextTurn};
+ghost use Rattle.link.specs.Memory.{nextTurn, pushed};
 
 // The weight of a bit.
 pub(crate) fn one_at(place: usize) -> u64
@@ -24,4 +24,21 @@ pub(crate) fn next_turn(depth: u64, turn: u64) -> u64
         }
     }
     0
+}
+
+// The words from `from` on move by one place, the first of them leaves, and another joins as the last. Where there are
+// none nothing changes.
+pub fn push(words: &mut [u64], from: usize, youngest: u64)
+    ensures { λ r. ⌜ now (words .exit) ≡ pushed from youngest (now (words .entry)) ⌝ }
+{
+    if words.len() <= from {
+        return;
+    }
+    let last = words.len() - 1;
+    let mut i = from;
+    while i < last {
+        words[i] = words[i + 1];
+        i += 1;
+    }
+    words[last] = youngest;
 }

@@ -4,16 +4,17 @@ use mathlib.Core.List.{List, [], _∷_, _++_}
 use Prim.Native.Nat.{ℕ, _/_, _≤_}
 use native.Mathlib.Omega.{arith}
 use borrow.Author.Needs.{needs}
-use lib.ListN.{length, set, take, drop, length-set, length-append, length-drop}
+use lib.ListN.{length, set, drop, length-set, length-append, length-drop}
+use Rattle.link.specs.Memory.{pushed}
+use Rattle.link.proofs.Memory.{pushed-some}
 use Rattle.link.proofs.decode.advance.Statement.{statement}
 use Rattle.link.proofs.decode.advance.Tie as tie
 
-pushed : (part last : List ℕ) (a b y : ℕ) → 3 ≤ length part
-    → last ≡ take 2 (set (set part 0 a) 1 b) ++ (drop 3 (set (set part 0 a) 1 b) ++ (y ∷ []))
+moved : (part last : List ℕ) (a b y : ℕ) → 3 ≤ length part → last ≡ pushed 2 y (set (set part 0 a) 1 b)
     → last ≡ a ∷ b ∷ (drop 3 part ++ (y ∷ []))
-pushed [] last a b y h e = absurd (omega arith)
-pushed (u ∷ []) last a b y h e = absurd (omega arith)
-pushed (u ∷ v ∷ part) last a b y h e = e
+moved [] last a b y h e = absurd (omega arith)
+moved (u ∷ []) last a b y h e = absurd (omega arith)
+moved (u ∷ v ∷ part) last a b y h e = e ∙ pushed-some 2 y (a ∷ b ∷ part) (omega arith)
 
 slice-read-oldest : tie.Need-slice-read-oldest
 slice-read-oldest c = search needs
@@ -35,7 +36,7 @@ part-next c =
     let here = c .before .before .before .before .before .before in
     let a = here .args in
     let p = c .before .before .push in
-    pushed (a .part .now) (p .last .0) (a .w / 2) (a .kept) (a .youngest) (here .pre) (p .ensures)
+    moved (a .part .now) (p .last .0) (a .w / 2) (a .kept) (a .youngest) (here .pre) (p .ensures)
 
 same-length : tie.Need-same-length
 same-length c =

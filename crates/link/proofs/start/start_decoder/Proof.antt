@@ -8,7 +8,7 @@ use borrow.Author.Needs.{needs}
 use Rattle.tables.specs.Table.{fit}
 use Rattle.tables.proofs.Fit.{fit-facts}
 use Rattle.link.specs.Memory.{decoderWords}
-use Rattle.link.proofs.Starting.{unfit-so}
+use Rattle.link.proofs.Starting.{unfit-so, starts-fit}
 use Rattle.link.proofs.start.start_decoder.Statement.{statement}
 use Rattle.link.proofs.start.start_decoder.Tie as tie
 
@@ -44,7 +44,11 @@ same-length : tie.Need-same-length
 same-length c = search needs
 
 returns : tie.Need-returns
-returns c = c .before .before .start .ensures _ (fitted (c .before .before .before .before .before .before))
+returns c =
+    let z = c .before .before .before .before .before .before in
+    let a = z .before .before .before .args in
+    starts-fit (a .t) (decoderWords (a .t)) (a .state .now) (c .before .before .start .result)
+    (c .before .before .start .last .0) (fitted z) (c .before .before .start .ensures)
 
 returns-2 : tie.Need-returns-2
 returns-2 c =
