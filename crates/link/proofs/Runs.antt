@@ -69,14 +69,14 @@ module _ {T : Type 0} (fault : T → List ℕ → ℕ → ℕ) (next memory : T 
       go true h = refl
       go false h = h
 
-  pub Told : {X : Type 0} → (T → List ℕ → ℕ → List X) → (T → List ℕ → ℕ → X) → Type 0
+  abbrev pub Told : {X : Type 0} → (T → List ℕ → ℕ → List X) → (T → List ℕ → ℕ → X) → Type 0
   Told kept entry = (t : T) (s : List ℕ) (b : ℕ) → kept t s b ≡ placed fault entry t s b
 
   module _ {X : Type 0} (kept : T → List ℕ → ℕ → List X) (entry : T → List ℕ → ℕ → X) (told : Told kept entry)
       (s : List ℕ) (c : CallOf T) (cs : List (CallOf T)) where
     run-taken : fault (c .table) s (c .block) ≡ 0
         → run memory kept s (c ∷ cs) ≡ entry (c .table) s (c .block) ∷ run memory kept (next (c .table) s (c .block)) cs
-    unfolding run Told
+    unfolding run
     run-taken e =
         let kept-one : kept (c .table) s (c .block) ≡ entry (c .table) s (c .block) ∷ [] =
         told (c .table) s (c .block) ∙ rw (eq-eqb (fault (c .table) s (c .block)) 0 e) in
@@ -85,7 +85,7 @@ module _ {T : Type 0} (fault : T → List ℕ → ℕ → ℕ) (next memory : T 
         (memory-taken (c .table) s (c .block) e)
 
     run-refused : fault (c .table) s (c .block) ≢ 0 → run memory kept s (c ∷ cs) ≡ run memory kept s cs
-    unfolding run Told
+    unfolding run
     run-refused e =
         let kept-none : kept (c .table) s (c .block) ≡ [] =
         told (c .table) s (c .block) ∙ rw (ne-eqb (fault (c .table) s (c .block)) 0 e) in
@@ -270,7 +270,7 @@ abbrev pub takenEntry : Table → List ℕ → ℕ → Taken
 takenEntry t s r = record { table = t; block = r; answer = delivery t s r }
 
 pub sent-told : Told coderFault coderNext codeMemory coder-memory (λ t s b. sentOf t b (codeAnswer t s b)) sentEntry
-unfolding Told codeAnswer answered
+unfolding codeAnswer answered
 sent-told t s b = go (eqb (coderFault t s b) 0)
   where
     go : (q : Bool) → sentOf t b (cond q (Coded (codedBlock t s b)) (CodeRefused (coderFault t s b)))
@@ -280,7 +280,7 @@ sent-told t s b = go (eqb (coderFault t s b) 0)
 
 pub taken-told : Told decoderFault decoderNext decodeMemory decoder-memory
     (λ t s r. takenOf t r (decodeAnswer t s r)) takenEntry
-unfolding Told decodeAnswer answered delivery
+unfolding decodeAnswer answered delivery
 taken-told t s r = go (eqb (decoderFault t s r) 0) (ltb (fillOf s) (delayOf t))
   where
     go : (q d : Bool)
@@ -293,12 +293,10 @@ taken-told t s r = go (eqb (decoderFault t s r) 0) (ltb (fillOf s) (delayOf t))
 -- anything told of a step that is taken
 pub coder-placed : {X : Type 0} (entry : Table → List ℕ → ℕ → X)
     → Told coderFault coderNext codeMemory coder-memory (placed coderFault entry) entry
-unfolding Told
 coder-placed entry t s b = refl
 
 pub decoder-placed : {X : Type 0} (entry : Table → List ℕ → ℕ → X)
     → Told decoderFault decoderNext decodeMemory decoder-memory (placed decoderFault entry) entry
-unfolding Told
 decoder-placed entry t s r = refl
 
 pub sent-place : (s : List ℕ) (cs : List Call) (p : ℕ) → p < length (sentBy s cs)

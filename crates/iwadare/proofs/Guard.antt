@@ -1,0 +1,148 @@
+-- A decoder on errors alone, of which the first 30 blocks are right: 18 of them leave its pending word 0, 12 more its
+-- terms, and no flip comes any more that could have reached a block of these. Assumes nothing.
+--
+--   guarded       after them the memory is quiet
+use mathlib.Core.Path.{_≡_, refl, sym, ap, ap₂, _∙_, subst}
+use mathlib.Core.Bool.{Bool, false, xor}
+use mathlib.Core.Logic.{_≢_, _⊎_, inl, inr}
+use mathlib.Core.List.{List, [], _∷_}
+use Prim.Native.Nat.{ℕ, zero, suc, _+_, _*_, _/_, _%_, _^_, _≤_, _<_}
+use native.Mathlib.Nat.{add-zero}
+use native.Mathlib.Decide.{ℕ-discrete}
+use native.Mathlib.Omega.{arith}
+use lib.ListN.{length, getD, replicate}
+use lib.Seq.{ext-getD}
+use Rattle.span.specs.Word.{_⊕_, odd, bit, sel, digit}
+use Rattle.span.specs.Combination.{combination}
+use Rattle.span.proofs.Word.{xor-zero-r, bit-none}
+use Rattle.span.proofs.Combination.{combination-zero}
+use Rattle.tables.proofs.Fit.{zeros-at}
+use Rattle.link.specs.Memory.{joining}
+use Rattle.link.specs.Step.{register}
+use Rattle.iwadare.specs.Memory.{generators, fillOf, pendingOf, termsOf, fillNext}
+use Rattle.iwadare.specs.Decoder.{decoderJoining, rawOf, registerOf, flipsOne, termsNext, decoderNext}
+use Rattle.iwadare.proofs.Decoder.{register-lt}
+use Rattle.iwadare.proofs.Words.{delayed, DecoderStep, decoder-step, no-flip-one, terms-quiet, terms-lt}
+use Rattle.iwadare.proofs.Patterns.{quiet}
+use Rattle.iwadare.proofs.Settled.{ErrorRun}
+
+-- the delayed blocks from number j on are zero
+abbrev Tail : ℕ → List ℕ → Type 0
+Tail j s = (i : ℕ) → j ≤ i → i < 18 → delayed s i ≡ 0
+
+-- ---- a right block
+
+joined-none : (pending : ℕ) → joining generators pending (0 % 2 ^ 2) ≡ pending
+unfolding joining
+joined-none pending = ap (λ (x : ℕ). pending ⊕ x) (combination-zero generators) ∙ xor-zero-r pending
+
+module _ (s : List ℕ) (size : length s ≡ 21) where
+  step : DecoderStep s 0 (decoderNext s 0)
+  step = decoder-step s 0 size
+
+  pending-half : pendingOf (decoderNext s 0) ≡ pendingOf s / 2
+  pending-half = step .pending-on ∙ ap (λ (w : ℕ). w / 2) (joined-none (pendingOf s))
+
+  -- where the pending word is 0, so is the raw term
+  register-none : pendingOf s ≡ 0 → registerOf s 0 ≡ termsOf s
+  unfolding registerOf rawOf decoderJoining xor odd bit
+  register-none z =
+      ap (λ (w : ℕ). register 13 (termsOf s) (xor (odd w) (bit 2 0))) (joined-none (pendingOf s) ∙ z)
+      ∙ add-zero (termsOf s)
+
+  terms-half : pendingOf s ≡ 0 → termsOf s < 2 ^ 12 → termsOf (decoderNext s 0) ≡ termsOf s / 2
+  terms-half z h =
+      step .terms-on ∙ ap termsNext (register-none z) ∙ terms-quiet (termsOf s) h
+
+  -- a flip reaches number 3 only
+  tail-on : (j : ℕ) → 3 ≤ j ⊎ (flipsOne (registerOf s 0) ≡ false) → Tail (suc j) s → Tail j (decoderNext s 0)
+  tail-on j c t i from to = go (ℕ-discrete i 17) (ℕ-discrete i 2) c
+    where
+      go : Dec (i ≡ 17) → Dec (i ≡ 2) → 3 ≤ j ⊎ (flipsOne (registerOf s 0) ≡ false) → delayed (decoderNext s 0) i ≡ 0
+      go (yes e) d c = ap (delayed (decoderNext s 0)) e ∙ step .youngest
+      go (no e) (no d) c = step .moved i (omega arith) d ∙ t (suc i) (omega arith) (omega arith)
+      go (no e) (yes d) (inl l) = absurd (omega arith)
+      go (no e) (yes d) (inr f) =
+          ap (delayed (decoderNext s 0)) d ∙ step .flipped
+          ∙ ap₂ (λ (x : ℕ) (b : Bool). x ⊕ sel b 2) (t 3 (omega arith) (omega arith)) f ∙ xor-zero-r 0
+
+-- ---- 30 of them
+
+module _ {E : ℕ → List ℕ} {e : ℕ → ℕ} (r : ErrorRun E e) (right : (p : ℕ) → p < 30 → e p ≡ 0)
+    (size : length (E 0) ≡ 21) (fill : fillOf (E 0) ≡ 18) (pending : pendingOf (E 0) < 2 ^ 18)
+    (terms : termsOf (E 0) < 2 ^ 12) where
+  on : (p : ℕ) → p < 30 → E (suc p) ≡ decoderNext (E p) 0
+  on p h = r .next p ∙ ap (decoderNext (E p)) (right p h)
+
+  sizes : (p : ℕ) → p ≤ 30 → length (E p) ≡ 21
+  sizes zero h = size
+  sizes (suc p) h = ap length (on p (omega arith)) ∙ decoder-step (E p) 0 (sizes p (omega arith)) .size
+
+  fills : (p : ℕ) → p ≤ 30 → fillOf (E p) ≡ 18
+  fills zero h = fill
+  fills (suc p) h =
+      ap fillOf (on p (omega arith)) ∙ decoder-step (E p) 0 (sizes p (omega arith)) .fill-on
+      ∙ ap fillNext (fills p (omega arith))
+
+  pending-falls : (p k : ℕ) → p + k ≡ 18 → pendingOf (E p) < 2 ^ k
+  pending-falls zero k h = subst (λ (j : ℕ). pendingOf (E 0) < 2 ^ j) (let q : 18 ≡ k = omega arith in q) pending
+  pending-falls (suc p) k h =
+      let z = pending-falls p (suc k) (omega arith) in
+      let half = ap pendingOf (on p (omega arith)) ∙ pending-half (E p) (sizes p (omega arith)) in
+      omega arith
+
+  pending-none : (d : ℕ) → d ≤ 12 → pendingOf (E (18 + d)) ≡ 0
+  pending-none zero h = let z = pending-falls 18 0 (omega arith) in omega arith
+  pending-none (suc d) h =
+      let z = pending-none d (omega arith) in
+      let half = ap pendingOf (ap E (let q : 18 + suc d ≡ suc (18 + d) = omega arith in q) ∙ on (18 + d) (omega arith))
+      ∙ pending-half (E (18 + d)) (sizes (18 + d) (omega arith)) in
+      omega arith
+
+  terms-low : (p : ℕ) → p ≤ 30 → termsOf (E p) < 2 ^ 12
+  terms-low zero h = terms
+  terms-low (suc p) h =
+      subst (λ (x : ℕ). x < 2 ^ 12)
+      (sym (ap termsOf (on p (omega arith)) ∙ decoder-step (E p) 0 (sizes p (omega arith)) .terms-on))
+      (terms-lt (registerOf (E p) 0) (register-lt (E p) 0 (terms-low p (omega arith))))
+
+  terms-fall : (d k : ℕ) → d + k ≡ 12 → termsOf (E (18 + d)) < 2 ^ k
+  terms-fall zero k h =
+      subst (λ (j : ℕ). termsOf (E 18) < 2 ^ j) (let q : 12 ≡ k = omega arith in q) (terms-low 18 (omega arith))
+  terms-fall (suc d) k h =
+      let z = terms-fall d (suc k) (omega arith) in
+      let half = ap termsOf (ap E (let q : 18 + suc d ≡ suc (18 + d) = omega arith in q) ∙ on (18 + d) (omega arith))
+      ∙ terms-half (E (18 + d)) (sizes (18 + d) (omega arith)) (pending-none d (omega arith))
+      (terms-low (18 + d) (omega arith)) in
+      omega arith
+
+  -- flips or not: the youngest blocks are right ones, as far as no flip reaches
+  tail-young : (p j : ℕ) → p ≤ 30 → 3 ≤ j → 18 ≤ p + j → Tail j (E p)
+  tail-young zero j h low many = λ i from to. absurd (omega arith)
+  tail-young (suc p) j h low many =
+      subst (Tail j) (sym (on p (omega arith)))
+      (tail-on (E p) (sizes p (omega arith)) j (inl low)
+      (tail-young p (suc j) (omega arith) (omega arith) (omega arith)))
+
+  -- and once no flip comes, all are
+  tail-all : (d j : ℕ) → d ≤ 12 → 3 ≤ d + j → Tail j (E (18 + d))
+  tail-all zero j h many = tail-young 18 j (omega arith) (omega arith) (omega arith)
+  tail-all (suc d) j h many =
+      subst (Tail j) (sym (ap E (let q : 18 + suc d ≡ suc (18 + d) = omega arith in q) ∙ on (18 + d) (omega arith)))
+      (tail-on (E (18 + d)) (sizes (18 + d) (omega arith)) j
+      (inr (ap flipsOne (register-none (E (18 + d)) (sizes (18 + d) (omega arith)) (pending-none d (omega arith)))
+      ∙ no-flip-one (termsOf (E (18 + d))) (terms-low (18 + d) (omega arith))))
+      (tail-all d (suc j) (omega arith) (omega arith)))
+
+  pub guarded : E 30 ≡ quiet
+  guarded = ext-getD 0 (E 30) quiet (sizes 30 (omega arith)) at
+    where
+      at : (i : ℕ) → i < length (E 30) → getD (E 30) i 0 ≡ getD quiet i 0
+      at zero h = fills 30 (omega arith)
+      at (suc zero) h = pending-none 12 (omega arith)
+      at (suc (suc zero)) h = let z = terms-fall 12 0 (omega arith) in omega arith
+      at (suc (suc (suc i))) h =
+          let n = sizes 30 (omega arith) in
+          ap (λ (j : ℕ). getD (E 30) j 0) (let q : suc (suc (suc i)) ≡ 3 + i = omega arith in q)
+          ∙ tail-all 12 0 (omega arith) (omega arith) i (omega arith) (omega arith)
+          ∙ sym (zeros-at 18 i)

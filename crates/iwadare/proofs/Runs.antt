@@ -1,0 +1,166 @@
+-- The steps of runs that are taken, as sequences: place p counts from 0, and the memory before it is that which the
+-- step before it left. Assumes nothing.
+--
+--   CoderRun, DecoderRun      the steps of a run, each on its memory
+--   coded, decoded            the runs of coder and decoder are such
+--   raw-place                 the raw term at a place
+use mathlib.Core.Path.{_≡_, refl, sym, ap, _∙_, subst}
+use mathlib.Core.Bool.{Bool, true, false, cond}
+use mathlib.Core.List.{List, [], _∷_}
+use Prim.Native.Nat.{ℕ, suc, _-_, _<_}
+use native.Mathlib.Omega.{arith}
+use lib.Dec.{ltb, eqb}
+use lib.ListN.{length, getD}
+use Rattle.link.specs.declared.code.CodeAnswer.the-variants.{Coded, Refused as CodeRefused}
+use Rattle.link.specs.Refusals.{answered, leaves}
+use Rattle.link.specs.Runs.{CallOf, placed}
+use Rattle.link.proofs.Runs.{before, before-first, Told, Place, run-place}
+use Rattle.iwadare.specs.declared.decode.DecodeAnswer.{DecodeAnswer}
+use Rattle.iwadare.specs.declared.decode.DecodeAnswer.the-variants.{Delivery, NothingYet, Refused}
+use Rattle.iwadare.specs.Memory.{delay, fillOf}
+use Rattle.iwadare.specs.Refusals.{coderFault, decoderFault}
+use Rattle.iwadare.specs.Coder.{codedBlock, coderNext, codeAnswer, codeMemory}
+use Rattle.iwadare.specs.Decoder.{rawOf, delivered, delivery, decoderNext, decodeAnswer, decodeMemory}
+use Rattle.iwadare.specs.Runs.{Sent, Taken, sentOf, takenOf, handed, sentBy, takenBy, noneSent, noneTaken}
+use Rattle.iwadare.specs.Runs.{sentAt, takenAt}
+use Rattle.iwadare.specs.Taps.{infoSent, blockSent, blockTaken, rawAt}
+
+pub record CoderRun (M : ℕ → List ℕ) (B C : ℕ → ℕ) (count : ℕ) : Type 0 where
+  pub taken : (p : ℕ) → p < count → coderFault (M p) (B p) ≡ 0
+  pub next : (p : ℕ) → p < count → M (suc p) ≡ coderNext (M p) (B p)
+  pub codes : (p : ℕ) → p < count → C p ≡ codedBlock (M p) (B p)
+
+pub record DecoderRun (S : ℕ → List ℕ) (R : ℕ → ℕ) (A : ℕ → DecodeAnswer) (count : ℕ) : Type 0 where
+  pub taken : (p : ℕ) → p < count → decoderFault (S p) (R p) ≡ 0
+  pub next : (p : ℕ) → p < count → S (suc p) ≡ decoderNext (S p) (R p)
+  pub answers : (p : ℕ) → p < count → A p ≡ delivery (S p) (R p)
+
+-- nothing is handed in the table's place
+abbrev pub None : Type 0
+None = Unit {0}
+
+pub coder-memory : (n : None) (s : List ℕ) (b : ℕ) → codeMemory s b ≡ leaves (coderFault s b) (coderNext s b) s
+unfolding codeMemory
+coder-memory n s b = refl
+
+pub decoder-memory : (n : None) (s : List ℕ) (r : ℕ) → decodeMemory s r ≡ leaves (decoderFault s r) (decoderNext s r) s
+unfolding decodeMemory
+decoder-memory n s r = refl
+
+abbrev pub coderBefore : List ℕ → List ℕ → ℕ → List ℕ
+coderBefore s bs =
+    before (λ (n : None). coderFault) (λ n. coderNext) (λ n. codeMemory) coder-memory s (handed bs)
+
+abbrev pub decoderBefore : List ℕ → List ℕ → ℕ → List ℕ
+decoderBefore s rs =
+    before (λ (n : None). decoderFault) (λ n. decoderNext) (λ n. decodeMemory) decoder-memory s (handed rs)
+
+pub coder-first : (s bs : List ℕ) → coderBefore s bs 0 ≡ s
+coder-first s bs =
+    before-first (λ (n : None). coderFault) (λ n. coderNext) (λ n. codeMemory) coder-memory s (handed bs)
+
+pub decoder-first : (s rs : List ℕ) → decoderBefore s rs 0 ≡ s
+decoder-first s rs =
+    before-first (λ (n : None). decoderFault) (λ n. decoderNext) (λ n. decodeMemory) decoder-memory s (handed rs)
+
+-- ---- what is kept of a step that is taken
+
+abbrev sentEntry : None → List ℕ → ℕ → Sent
+sentEntry n s b = record { info = b; block = codedBlock s b }
+
+abbrev takenEntry : None → List ℕ → ℕ → Taken
+takenEntry n s r = record { block = r; answer = delivery s r }
+
+abbrev sentKept : None → List ℕ → ℕ → List Sent
+sentKept n s b = sentOf b (codeAnswer s b)
+
+abbrev takenKept : None → List ℕ → ℕ → List Taken
+takenKept n s r = takenOf r (decodeAnswer s r)
+
+sent-told : Told (λ (n : None). coderFault) (λ n. coderNext) (λ n. codeMemory) coder-memory sentKept sentEntry
+unfolding codeAnswer answered
+sent-told n s b = go (eqb (coderFault s b) 0)
+  where
+    go : (q : Bool) → sentOf b (cond q (Coded (codedBlock s b)) (CodeRefused (coderFault s b)))
+        ≡ cond q (sentEntry n s b ∷ []) []
+    go true = refl
+    go false = refl
+
+taken-told : Told (λ (n : None). decoderFault) (λ n. decoderNext) (λ n. decodeMemory) decoder-memory
+    takenKept takenEntry
+unfolding decodeAnswer answered delivery
+taken-told n s r = go (eqb (decoderFault s r) 0) (ltb (fillOf s) delay)
+  where
+    go : (q d : Bool)
+        → takenOf r (cond q (cond d NothingYet (Delivery (delivered s r))) (Refused (decoderFault s r)))
+        ≡ cond q (record { block = r; answer = cond d NothingYet (Delivery (delivered s r)) } ∷ []) []
+    go true true = refl
+    go true false = refl
+    go false d = refl
+
+-- ---- the runs
+
+from-one : (p : ℕ) → suc p - 1 ≡ p
+from-one p = omega arith
+
+module _ (s bs : List ℕ) where
+  abbrev M : ℕ → List ℕ
+  M = coderBefore s bs
+
+  place : (p : ℕ) → p < length (sentBy s bs)
+      → Place (λ (n : None). coderFault) (λ n. coderNext) (λ n. codeMemory) coder-memory s (handed bs) p
+  place =
+      run-place (λ (n : None). coderFault) (λ n. coderNext) (λ n. codeMemory) coder-memory sentKept sentEntry sent-told
+      s (handed bs)
+
+  sent-is : (p : ℕ) (h : p < length (sentBy s bs))
+      → sentAt (sentBy s bs) (suc p) ≡ sentEntry tt (M p) (place p h .call .block)
+  sent-is p h =
+      ap (λ (k : ℕ). getD (sentBy s bs) k noneSent) (from-one p)
+      ∙ place p h .is sentKept sentEntry sent-told noneSent
+
+  pub coded : CoderRun M (infoSent (sentBy s bs)) (blockSent (sentBy s bs)) (length (sentBy s bs))
+  coded = record {
+    taken = λ p h. ap (λ (x : Sent). coderFault (M p) (x .info)) (sent-is p h) ∙ place p h .taken;
+    next = λ p h. place p h .on ∙ sym (ap (λ (x : Sent). coderNext (M p) (x .info)) (sent-is p h));
+    codes = λ p h.
+        ap (λ (x : Sent). x .block) (sent-is p h)
+        ∙ sym (ap (λ (x : Sent). codedBlock (M p) (x .info)) (sent-is p h));
+  }
+
+module _ (s rs : List ℕ) where
+  abbrev S : ℕ → List ℕ
+  S = decoderBefore s rs
+
+  abbrev pub answerTaken : ℕ → DecodeAnswer
+  answerTaken p = takenAt (takenBy s rs) (suc p) .answer
+
+  taken-place : (p : ℕ) → p < length (takenBy s rs)
+      → Place (λ (n : None). decoderFault) (λ n. decoderNext) (λ n. decodeMemory) decoder-memory s (handed rs) p
+  taken-place =
+      run-place (λ (n : None). decoderFault) (λ n. decoderNext) (λ n. decodeMemory) decoder-memory takenKept takenEntry
+      taken-told s (handed rs)
+
+  taken-is : (p : ℕ) (h : p < length (takenBy s rs))
+      → takenAt (takenBy s rs) (suc p) ≡ takenEntry tt (S p) (taken-place p h .call .block)
+  taken-is p h =
+      ap (λ (k : ℕ). getD (takenBy s rs) k noneTaken) (from-one p)
+      ∙ taken-place p h .is takenKept takenEntry taken-told noneTaken
+
+  pub decoded : DecoderRun S (blockTaken (takenBy s rs)) answerTaken (length (takenBy s rs))
+  decoded = record {
+    taken = λ p h. ap (λ (x : Taken). decoderFault (S p) (x .block)) (taken-is p h) ∙ taken-place p h .taken;
+    next = λ p h. taken-place p h .on ∙ sym (ap (λ (x : Taken). decoderNext (S p) (x .block)) (taken-is p h));
+    answers = λ p h.
+        ap (λ (x : Taken). x .answer) (taken-is p h)
+        ∙ sym (ap (λ (x : Taken). delivery (S p) (x .block)) (taken-is p h));
+  }
+
+  raw-told : Told (λ (n : None). decoderFault) (λ n. decoderNext) (λ n. decodeMemory) decoder-memory
+      (placed (λ n. decoderFault) (λ n. rawOf)) (λ n. rawOf)
+  raw-told n s r = refl
+
+  pub raw-place : (p : ℕ) → p < length (takenBy s rs) → rawAt s rs p ≡ rawOf (S p) (blockTaken (takenBy s rs) p)
+  raw-place p h =
+      taken-place p h .is (placed (λ n. decoderFault) (λ n. rawOf)) (λ n. rawOf) raw-told false
+      ∙ sym (ap (λ (x : Taken). rawOf (S p) (x .block)) (taken-is p h))

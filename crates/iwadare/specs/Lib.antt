@@ -1,0 +1,10 @@
+-- `iwadare`: coder and decoder of the Iwadare-Massey stations on lent memory, and what they are together.
+pub mod Memory
+pub mod Refusals
+pub mod Coder
+pub mod Decoder
+pub mod Runs
+pub mod Taps
+pub mod Correction
+pub mod Recovery
+pub mod Sharp
