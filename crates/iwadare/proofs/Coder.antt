@@ -24,6 +24,7 @@ use Rattle.link.specs.Coder.{codeNumbers}
 use Rattle.link.proofs.Refusals.{refuses, takes, call-numbers}
 use Rattle.iwadare.specs.Memory.{generators, coderWords, coderPending, pendingBound, delayedBound}
 use Rattle.iwadare.specs.Refusals.{coderMalformed, coderFault}
+use Rattle.iwadare.specs.Formed.{CoderFormed}
 use Rattle.iwadare.specs.Coder.{coderJoining, codedBlock, coderNext, codeAnswer, codeMemory, Codes}
 use Rattle.iwadare.proofs.Refusals.{step-fault, step-passed}
 
@@ -60,15 +61,17 @@ codes-so s b r after p q = record {
 -- ---- a step that is taken
 
 pub record CoderTaken (s : List ℕ) (b : ℕ) : Type 0 where
-  pub size : length s ≡ 1
-  pub pending : coderPending s < 2 ^ 18
-  pub info : b < 4
+  pub formed : CoderFormed s
+  pub info : b < delayedBound
 
 pub coder-taken : (s : List ℕ) (b : ℕ) → coderFault s b ≡ 0 → CoderTaken s b
 unfolding coderFault
 coder-taken s b e =
     let p = step-passed coderWords (coderMalformed s) delayedBound s b e in
-    record { size = p .size; pending = leb-false pendingBound (coderPending s) (p .formed); info = p .block }
+    record {
+      formed = record { size = p .size; pending = leb-false pendingBound (coderPending s) (p .formed) };
+      info = p .block;
+    }
 
 pub coded-below : (s : List ℕ) (b : ℕ) → coderFault s b ≡ 0 → codedBlock s b < 8
 unfolding codedBlock

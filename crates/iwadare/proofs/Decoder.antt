@@ -4,6 +4,7 @@
 --   decode-refuses, decodes, decodes-so   answer and memory of a step that is refused and of one that is not, and the
 --                                 promise
 --   delivery-numbers              the numbers of a step that is taken
+--   formed-passed                 what 13 and 14 let pass
 --   DecoderTaken, decoder-taken   what the tests of a step that is taken say
 --   register-lt, delivered-below  the 13 terms are below 2^13, and the information that is delivered below 4
 use mathlib.Core.Path.{_≡_, refl, ap, _∙_}
@@ -24,6 +25,7 @@ use Rattle.iwadare.specs.declared.decode.DecodeAnswer.the-variants.{Deli
 use Rattle.iwadare.specs.Memory.{decoderWords, delay, fillOf, pendingOf, termsOf, wordBack, delayedBack}
 use Rattle.iwadare.specs.Memory.{pendingBound, termsBound, delayedBound, receivedBound}
 use Rattle.iwadare.specs.Refusals.{decoderMalformed, decoderFault}
+use Rattle.iwadare.specs.Formed.{DecoderFormed}
 use Rattle.iwadare.specs.Decoder.{rawOf, registerOf, flipsZero, decoderNext, delivered, delivery}
 use Rattle.iwadare.specs.Decoder.{decodeAnswer, decodeMemory, decodeNumbers, decodeValues, Decodes}
 use Rattle.iwadare.proofs.Refusals.{step-fault, step-passed, some-none}
@@ -70,32 +72,32 @@ decodes-so s b r after p q = record {
 
 -- ---- a step that is taken
 
+-- what 13 and 14 let pass
+pub formed-passed : (s : List ℕ) → length s ≡ decoderWords → decoderMalformed s ≡ false → DecoderFormed s
+formed-passed s size e =
+    let fill = ltb delay (fillOf s) in
+    let pending = leb pendingBound (pendingOf s) in
+    let terms = leb termsBound (termsOf s) in
+    let g3 = or-none (fill || pending || terms) (someAbove delayedBound s (wordBack delay) delay) e in
+    let g2 = or-none (fill || pending) terms (g3 .0) in
+    let g1 = or-none fill pending (g2 .0) in
+    record {
+      size = size;
+      fill = ltb-false delay (fillOf s) (g1 .0);
+      pending = leb-false pendingBound (pendingOf s) (g1 .1);
+      terms = leb-false termsBound (termsOf s) (g2 .1);
+      delayed = some-none delayedBound s (wordBack delay) delay (g3 .1);
+    }
+
 pub record DecoderTaken (s : List ℕ) (r : ℕ) : Type 0 where
-  pub size : length s ≡ 21
-  pub fill : fillOf s ≤ 18
-  pub pending : pendingOf s < 2 ^ 18
-  pub terms : termsOf s < 2 ^ 12
-  pub delayed : (i : ℕ) → i < 18 → getD s (3 + i) 0 < 4
-  pub block : r < 8
+  pub formed : DecoderFormed s
+  pub block : r < receivedBound
 
 pub decoder-taken : (s : List ℕ) (r : ℕ) → decoderFault s r ≡ 0 → DecoderTaken s r
 unfolding decoderFault
 decoder-taken s r e =
     let p = step-passed decoderWords (decoderMalformed s) receivedBound s r e in
-    let fill = ltb delay (fillOf s) in
-    let pending = leb pendingBound (pendingOf s) in
-    let terms = leb termsBound (termsOf s) in
-    let g3 = or-none (fill || pending || terms) (someAbove delayedBound s (wordBack delay) delay) (p .formed) in
-    let g2 = or-none (fill || pending) terms (g3 .0) in
-    let g1 = or-none fill pending (g2 .0) in
-    record {
-      size = p .size;
-      fill = ltb-false delay (fillOf s) (g1 .0);
-      pending = leb-false pendingBound (pendingOf s) (g1 .1);
-      terms = leb-false termsBound (termsOf s) (g2 .1);
-      delayed = some-none delayedBound s (wordBack delay) delay (g3 .1);
-      block = p .block;
-    }
+    record { formed = formed-passed s (p .size) (p .formed); block = p .block }
 
 pub register-lt : (s : List ℕ) (r : ℕ) → termsOf s < 2 ^ 12 → registerOf s r < 2 ^ 13
 unfolding registerOf
@@ -105,5 +107,5 @@ pub delivered-below : (s : List ℕ) (r : ℕ) → decoderFault s r ≡ 0 → de
 unfolding delivered
 delivered-below s r e =
     let flip = flipsZero (registerOf s r) in
-    xor-lt 2 (delayedBack s delay) (sel flip 1) (decoder-taken s r e .delayed 0 (omega arith))
+    xor-lt 2 (delayedBack s delay) (sel flip 1) (decoder-taken s r e .formed .delayed 0 (omega arith))
     (sel-lt 2 flip 1 (omega arith))

@@ -19,24 +19,22 @@ use native.Mathlib.Omega.{arith}
 use borrow.Author.Tests.{lt-ltb, le-ltb, le-leb, lt-leb}
 use lib.Dec.{leb, ltb}
 use lib.ListN.{length, getD, drop, length-drop}
-use lib.Seq.{getD-drop, getD-set-same}
+use lib.Seq.{getD-drop}
 use lib.Pow.{pow-pos}
 use Rattle.span.specs.Word.{_⊕_, odd, bit, sel, digit}
 use Rattle.span.specs.Combination.{combination}
 use Rattle.span.proofs.Word.{xor-zero-r, xor-comm, xor-assoc, xor-lt, xor-mod, xor-eq, xor-self-bool, bit-xor, bit-none}
+use Rattle.span.proofs.Masks.{topped-lt}
 use Rattle.link.specs.Memory.{joining}
 use Rattle.link.specs.Step.{register}
 use Rattle.link.proofs.Step.{joined-half, joined-odd, both-half, both-odd, coder-info}
 use Rattle.iwadare.specs.declared.decode.DecodeAnswer.{DecodeAnswer}
 use Rattle.iwadare.specs.declared.decode.DecodeAnswer.the-variants.{Delivery}
 use Rattle.iwadare.specs.Memory.{generators, coderPending, fillOf, pendingOf, termsOf, fillNext}
-use Rattle.iwadare.specs.Coder.{coderJoining, codedBlock, coderNext}
 use Rattle.iwadare.specs.Decoder.{decoderJoining, rawOf, registerOf, flipsOne, flipsZero, termsNext, decoderNext}
 use Rattle.iwadare.specs.Decoder.{delivered, delivery}
-use Rattle.iwadare.proofs.Coder.{coder-taken, coded-below}
-use Rattle.iwadare.proofs.Decoder.{decoder-taken}
 use Rattle.iwadare.proofs.Runs.{CoderRun, DecoderRun}
-use Rattle.iwadare.proofs.Words.{delayed, DecoderStep, decoder-step}
+use Rattle.iwadare.proofs.Words.{CoderStep, delayed, DecoderStep, decoder-step}
 
 xor-right : (a b c : ℕ) → a ⊕ b ⊕ c ≡ a ⊕ c ⊕ b
 xor-right a b c = xor-assoc a b c ∙ ap (λ (x : ℕ). a ⊕ x) (xor-comm b c) ∙ sym (xor-assoc a c b)
@@ -92,24 +90,11 @@ module _ {M S : ℕ → List ℕ} {B C R : ℕ → ℕ} {A : ℕ → DecodeAnswe
   -- ---- one step
 
   module _ (p : ℕ) (h : p < count) where
-    info-lt : B p < 4
-    info-lt = coder-taken (M p) (B p) (l .coding .taken p h) .info
+    abbrev sends : CoderStep (M p) (B p) (C p) (M (suc p))
+    sends = l .coding .codes p h
 
-    sent : C p ≡ B p + digit (odd (joining generators (coderPending (M p)) (B p))) * 2 ^ 2
-    unfolding codedBlock coderJoining
-    sent = l .coding .codes p h
-
-    coder-on : coderPending (M (suc p)) ≡ joining generators (coderPending (M p)) (B p) / 2
-    unfolding coderNext coderJoining
-    coder-on =
-        let k = coder-taken (M p) (B p) (l .coding .taken p h) in
-        ap coderPending (l .coding .next p h)
-        ∙ getD-set-same (M p) 0 (joining generators (coderPending (M p)) (B p) / 2) 0 (let z = k .size in omega arith)
-
-    stepped : DecoderStep (S p) (R p) (S (suc p))
-    stepped =
-        subst (DecoderStep (S p) (R p)) (sym (l .decoding .next p h))
-        (decoder-step (S p) (R p) (decoder-taken (S p) (R p) (l .decoding .taken p h) .size))
+    abbrev takes : DecoderStep (S p) (R p) (S (suc p))
+    takes = l .decoding .decodes p h
 
     -- the word that joins, with the parity's row
     abbrev joins : ℕ → ℕ → ℕ
@@ -123,7 +108,7 @@ module _ {M S : ℕ → List ℕ} {B C R : ℕ → ℕ} {A : ℕ → DecodeAnswe
     unfolding rawOf decoderJoining
     raw-same g =
         sym (joined-odd generators 2 refl (pendingOf (errorMemory p)) (errors p)) ∙ ap odd (joins-same g)
-        ∙ both-odd generators 2 refl (coderPending (M p)) (pendingOf (S p)) (B p) (C p) (R p) info-lt sent
+        ∙ both-odd generators 2 refl (coderPending (M p)) (pendingOf (S p)) (B p) (C p) (R p) (sends .info-lt) (sends .coded)
 
     register-same : Agree p → registerOf (errorMemory p) (errors p) ≡ registerOf (S p) (R p)
     unfolding registerOf
@@ -144,9 +129,9 @@ module _ {M S : ℕ → List ℕ} {B C R : ℕ → ℕ} {A : ℕ → DecodeAnswe
       pending =
           a .pending-on ∙ sym (joined-half generators 2 refl (pendingOf (errorMemory p)) (errors p))
           ∙ ap (λ (x : ℕ). x / 2) (joins-same g)
-          ∙ both-half generators 2 refl (coderPending (M p)) (pendingOf (S p)) (B p) (C p) (R p) info-lt sent
-          ∙ sym (ap₂ _⊕_ (stepped .pending-on) coder-on);
-      terms = a .terms-on ∙ ap termsNext (register-same g) ∙ sym (stepped .terms-on);
+          ∙ both-half generators 2 refl (coderPending (M p)) (pendingOf (S p)) (B p) (C p) (R p) (sends .info-lt) (sends .coded)
+          ∙ sym (ap₂ _⊕_ (takes .pending-on) (sends .pending-on));
+      terms = a .terms-on ∙ ap termsNext (register-same g) ∙ sym (takes .terms-on);
       delays = λ i k. late-on i k (ℕ-discrete i 17) (ℕ-discrete i 2);
     }
       where
@@ -161,18 +146,18 @@ module _ {M S : ℕ → List ℕ} {B C R : ℕ → ℕ} {A : ℕ → DecodeAnswe
         late-on i k (yes e) d =
             ap (delayed (decoderNext (errorMemory p) (errors p))) e ∙ a .youngest
             ∙ ap (λ (x : ℕ). x % 2 ^ 2) (errors-in p h) ∙ xor-mod (R p) (C p) 2
-            ∙ ap₂ _⊕_ (sym (ap (delayed (S (suc p))) e ∙ stepped .youngest))
-            (coder-info generators 2 refl (coderPending (M p)) (pendingOf (S p)) (B p) (C p) (R p) info-lt sent
+            ∙ ap₂ _⊕_ (sym (ap (delayed (S (suc p))) e ∙ takes .youngest))
+            (coder-info generators 2 refl (coderPending (M p)) (pendingOf (S p)) (B p) (C p) (R p) (sends .info-lt) (sends .coded)
             ∙ sym (late-is (suc p + i) p (omega arith)))
         late-on i k (no e) (yes d) =
             ap (delayed (decoderNext (errorMemory p) (errors p))) d ∙ a .flipped
             ∙ ap₂ (λ (y x : ℕ). y ⊕ sel (flipsOne x) 2) (g .delays 3 (omega arith)) (register-same g)
             ∙ xor-right (delayed (S p) 3) (late (p + 3)) flip
-            ∙ ap₂ _⊕_ (sym (ap (delayed (S (suc p))) d ∙ stepped .flipped))
+            ∙ ap₂ _⊕_ (sym (ap (delayed (S (suc p))) d ∙ takes .flipped))
             (ap late (let q : p + 3 ≡ suc p + i = omega arith in q))
         late-on i k (no e) (no d) =
             a .moved i (omega arith) d ∙ g .delays (suc i) (omega arith)
-            ∙ ap₂ _⊕_ (sym (stepped .moved i (omega arith) d))
+            ∙ ap₂ _⊕_ (sym (takes .moved i (omega arith) d))
             (ap late (let q : p + suc i ≡ suc p + i = omega arith in q))
 
   -- ---- all of them
@@ -180,8 +165,7 @@ module _ {M S : ℕ → List ℕ} {B C R : ℕ → ℕ} {A : ℕ → DecodeAnswe
   agree-first : 0 < count → Agree 0
   unfolding errorMemory
   agree-first h =
-      let k = decoder-taken (S 0) (R 0) (l .decoding .taken 0 h) in
-      let size = k .size in
+      let size = l .decoding .taken 0 h .formed .size in
       record {
         size = let d = length-drop 2 (S 0) in omega arith;
         fill = refl;
@@ -205,14 +189,14 @@ module _ {M S : ℕ → List ℕ} {B C R : ℕ → ℕ} {A : ℕ → DecodeAnswe
   pub first-formed : 0 < count → FirstFormed
   first-formed h =
       let g = agree-first h in
-      let k = decoder-taken (S 0) (R 0) (l .decoding .taken 0 h) in
+      let k = l .decoding .taken 0 h .formed in
       record {
         size = g .size;
         fill = g .fill;
         pending =
             subst (λ (x : ℕ). x < 2 ^ 18) (sym (g .pending))
             (xor-lt 18 (pendingOf (S 0)) (coderPending (M 0)) (k .pending)
-            (coder-taken (M 0) (B 0) (l .coding .taken 0 h) .pending));
+            (l .coding .codes 0 h .pending-lt));
         terms = subst (λ (x : ℕ). x < 2 ^ 12) (sym (g .terms)) (k .terms);
       }
 
@@ -234,8 +218,13 @@ module _ {M S : ℕ → List ℕ} {B C R : ℕ → ℕ} {A : ℕ → DecodeAnswe
       go : Dec (p < count) → errors p < 8
       go (yes h) =
           subst (λ (x : ℕ). x < 8) (sym (errors-in p h))
-          (xor-lt 3 (R p) (C p) (decoder-taken (S p) (R p) (l .decoding .taken p h) .block)
-          (subst (λ (x : ℕ). x < 8) (sym (l .coding .codes p h)) (coded-below (M p) (B p) (l .coding .taken p h))))
+          (xor-lt 3 (R p) (C p) (l .decoding .taken p h .block)
+          (subst (λ (x : ℕ). x < 8) (sym (c .coded))
+          (topped-lt 2 (B p) (odd (joining generators (coderPending (M p)) (B p))) (c .info-lt))))
+        where
+          c : CoderStep (M p) (B p) (C p) (M (suc p))
+          c = l .coding .codes p h
+
       go (no h) = let z = errors-past p (omega arith) in omega arith
 
   pub errors-bit : (p a : ℕ) → bit a (errors p) ≡ true → (p < count) × (bit a (R p) ≢ bit a (C p))

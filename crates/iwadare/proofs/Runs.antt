@@ -3,7 +3,7 @@
 --
 --   CoderRun, DecoderRun      the steps of a run, each on its memory
 --   coded, decoded            the runs of coder and decoder are such
---   raw-place                 the raw term at a place
+--   told-place                anything told of the decoder's steps
 use mathlib.Core.Path.{_≡_, refl, sym, ap, _∙_, subst}
 use mathlib.Core.Bool.{Bool, true, false, cond}
 use mathlib.Core.List.{List, [], _∷_}
@@ -13,26 +13,26 @@ use lib.Dec.{ltb, eqb}
 use lib.ListN.{length, getD}
 use Rattle.link.specs.declared.code.CodeAnswer.the-variants.{Coded, Refused as CodeRefused}
 use Rattle.link.specs.Refusals.{answered, leaves}
-use Rattle.link.specs.Runs.{CallOf, placed}
+use Rattle.link.specs.Runs.{CallOf, run, placed}
 use Rattle.link.proofs.Runs.{before, before-first, Told, Place, run-place}
 use Rattle.iwadare.specs.declared.decode.DecodeAnswer.{DecodeAnswer}
 use Rattle.iwadare.specs.declared.decode.DecodeAnswer.the-variants.{Delivery, NothingYet, Refused}
 use Rattle.iwadare.specs.Memory.{delay, fillOf}
 use Rattle.iwadare.specs.Refusals.{coderFault, decoderFault}
 use Rattle.iwadare.specs.Coder.{codedBlock, coderNext, codeAnswer, codeMemory}
-use Rattle.iwadare.specs.Decoder.{rawOf, delivered, delivery, decoderNext, decodeAnswer, decodeMemory}
+use Rattle.iwadare.specs.Decoder.{delivered, delivery, decoderNext, decodeAnswer, decodeMemory}
 use Rattle.iwadare.specs.Runs.{Sent, Taken, sentOf, takenOf, handed, sentBy, takenBy, noneSent, noneTaken}
 use Rattle.iwadare.specs.Runs.{sentAt, takenAt}
-use Rattle.iwadare.specs.Taps.{infoSent, blockSent, blockTaken, rawAt}
+use Rattle.iwadare.proofs.Decoder.{DecoderTaken, decoder-taken}
+use Rattle.iwadare.proofs.Words.{CoderStep, coder-step, DecoderStep, decoder-step}
+use Rattle.iwadare.specs.Taps.{infoSent, blockSent, blockTaken}
 
 pub record CoderRun (M : ℕ → List ℕ) (B C : ℕ → ℕ) (count : ℕ) : Type 0 where
-  pub taken : (p : ℕ) → p < count → coderFault (M p) (B p) ≡ 0
-  pub next : (p : ℕ) → p < count → M (suc p) ≡ coderNext (M p) (B p)
-  pub codes : (p : ℕ) → p < count → C p ≡ codedBlock (M p) (B p)
+  pub codes : (p : ℕ) → p < count → CoderStep (M p) (B p) (C p) (M (suc p))
 
 pub record DecoderRun (S : ℕ → List ℕ) (R : ℕ → ℕ) (A : ℕ → DecodeAnswer) (count : ℕ) : Type 0 where
-  pub taken : (p : ℕ) → p < count → decoderFault (S p) (R p) ≡ 0
-  pub next : (p : ℕ) → p < count → S (suc p) ≡ decoderNext (S p) (R p)
+  pub taken : (p : ℕ) → p < count → DecoderTaken (S p) (R p)
+  pub decodes : (p : ℕ) → p < count → DecoderStep (S p) (R p) (S (suc p))
   pub answers : (p : ℕ) → p < count → A p ≡ delivery (S p) (R p)
 
 -- nothing is handed in the table's place
@@ -65,19 +65,19 @@ decoder-first s rs =
 
 -- ---- what is kept of a step that is taken
 
-abbrev sentEntry : None → List ℕ → ℕ → Sent
+abbrev pub sentEntry : None → List ℕ → ℕ → Sent
 sentEntry n s b = record { info = b; block = codedBlock s b }
 
-abbrev takenEntry : None → List ℕ → ℕ → Taken
+abbrev pub takenEntry : None → List ℕ → ℕ → Taken
 takenEntry n s r = record { block = r; answer = delivery s r }
 
-abbrev sentKept : None → List ℕ → ℕ → List Sent
+abbrev pub sentKept : None → List ℕ → ℕ → List Sent
 sentKept n s b = sentOf b (codeAnswer s b)
 
-abbrev takenKept : None → List ℕ → ℕ → List Taken
+abbrev pub takenKept : None → List ℕ → ℕ → List Taken
 takenKept n s r = takenOf r (decodeAnswer s r)
 
-sent-told : Told (λ (n : None). coderFault) (λ n. coderNext) (λ n. codeMemory) coder-memory sentKept sentEntry
+pub sent-told : Told (λ (n : None). coderFault) (λ n. coderNext) (λ n. codeMemory) coder-memory sentKept sentEntry
 unfolding codeAnswer answered
 sent-told n s b = go (eqb (coderFault s b) 0)
   where
@@ -86,7 +86,7 @@ sent-told n s b = go (eqb (coderFault s b) 0)
     go true = refl
     go false = refl
 
-taken-told : Told (λ (n : None). decoderFault) (λ n. decoderNext) (λ n. decodeMemory) decoder-memory
+pub taken-told : Told (λ (n : None). decoderFault) (λ n. decoderNext) (λ n. decodeMemory) decoder-memory
     takenKept takenEntry
 unfolding decodeAnswer answered delivery
 taken-told n s r = go (eqb (decoderFault s r) 0) (ltb (fillOf s) delay)
@@ -120,13 +120,15 @@ module _ (s bs : List ℕ) where
       ∙ place p h .is sentKept sentEntry sent-told noneSent
 
   pub coded : CoderRun M (infoSent (sentBy s bs)) (blockSent (sentBy s bs)) (length (sentBy s bs))
-  coded = record {
-    taken = λ p h. ap (λ (x : Sent). coderFault (M p) (x .info)) (sent-is p h) ∙ place p h .taken;
-    next = λ p h. place p h .on ∙ sym (ap (λ (x : Sent). coderNext (M p) (x .info)) (sent-is p h));
-    codes = λ p h.
-        ap (λ (x : Sent). x .block) (sent-is p h)
-        ∙ sym (ap (λ (x : Sent). codedBlock (M p) (x .info)) (sent-is p h));
-  }
+  coded = record { codes = step }
+    where
+      step : (p : ℕ) → p < length (sentBy s bs)
+          → CoderStep (M p) (infoSent (sentBy s bs) p) (blockSent (sentBy s bs) p) (M (suc p))
+      step p h =
+          let e = place p h in
+          subst (λ (x : Sent). CoderStep (M p) (x .info) (x .block) (M (suc p))) (sym (sent-is p h))
+          (subst (CoderStep (M p) (e .call .block) (codedBlock (M p) (e .call .block))) (sym (e .on))
+          (coder-step (M p) (e .call .block) (e .taken)))
 
 module _ (s rs : List ℕ) where
   abbrev S : ℕ → List ℕ
@@ -147,20 +149,27 @@ module _ (s rs : List ℕ) where
       ap (λ (k : ℕ). getD (takenBy s rs) k noneTaken) (from-one p)
       ∙ taken-place p h .is takenKept takenEntry taken-told noneTaken
 
+  block-is : (p : ℕ) (h : p < length (takenBy s rs)) → blockTaken (takenBy s rs) p ≡ taken-place p h .call .block
+  block-is p h = ap (λ (x : Taken). x .block) (taken-is p h)
+
   pub decoded : DecoderRun S (blockTaken (takenBy s rs)) answerTaken (length (takenBy s rs))
   decoded = record {
-    taken = λ p h. ap (λ (x : Taken). decoderFault (S p) (x .block)) (taken-is p h) ∙ taken-place p h .taken;
-    next = λ p h. taken-place p h .on ∙ sym (ap (λ (x : Taken). decoderNext (S p) (x .block)) (taken-is p h));
+    taken = λ p h. subst (DecoderTaken (S p)) (sym (block-is p h)) (tests p h);
+    decodes = λ p h.
+        subst (λ (r : ℕ). DecoderStep (S p) r (S (suc p))) (sym (block-is p h))
+        (subst (DecoderStep (S p) (taken-place p h .call .block)) (sym (taken-place p h .on))
+        (decoder-step (S p) (taken-place p h .call .block) (tests p h .formed .size)));
     answers = λ p h.
-        ap (λ (x : Taken). x .answer) (taken-is p h)
-        ∙ sym (ap (λ (x : Taken). delivery (S p) (x .block)) (taken-is p h));
+        ap (λ (x : Taken). x .answer) (taken-is p h) ∙ sym (ap (delivery (S p)) (block-is p h));
   }
+    where
+      tests : (p : ℕ) (h : p < length (takenBy s rs)) → DecoderTaken (S p) (taken-place p h .call .block)
+      tests p h = decoder-taken (S p) (taken-place p h .call .block) (taken-place p h .taken)
 
-  raw-told : Told (λ (n : None). decoderFault) (λ n. decoderNext) (λ n. decodeMemory) decoder-memory
-      (placed (λ n. decoderFault) (λ n. rawOf)) (λ n. rawOf)
-  raw-told n s r = refl
-
-  pub raw-place : (p : ℕ) → p < length (takenBy s rs) → rawAt s rs p ≡ rawOf (S p) (blockTaken (takenBy s rs) p)
-  raw-place p h =
-      taken-place p h .is (placed (λ n. decoderFault) (λ n. rawOf)) (λ n. rawOf) raw-told false
-      ∙ sym (ap (λ (x : Taken). rawOf (S p) (x .block)) (taken-is p h))
+  -- whatever is told of the steps, that of this step stands at its place
+  pub told-place : {X : Type 0} (entry : List ℕ → ℕ → X) (d : X) (p : ℕ) → p < length (takenBy s rs)
+      → getD (run (λ (n : None). decodeMemory) (placed (λ n. decoderFault) (λ n. entry)) s (handed rs)) p d
+      ≡ entry (S p) (blockTaken (takenBy s rs) p)
+  told-place entry d p h =
+      taken-place p h .is (placed (λ n. decoderFault) (λ n. entry)) (λ n. entry) (λ n s r. refl) d
+      ∙ sym (ap (entry (S p)) (block-is p h))

@@ -1,23 +1,51 @@
--- What a decoder's step that is taken does to each word, and the laws of its terms. Delayed block i, the oldest first,
+-- What a step that is taken does to each word, and the laws of the decoder's terms. Delayed block i, the oldest first,
 -- stands at word 3 + i. Assumes nothing.
 --
+--   CoderStep, coder-step         what a coder's step does
 --   delayed                       a delayed block
---   DecoderStep, decoder-step     what the step does
---   register-quiet, no-flip-one, no-flip-zero, terms-quiet   where the newest term is 0 nothing is flipped
+--   DecoderStep, decoder-step     what a decoder's step does
+--   no-flip-one, no-flip-zero, terms-quiet   where the newest term is 0 nothing is flipped
 --   terms-lt                      the terms stay below 2^12
 use mathlib.Core.Path.{_≡_, refl, sym, ap, ap₂, _∙_}
 use mathlib.Core.Bool.{Bool, true, false, not, _&&_}
 use mathlib.Core.Logic.{_≢_}
 use mathlib.Core.List.{List, [], _∷_, _++_}
-use Prim.Native.Nat.{ℕ, suc, _+_, _/_, _%_, _^_, _≤_, _<_}
+use Prim.Native.Nat.{ℕ, suc, _+_, _*_, _/_, _%_, _^_, _≤_, _<_}
 use native.Mathlib.Omega.{arith}
 use lib.ListN.{length, getD, set, drop, length-append, length-drop, length-set, List·getD-append}
 use lib.Seq.{getD-drop, getD-set-same, getD-set-other, getD-at}
-use Rattle.span.specs.Word.{_⊕_, bit, sel}
+use Rattle.span.specs.Word.{_⊕_, odd, bit, sel, digit}
 use Rattle.span.proofs.Word.{xor-zero-r, xor-lt, sel-lt, bit-none}
 use Rattle.link.specs.Memory.{joining}
-use Rattle.iwadare.specs.Memory.{generators, fillOf, pendingOf, termsOf, fillNext}
+use Rattle.iwadare.specs.Memory.{generators, coderPending, fillOf, pendingOf, termsOf, fillNext}
+use Rattle.iwadare.specs.Refusals.{coderFault}
+use Rattle.iwadare.specs.Coder.{coderJoining, codedBlock, coderNext}
 use Rattle.iwadare.specs.Decoder.{decoderJoining, registerOf, flipsOne, flipsZero, matched, termsNext, decoderNext}
+use Rattle.iwadare.proofs.Coder.{coder-taken}
+
+-- ---- the coder's step
+
+pub record CoderStep (s : List ℕ) (b c : ℕ) (after : List ℕ) : Type 0 where
+  pub pending-lt : coderPending s < 2 ^ 18
+  pub info-lt : b < 2 ^ 2
+  pub coded : c ≡ b + digit (odd (joining generators (coderPending s) b)) * 2 ^ 2
+  pub size : length after ≡ length s
+  pub pending-on : coderPending after ≡ joining generators (coderPending s) b / 2
+
+pub coder-step : (s : List ℕ) (b : ℕ) → coderFault s b ≡ 0 → CoderStep s b (codedBlock s b) (coderNext s b)
+unfolding codedBlock coderNext coderJoining
+coder-step s b e =
+    let k = coder-taken s b e in
+    record {
+      pending-lt = k .formed .pending;
+      info-lt = k .info;
+      coded = refl;
+      size = length-set s 0 (joining generators (coderPending s) b / 2);
+      pending-on =
+          getD-set-same s 0 (joining generators (coderPending s) b / 2) 0 (let z = k .formed .size in omega arith);
+    }
+
+-- ---- the decoder's step
 
 abbrev pub delayed : List ℕ → ℕ → ℕ
 delayed s i = getD s (3 + i) 0

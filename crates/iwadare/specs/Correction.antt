@@ -8,16 +8,15 @@
 --   CorrectionWith long gap    the claim, with these numbers
 --   IWADARE-CORRECTION         02's: 9 and 56
 --   IWADARE-CORRECTION-TEN     more than 02 and 001 say: 10 and 56
---   IWADARE-WAITING            until the fill is complete nothing is delivered
 use mathlib.Core.Path.{_≡_}
 use mathlib.Core.Logic.{_≢_}
 use mathlib.Core.List.{List}
-use Prim.Native.Nat.{ℕ, _+_, _-_, _*_, _≤_, _<_}
+use Prim.Native.Nat.{ℕ, _-_, _*_, _≤_, _<_}
 use lib.ListN.{length}
 use Rattle.link.specs.Memory.{started}
 use Rattle.link.specs.Recovery.{Bursts}
-use Rattle.iwadare.specs.declared.decode.DecodeAnswer.the-variants.{Delivery, NothingYet}
-use Rattle.iwadare.specs.Memory.{coderWords, decoderWords, delay, fillOf}
+use Rattle.iwadare.specs.declared.decode.DecodeAnswer.the-variants.{Delivery}
+use Rattle.iwadare.specs.Memory.{coderWords, decoderWords, delay}
 use Rattle.iwadare.specs.Runs.{Sent, Taken, sentBy, takenBy, sentAt, takenAt, bitSent, bitTaken}
 
 abbrev pub WrongBit : List Sent → List Taken → ℕ → Type 0
@@ -45,11 +44,3 @@ IWADARE-CORRECTION = CorrectionWith 9 56
 
 abbrev pub IWADARE-CORRECTION-TEN : Type 0
 IWADARE-CORRECTION-TEN = CorrectionWith 10 56
-
--- "before that the answer is "nothing yet"": from any memory, by its fill; from a started one, whose fill is 0, at the
--- first 18 taken places
-abbrev pub IWADARE-WAITING : Type 0
-IWADARE-WAITING =
-    (memory rs : List ℕ) →
-    let taken = takenBy memory rs in
-    (p : ℕ) → 1 ≤ p → p ≤ length taken → fillOf memory + (p - 1) < delay → takenAt taken p .answer ≡ NothingYet

@@ -3,8 +3,12 @@ pub mod Memory
 pub mod Refusals
 pub mod Coder
 pub mod Decoder
+pub mod Calls
 pub mod Runs
+pub mod Formed
 pub mod Taps
+pub mod Delivery
 pub mod Correction
 pub mod Recovery
 pub mod Sharp
+pub mod Main

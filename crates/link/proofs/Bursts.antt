@@ -1,7 +1,11 @@
--- Two wrong places lie in one burst, or have the gap between them. Assumes nothing.
+-- Two wrong places lie in one burst, or have the gap between them; and short bursts are bursts of a greater length too.
+-- Assumes nothing.
+--
+--   bursts-separated   two wrong places
+--   bursts-longer      a greater length
 use mathlib.Core.Logic.{_⊎_, inl, inr}
 use mathlib.Core.List.{List, [], _∷_}
-use Prim.Native.Nat.{ℕ, _+_, _<_}
+use Prim.Native.Nat.{ℕ, _+_, _≤_, _<_}
 use native.Mathlib.Omega.{arith}
 use Rattle.link.specs.Recovery.{Stretch, Apart, Chosen, Within, Bursts, Separated, BURSTS-SEPARATED}
 
@@ -30,3 +34,22 @@ module _ (wrong : ℕ → Type 0) (long gap count : ℕ) where
 
 pub bursts-separated : BURSTS-SEPARATED
 bursts-separated wrong long gap count b = bursts-apart wrong long gap count b
+
+module _ (wrong : ℕ → Type 0) (short long gap count : ℕ) (less : short ≤ long) where
+  chosen-longer : (bs : List Stretch) → Chosen wrong short gap count bs → Chosen wrong long gap count bs
+  chosen-longer [] c = c
+  chosen-longer (b ∷ bs) c = (
+    record {
+      from = c .0 .from;
+      order = c .0 .order;
+      short = let s = c .0 .short in omega arith;
+      inside = c .0 .inside;
+      begins = c .0 .begins;
+      ends = c .0 .ends;
+    },
+    c .1,
+    chosen-longer bs (c .2),
+  )
+
+  pub bursts-longer : Bursts wrong short gap count → Bursts wrong long gap count
+  bursts-longer b = record { chosen = b .chosen; apart = chosen-longer (b .chosen) (b .apart); covered = b .covered }

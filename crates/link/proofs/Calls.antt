@@ -25,7 +25,7 @@ use Rattle.link.proofs.Coder.{codes}
 use Rattle.link.proofs.Decoder.{decodes}
 
 -- an answer that is the refusal k, where what is answered otherwise is none: k is the fault, and the memory stays
-refused-call : {X : Type 0} (refused : ℕ → X) (fault k : ℕ) (x : X) (next before : List ℕ)
+pub refused-call : {X : Type 0} (refused : ℕ → X) (fault k : ℕ) (x : X) (next before : List ℕ)
     → answered fault x refused ≡ refused k
     → (x ≡ refused k → ⊥) → ((i : ℕ) → refused i ≡ refused k → i ≡ k)
     → (k ≡ fault) × (fault ≡ 0 → ⊥) × (leaves fault next before ≡ before)

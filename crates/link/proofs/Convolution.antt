@@ -5,6 +5,7 @@
 --   sum-ext, sum-false, sum-shift, sum-xor, sum-swap   laws of the exclusive or over an index range
 --   convolution-xor       the convolution is linear in the blocks
 --   combination-bit       a bit of an image, as a sum over the rows
+--   ago-now               block 0 back is the block itself
 --   stream-convolution    the theorem
 --   stream-past           P t holds what the blocks before t add to the convolutions from t on
 use mathlib.Core.Path.{_≡_, refl, sym, ap, ap₂, _∙_}
@@ -143,7 +144,7 @@ combination-bit n rows k c h =
 ago-none : (x : ℕ → ℕ) (k : ℕ) → ago x 0 (suc k) ≡ 0
 ago-none x k = ap (λ (s : Bool). cond s (x (0 - suc k)) 0) (leb·suc-zero k)
 
-ago-now : (x : ℕ → ℕ) (t : ℕ) → ago x t 0 ≡ x t
+pub ago-now : (x : ℕ → ℕ) (t : ℕ) → ago x t 0 ≡ x t
 ago-now x t = ap (λ (s : Bool). cond s (x (t - 0)) 0) (leb·zero t) ∙ ap x (let e : t - 0 ≡ t = omega arith in e)
 
 ago-later : (x : ℕ → ℕ) (t k : ℕ) → ago x (suc t) (suc k) ≡ ago x t k

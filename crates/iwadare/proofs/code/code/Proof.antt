@@ -27,7 +27,7 @@ none : (c : tie.Else1)
 none c = sym (c .before .fault .ensures) ∙ c .if1 .left
 
 taken-requires : tie.Need-taken-requires
-taken-requires c κs = let k = coder-taken _ _ (none (c .before)) in (k .size, k .info)
+taken-requires c κs = let k = coder-taken _ _ (none (c .before)) in (k .formed .size, k .info)
 
 cast-t11 : tie.Need-cast-t11
 cast-t11 c =

@@ -17,10 +17,11 @@ use Rattle.link.proofs.Refusals.{picked, passed}
 use Rattle.link.proofs.Coder.{sel-digit}
 use Rattle.iwadare.specs.declared.decode.DecodeAnswer.the-variants.{Delivery, NothingYet}
 use Rattle.iwadare.specs.Memory.{generators, delay, fillOf, pendingOf, termsOf, fillNext}
+use Rattle.iwadare.specs.Formed.{DecoderFormed}
 use Rattle.iwadare.specs.Decoder.{decoderJoining, rawOf, registerOf, flipsOne, flipsZero, termsNext}
 use Rattle.iwadare.specs.Decoder.{decoderNext, delivered, delivery}
 use Rattle.iwadare.proofs.Coder.{joined}
-use Rattle.iwadare.proofs.Decoder.{DecoderTaken, decoder-taken, register-lt, delivered-below}
+use Rattle.iwadare.proofs.Decoder.{decoder-taken, register-lt, delivered-below}
 use Rattle.iwadare.proofs.decode.taken.Statement.{statement}
 use Rattle.iwadare.proofs.decode.taken.Tie as tie
 
@@ -46,15 +47,15 @@ module _ (s : List ℕ) (r image : ℕ) (e : image ≡ combination generators r)
   unfolding decoderNext
   memory-is x terms one is f g = rw (f, g, is, joining-is)
 
-delivered-is : (s : List ℕ) (r x zero : ℕ) → x ≡ registerOf s r → zero ≡ sel (flipsZero x) 1
-    → bitXor (getD s 3 0) zero ≡ delivered s r
+delivered-is : (s : List ℕ) (r x flip : ℕ) → x ≡ registerOf s r → flip ≡ sel (flipsZero x) 1
+    → bitXor (getD s 3 0) flip ≡ delivered s r
 unfolding delivered
-delivered-is s r x zero is f =
-    xor-code (getD s 3 0) zero ∙ ap (λ (y : ℕ). getD s 3 0 ⊕ y) (f ∙ ap (λ (y : ℕ). sel (flipsZero y) 1) is)
+delivered-is s r x flip is f =
+    xor-code (getD s 3 0) flip ∙ ap (λ (y : ℕ). getD s 3 0 ⊕ y) (f ∙ ap (λ (y : ℕ). sel (flipsZero y) 1) is)
 
 -- what the tests of the step said
-tests : (c : tie.Start) → DecoderTaken (c .args .state .now) (c .args .received)
-tests c = decoder-taken (c .args .state .now) (c .args .received) (c .pre)
+tests : (c : tie.Start) → DecoderFormed (c .args .state .now)
+tests c = decoder-taken (c .args .state .now) (c .args .received) (c .pre) .formed
 
 slice-read-fill : tie.Need-slice-read-fill
 slice-read-fill c = let k = tests (c .before .before) .size in omega arith
@@ -88,7 +89,7 @@ terms-lt : (c : tie.After-select) → register c < 2 ^ 13
 terms-lt c =
     let a = entry c .args in
     subst (λ (y : ℕ). y < 2 ^ 13) (sym (registered c))
-    (register-lt (a .state .now) (a .received) (decoder-taken (a .state .now) (a .received) (entry c .pre) .terms))
+    (register-lt (a .state .now) (a .received) (tests (entry c) .terms))
 
 add-judged : tie.Need-add-judged
 add-judged c = let l = terms-lt c in record { fits = omega arith }
