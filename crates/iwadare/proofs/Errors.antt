@@ -224,7 +224,6 @@ module _ {M S : ℕ → List ℕ} {B C R : ℕ → ℕ} {A : ℕ → DecodeAnswe
         where
           c : CoderStep (M p) (B p) (C p) (M (suc p))
           c = l .coding .codes p h
-
       go (no h) = let z = errors-past p (omega arith) in omega arith
 
   pub errors-bit : (p a : ℕ) → bit a (errors p) ≡ true → (p < count) × (bit a (R p) ≢ bit a (C p))

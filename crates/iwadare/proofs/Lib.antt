@@ -15,4 +15,6 @@ mod Errors
 mod Guard
 mod Correction
 mod Recovery
+mod Computed
+mod Sharp
 mod Main

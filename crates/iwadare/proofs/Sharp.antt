@@ -1,0 +1,166 @@
+-- Three runs that go wrong, computed. Assumes nothing.
+use mathlib.Core.Path.{_≡_, refl, sym, ap, _∙_}
+use mathlib.Core.Bool.{true, false, xor}
+use mathlib.Core.List.{List, [], _∷_, _++_}
+use Prim.Native.Nat.{ℕ, _+_, _-_, _*_, _^_, _≤_, _<_}
+use native.Mathlib.Omega.{arith}
+use lib.ListN.{length, replicate}
+use Rattle.span.specs.Word.{_⊕_, odd, bit}
+use Rattle.span.specs.Combination.{combination}
+use Rattle.tables.specs.Refusal.{firstOf}
+use Rattle.tables.proofs.Every.{every}
+use Rattle.link.specs.Memory.{started, joining}
+use Rattle.link.specs.Refusals.{someAbove, answered, leaves}
+use Rattle.link.specs.Runs.{run}
+use Rattle.link.specs.Recovery.{Stretch, Burst, Chosen}
+use Rattle.iwadare.specs.declared.decode.DecodeAnswer.the-variants.{Delivery}
+use Rattle.iwadare.specs.Memory.{coderWords, decoderWords}
+use Rattle.iwadare.specs.Refusals.{stepFault, coderFault, decoderFault}
+use Rattle.iwadare.specs.Coder.{coderJoining, codedBlock, coderNext, codeAnswer, codeMemory}
+use Rattle.iwadare.specs.Decoder.{decoderJoining, rawOf, registerOf, flipsOne, flipsZero, matched, termsNext}
+use Rattle.iwadare.specs.Decoder.{decoderNext, delivered, delivery, decodeAnswer, decodeMemory}
+use Rattle.iwadare.specs.Runs.{Sent, Taken, sentBy, takenBy, sentAt, takenAt, bitSent, bitTaken}
+use Rattle.iwadare.specs.Correction.{WrongBit, BitBursts, Corrected}
+use Rattle.iwadare.specs.Sharp.{IWADARE-LENGTH-SHARP, IWADARE-GAP-SHARP, IWADARE-GUARD-SHARP}
+use Rattle.iwadare.proofs.Computed.{agrees, lies, covers, covered-so, starts-right, right-so, wrong-so}
+use Rattle.iwadare.proofs.Computed.{delivery-same}
+
+abbrev zerosSent : ℕ → List Sent
+zerosSent count = sentBy (started coderWords) (replicate count 0)
+
+abbrev longBurst : List ℕ
+longBurst = 4 ∷ 7 ∷ 7 ∷ 7 ∷ 1 ∷ replicate 18 0
+
+abbrev closeBits : List ℕ
+closeBits = 1 ∷ (replicate 17 0 ++ (4 ∷ []))
+
+abbrev earlyBit : List ℕ
+earlyBit = replicate 29 0 ++ (4 ∷ replicate 3 0)
+
+-- the fill complete, and a one in the pending word that comes at the end of the guard's first part
+abbrev unlike : List ℕ
+unlike = 18 ∷ 2 ^ 17 ∷ replicate 19 0
+
+abbrev longTaken : List Taken
+longTaken = takenBy (started decoderWords) longBurst
+
+abbrev closeTaken : List Taken
+closeTaken = takenBy (started decoderWords) closeBits
+
+abbrev earlyTaken : List Taken
+earlyTaken = takenBy unlike earlyBit
+
+abbrev at : ℕ → ℕ → Stretch
+at first last = record { first = first; last = last }
+
+-- what is computed of a run of `count` blocks: how many are taken and sent, that the chosen stretches cover the wrong
+-- bits, and what is delivered at the last place where zero was sent 18 places before
+record Shown (taken : List Taken) (count : ℕ) (chosen : List Stretch) (answer : ℕ) : Type 0 where
+  takes : length taken ≡ count
+  sends : length (zerosSent count) ≡ count
+  covering : covers (zerosSent count) taken chosen (3 * count) ≡ true
+  answers : takenAt taken count .answer ≡ Delivery answer
+  info : sentAt (zerosSent count) (count - 18) .info ≡ 0
+
+-- the bits at both ends of a stretch are wrong
+record Ends (taken : List Taken) (count : ℕ) (b : Stretch) : Type 0 where
+  first-taken : bitTaken taken (b .first) ≡ true
+  first-sent : bitSent (zerosSent count) (b .first) ≡ false
+  last-taken : bitTaken taken (b .last) ≡ true
+  last-sent : bitSent (zerosSent count) (b .last) ≡ false
+
+computed : (Shown longTaken 23 (at 3 13 ∷ []) 1 × Ends longTaken 23 (at 3 13))
+    × (Shown closeTaken 19 (at 1 1 ∷ at 57 57 ∷ []) 1 × Ends closeTaken 19 (at 1 1) × Ends closeTaken 19 (at 57 57))
+    × (Shown earlyTaken 33 (at 90 90 ∷ []) 2 × Ends earlyTaken 33 (at 90 90)
+    × (starts-right (zerosSent 33) earlyTaken 29 ≡ true))
+unfolding run codeAnswer codeMemory decodeAnswer decodeMemory answered leaves stepFault coderFault decoderFault
+    someAbove firstOf coderJoining codedBlock coderNext decoderJoining rawOf registerOf flipsOne flipsZero matched
+    termsNext decoderNext delivered delivery joining combination every covers starts-right agrees lies bit odd xor _⊕_
+computed = (
+  (
+    record { takes = refl; sends = refl; covering = refl; answers = refl; info = refl },
+    record { first-taken = refl; first-sent = refl; last-taken = refl; last-sent = refl },
+  ),
+  (
+    record { takes = refl; sends = refl; covering = refl; answers = refl; info = refl },
+    record { first-taken = refl; first-sent = refl; last-taken = refl; last-sent = refl },
+    record { first-taken = refl; first-sent = refl; last-taken = refl; last-sent = refl },
+  ),
+  (
+    record { takes = refl; sends = refl; covering = refl; answers = refl; info = refl },
+    record { first-taken = refl; first-sent = refl; last-taken = refl; last-sent = refl },
+    refl,
+  ),
+)
+
+-- ---- what these say
+
+module _ {taken : List Taken} {count : ℕ} {chosen : List Stretch} {answer : ℕ} (s : Shown taken count chosen answer)
+  where
+    enough : length taken ≤ length (zerosSent count)
+    enough = let a = s .takes in let b = s .sends in omega arith
+
+    inside : count ≤ length taken
+    inside = let a = s .takes in omega arith
+
+    burst : (long : ℕ) (b : Stretch) → Ends taken count b → 1 ≤ b .first → b .first ≤ b .last
+        → b .last < b .first + long → b .last ≤ 3 * count
+        → Burst (WrongBit (zerosSent count) taken) long (3 * length taken) b
+    burst long b e from order short within = record {
+      from = from;
+      order = order;
+      short = short;
+      inside = let a = s .takes in omega arith;
+      begins = wrong-so (zerosSent count) taken (b .first) (e .first-taken) (e .first-sent);
+      ends = wrong-so (zerosSent count) taken (b .last) (e .last-taken) (e .last-sent);
+    }
+
+    bursts : (long gap : ℕ) → Chosen (WrongBit (zerosSent count) taken) long gap (3 * length taken) chosen
+        → BitBursts long gap (zerosSent count) taken
+    bursts long gap apart = record {
+      chosen = chosen;
+      apart = apart;
+      covered = λ q from to. covered-so (zerosSent count) taken chosen (3 * count) (s .covering) q from
+          (let a = s .takes in omega arith);
+    }
+
+    -- zero was sent, and something else is delivered
+    goes-wrong : 0 < answer → Corrected (zerosSent count) taken count → ⊥
+    goes-wrong some right =
+        let same = delivery-same answer 0 (sym (s .answers) ∙ right ∙ ap Delivery (s .info)) in
+        omega arith
+
+pub length-sharp : IWADARE-LENGTH-SHARP
+length-sharp gap right =
+    let s = computed .0 .0 in
+    goes-wrong s (omega arith)
+    (right (replicate 23 0) longBurst (enough s)
+    (bursts s 11 gap
+    (burst s 11 (at 3 13) (computed .0 .1) (omega arith) (omega arith) (omega arith) (omega arith), tt, tt))
+    23 (omega arith) (inside s))
+
+pub gap-sharp : IWADARE-GAP-SHARP
+gap-sharp right =
+    let s = computed .1 .0 in
+    goes-wrong s (omega arith)
+    (right (replicate 19 0) closeBits (enough s)
+    (bursts s 1 55 (
+      burst s 1 (at 1 1) (computed .1 .1) (omega arith) (omega arith) (omega arith) (omega arith),
+      (omega arith),
+      (
+        burst s 1 (at 57 57) (computed .1 .2) (omega arith) (omega arith) (omega arith) (omega arith),
+        tt,
+        tt,
+      ),
+    ))
+    19 (omega arith) (inside s))
+
+pub guard-sharp : IWADARE-GUARD-SHARP
+guard-sharp right =
+    let s = computed .2 .0 in
+    goes-wrong s (omega arith)
+    (right (started coderWords) unlike (replicate 33 0) earlyBit (enough s)
+    (right-so (zerosSent 33) earlyTaken 29 (computed .2 .2))
+    (bursts s 1 56
+    (burst s 1 (at 90 90) (computed .2 .1) (omega arith) (omega arith) (omega arith) (omega arith), tt, tt))
+    33 (omega arith) (inside s))
