@@ -4,6 +4,7 @@
 --   numberOf ns       the refusal's number, or 0
 --   codedOf ns        of a coder's step: number, block
 --   decodedOf ns      of a decoder's step: number, information, the mark's number, e or 0
+--   iwadareDecodedOf ns   of that of the Iwadare-Massey stations: number, 1 if a block is delivered, its information
 --   readingOf ns      of reading: number; the place of refusals 1 to 9; l, e0 and e1 of 10
 --   writtenOf ns      of writing: number; how many bytes were written; l, e0 and e1 of 10
 --   MARK-RANGE        a mark's number is at most 5
@@ -16,6 +17,7 @@ use Rattle.export.specs.declared.reading.BurstReading.{BurstReading}
 use Rattle.export.specs.declared.written.BurstWritten.{BurstWritten}
 use Rattle.export.specs.declared.coded.BurstCoded.{BurstCoded}
 use Rattle.export.specs.declared.decoded.BurstDecoded.{BurstDecoded}
+use Rattle.export.specs.declared.iwadare_decoded.BurstIwadareDecoded.{BurstIwadareDecoded}
 
 abbrev pub numberOf : List ℕ → ℕ
 numberOf ns = getD ns 0 0
@@ -25,6 +27,9 @@ codedOf ns = record { refused = numberOf ns; block = getD ns 1 0 }
 
 abbrev pub decodedOf : List ℕ → BurstDecoded
 decodedOf ns = record { refused = numberOf ns; info = getD ns 1 0; mark = getD ns 2 0; error = getD ns 3 0 }
+
+abbrev pub iwadareDecodedOf : List ℕ → BurstIwadareDecoded
+iwadareDecodedOf ns = record { refused = numberOf ns; delivered = getD ns 1 0; info = getD ns 2 0 }
 
 -- "A refusal returns its number, with place or pair as said": a number and a place, or 10 and the triple "instead of a
 -- place"

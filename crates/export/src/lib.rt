@@ -4,6 +4,8 @@ pub mod code;
 mod coded;
 pub mod decode;
 mod decoded;
+mod iwadare_decoded;
+pub mod iwadare_stations;
 pub mod make;
 mod making;
 pub mod read;

@@ -1,27 +1,27 @@
 -- The premises of correction and recovery of runs that are computed: tests of each bit and each block, and what they say.
 -- Assumes nothing.
 --
---   covers sent taken chosen count, covered-so   every wrong bit lies in a chosen stretch
+--   Ends, burst-so                               a stretch with a wrong bit at both ends
+--   covers sent taken chosen count, bursts-so    every wrong bit lies in a chosen stretch
 --   starts-right sent taken right, right-so      the first blocks are right
---   wrong-so                                     a wrong bit
 --   delivery-same                                two deliveries that are the same
 use mathlib.Core.Path.{_≡_, refl, sym, ap, _∙_}
 use mathlib.Core.Bool.{Bool, true, false, not, cond, _&&_, _||_, true≢false}
 use mathlib.Core.Logic.{_≢_, _⊎_, inl, inr}
 use mathlib.Core.List.{List, [], _∷_}
-use Prim.Native.Nat.{ℕ, zero, suc, _≤_}
+use Prim.Native.Nat.{ℕ, zero, suc, _+_, _*_, _≤_, _<_}
 use native.Mathlib.Omega.{arith}
 use borrow.Author.Tests.{leb-true, eqb-true}
 use lib.Dec.{leb, eqb}
 use lib.ListN.{length, getD}
 use Rattle.tables.proofs.Fit.{and-left, and-right}
 use Rattle.tables.proofs.Every.{every, every-at}
-use Rattle.link.specs.Recovery.{Stretch, Within}
+use Rattle.link.specs.Recovery.{Stretch, Burst, Chosen, Within}
 use Rattle.iwadare.specs.declared.decode.DecodeAnswer.{DecodeAnswer}
 use Rattle.iwadare.specs.declared.decode.DecodeAnswer.the-variants.{Delivery}
 use Rattle.iwadare.specs.Decoder.{decodeNumbers}
 use Rattle.iwadare.specs.Runs.{Sent, Taken, sentAt, takenAt, bitSent, bitTaken}
-use Rattle.iwadare.specs.Correction.{WrongBit}
+use Rattle.iwadare.specs.Correction.{WrongBit, BitBursts}
 use Rattle.iwadare.specs.Recovery.{RightFirst}
 
 unfoldable pub agrees : Bool → Bool → Bool
@@ -32,6 +32,11 @@ unfolding agrees
 agrees-so true b e = sym e
 agrees-so false true e = e
 agrees-so false false e = refl
+
+agrees-self : (a : Bool) → agrees a a ≡ true
+unfolding agrees
+agrees-self true = refl
+agrees-self false = refl
 
 unfoldable pub lies : ℕ → List Stretch → Bool
 lies q [] = false
@@ -52,10 +57,30 @@ lies-so q (b ∷ bs) e = go (leb (b .first) q && leb q (b .last)) refl e (lies-s
     go false k h rest = inr (rest h)
 
 module _ (sent : List Sent) (taken : List Taken) where
+  wrong-so : (q : ℕ) → agrees (bitTaken taken q) (bitSent sent q) ≡ false → WrongBit sent taken q
+  wrong-so q h e =
+      true≢false
+      (sym (agrees-self (bitTaken taken q)) ∙ ap (agrees (bitTaken taken q)) e ∙ h)
+
+  pub record Ends (b : Stretch) : Type 0 where
+    pub first : agrees (bitTaken taken (b .first)) (bitSent sent (b .first)) ≡ false
+    pub last : agrees (bitTaken taken (b .last)) (bitSent sent (b .last)) ≡ false
+
+  pub burst-so : (long count : ℕ) (b : Stretch) → Ends b → 1 ≤ b .first → b .first ≤ b .last
+      → b .last < b .first + long → b .last ≤ count → Burst (WrongBit sent taken) long count b
+  burst-so long count b e from order short inside = record {
+    from = from;
+    order = order;
+    short = short;
+    inside = inside;
+    begins = wrong-so (b .first) (e .first);
+    ends = wrong-so (b .last) (e .last);
+  }
+
   unfoldable pub covers : List Stretch → ℕ → Bool
   covers chosen count = every (λ i. agrees (bitTaken taken (suc i)) (bitSent sent (suc i)) || lies (suc i) chosen) count
 
-  pub covered-so : (chosen : List Stretch) (count : ℕ) → covers chosen count ≡ true
+  covered-so : (chosen : List Stretch) (count : ℕ) → covers chosen count ≡ true
       → (q : ℕ) → 1 ≤ q → q ≤ count → WrongBit sent taken q → Within q chosen
   unfolding covers
   covered-so chosen count e zero from to ne = absurd (omega arith)
@@ -69,6 +94,11 @@ module _ (sent : List Sent) (taken : List Taken) where
       go true k h = absurd (ne (agrees-so (bitTaken taken (suc i)) (bitSent sent (suc i)) k))
       go false k h = lies-so (suc i) chosen h
 
+  pub bursts-so : (long gap : ℕ) (chosen : List Stretch) → covers chosen (3 * length taken) ≡ true
+      → Chosen (WrongBit sent taken) long gap (3 * length taken) chosen → BitBursts long gap sent taken
+  bursts-so long gap chosen e apart =
+      record { chosen = chosen; apart = apart; covered = covered-so chosen (3 * length taken) e }
+
   unfoldable pub starts-right : ℕ → Bool
   starts-right right = every (λ i. eqb (takenAt taken (suc i) .block) (sentAt sent (suc i) .block)) right
 
@@ -78,9 +108,6 @@ module _ (sent : List Sent) (taken : List Taken) where
   right-so right e (suc i) from to inside =
       eqb-true (takenAt taken (suc i) .block) (sentAt sent (suc i) .block)
       (every-at (λ i. eqb (takenAt taken (suc i) .block) (sentAt sent (suc i) .block)) right e i (omega arith))
-
-  pub wrong-so : (q : ℕ) → bitTaken taken q ≡ true → bitSent sent q ≡ false → WrongBit sent taken q
-  wrong-so q t s e = true≢false (sym t ∙ e ∙ s)
 
 pub delivery-same : (a b : ℕ) → _≡_ {A = DecodeAnswer} (Delivery a) (Delivery b) → a ≡ b
 delivery-same a b e = ap (λ (x : DecodeAnswer). getD (decodeNumbers x) 2 0) e

@@ -17,4 +17,5 @@ mod Correction
 mod Recovery
 mod Computed
 mod Sharp
+mod Witness
 mod Main

@@ -22,7 +22,7 @@ use Rattle.iwadare.specs.Decoder.{decoderNext, delivered, delivery, deco
 use Rattle.iwadare.specs.Runs.{Sent, Taken, sentBy, takenBy, sentAt, takenAt, bitSent, bitTaken}
 use Rattle.iwadare.specs.Correction.{WrongBit, BitBursts, Corrected}
 use Rattle.iwadare.specs.Sharp.{IWADARE-LENGTH-SHARP, IWADARE-GAP-SHARP, IWADARE-GUARD-SHARP}
-use Rattle.iwadare.proofs.Computed.{agrees, lies, covers, covered-so, starts-right, right-so, wrong-so}
+use Rattle.iwadare.proofs.Computed.{agrees, lies, Ends, burst-so, covers, bursts-so, starts-right, right-so}
 use Rattle.iwadare.proofs.Computed.{delivery-same}
 
 abbrev zerosSent : ℕ → List Sent
@@ -58,20 +58,13 @@ at first last = record { first = first; last = last }
 record Shown (taken : List Taken) (count : ℕ) (chosen : List Stretch) (answer : ℕ) : Type 0 where
   takes : length taken ≡ count
   sends : length (zerosSent count) ≡ count
-  covering : covers (zerosSent count) taken chosen (3 * count) ≡ true
+  covering : covers (zerosSent count) taken chosen (3 * length taken) ≡ true
   answers : takenAt taken count .answer ≡ Delivery answer
   info : sentAt (zerosSent count) (count - 18) .info ≡ 0
 
--- the bits at both ends of a stretch are wrong
-record Ends (taken : List Taken) (count : ℕ) (b : Stretch) : Type 0 where
-  first-taken : bitTaken taken (b .first) ≡ true
-  first-sent : bitSent (zerosSent count) (b .first) ≡ false
-  last-taken : bitTaken taken (b .last) ≡ true
-  last-sent : bitSent (zerosSent count) (b .last) ≡ false
-
-computed : (Shown longTaken 23 (at 3 13 ∷ []) 1 × Ends longTaken 23 (at 3 13))
-    × (Shown closeTaken 19 (at 1 1 ∷ at 57 57 ∷ []) 1 × Ends closeTaken 19 (at 1 1) × Ends closeTaken 19 (at 57 57))
-    × (Shown earlyTaken 33 (at 90 90 ∷ []) 2 × Ends earlyTaken 33 (at 90 90)
+computed : (Shown longTaken 23 (at 3 13 ∷ []) 1 × Ends (zerosSent 23) longTaken (at 3 13))
+    × (Shown closeTaken 19 (at 1 1 ∷ at 57 57 ∷ []) 1 × Ends (zerosSent 19) closeTaken (at 1 1) × Ends (zerosSent 19) closeTaken (at 57 57))
+    × (Shown earlyTaken 33 (at 90 90 ∷ []) 2 × Ends (zerosSent 33) earlyTaken (at 90 90)
     × (starts-right (zerosSent 33) earlyTaken 29 ≡ true))
 unfolding run codeAnswer codeMemory decodeAnswer decodeMemory answered leaves stepFault coderFault decoderFault
     someAbove firstOf coderJoining codedBlock coderNext decoderJoining rawOf registerOf flipsOne flipsZero matched
@@ -79,16 +72,16 @@ unfolding run codeAnswer codeMemory decodeAnswer decodeMemory answered leaves st
 computed = (
   (
     record { takes = refl; sends = refl; covering = refl; answers = refl; info = refl },
-    record { first-taken = refl; first-sent = refl; last-taken = refl; last-sent = refl },
+    record { first = refl; last = refl },
   ),
   (
     record { takes = refl; sends = refl; covering = refl; answers = refl; info = refl },
-    record { first-taken = refl; first-sent = refl; last-taken = refl; last-sent = refl },
-    record { first-taken = refl; first-sent = refl; last-taken = refl; last-sent = refl },
+    record { first = refl; last = refl },
+    record { first = refl; last = refl },
   ),
   (
     record { takes = refl; sends = refl; covering = refl; answers = refl; info = refl },
-    record { first-taken = refl; first-sent = refl; last-taken = refl; last-sent = refl },
+    record { first = refl; last = refl },
     refl,
   ),
 )
@@ -103,52 +96,39 @@ module _ {taken : List Taken} {count : ℕ} {chosen : List Stretch} {answer : �
     inside : count ≤ length taken
     inside = let a = s .takes in omega arith
 
-    burst : (long : ℕ) (b : Stretch) → Ends taken count b → 1 ≤ b .first → b .first ≤ b .last
-        → b .last < b .first + long → b .last ≤ 3 * count
-        → Burst (WrongBit (zerosSent count) taken) long (3 * length taken) b
-    burst long b e from order short within = record {
-      from = from;
-      order = order;
-      short = short;
-      inside = let a = s .takes in omega arith;
-      begins = wrong-so (zerosSent count) taken (b .first) (e .first-taken) (e .first-sent);
-      ends = wrong-so (zerosSent count) taken (b .last) (e .last-taken) (e .last-sent);
-    }
-
-    bursts : (long gap : ℕ) → Chosen (WrongBit (zerosSent count) taken) long gap (3 * length taken) chosen
-        → BitBursts long gap (zerosSent count) taken
-    bursts long gap apart = record {
-      chosen = chosen;
-      apart = apart;
-      covered = λ q from to. covered-so (zerosSent count) taken chosen (3 * count) (s .covering) q from
-          (let a = s .takes in omega arith);
-    }
-
     -- zero was sent, and something else is delivered
     goes-wrong : 0 < answer → Corrected (zerosSent count) taken count → ⊥
     goes-wrong some right =
         let same = delivery-same answer 0 (sym (s .answers) ∙ right ∙ ap Delivery (s .info)) in
         omega arith
 
+-- a burst of one run
+abbrev burst : (taken : List Taken) (count long : ℕ) (b : Stretch) → Ends (zerosSent count) taken b → 1 ≤ b .first
+    → b .first ≤ b .last → b .last < b .first + long → b .last ≤ 3 * length taken
+    → Burst (WrongBit (zerosSent count) taken) long (3 * length taken) b
+burst taken count long b = burst-so (zerosSent count) taken long (3 * length taken) b
+
 pub length-sharp : IWADARE-LENGTH-SHARP
 length-sharp gap right =
     let s = computed .0 .0 in
+    let n = s .takes in
     goes-wrong s (omega arith)
     (right (replicate 23 0) longBurst (enough s)
-    (bursts s 11 gap
-    (burst s 11 (at 3 13) (computed .0 .1) (omega arith) (omega arith) (omega arith) (omega arith), tt, tt))
+    (bursts-so (zerosSent 23) longTaken 11 gap (at 3 13 ∷ []) (s .covering)
+    (burst longTaken 23 11 (at 3 13) (computed .0 .1) (omega arith) (omega arith) (omega arith) (omega arith), tt, tt))
     23 (omega arith) (inside s))
 
 pub gap-sharp : IWADARE-GAP-SHARP
 gap-sharp right =
     let s = computed .1 .0 in
+    let n = s .takes in
     goes-wrong s (omega arith)
     (right (replicate 19 0) closeBits (enough s)
-    (bursts s 1 55 (
-      burst s 1 (at 1 1) (computed .1 .1) (omega arith) (omega arith) (omega arith) (omega arith),
+    (bursts-so (zerosSent 19) closeTaken 1 55 (at 1 1 ∷ at 57 57 ∷ []) (s .covering) (
+      burst closeTaken 19 1 (at 1 1) (computed .1 .1) (omega arith) (omega arith) (omega arith) (omega arith),
       (omega arith),
       (
-        burst s 1 (at 57 57) (computed .1 .2) (omega arith) (omega arith) (omega arith) (omega arith),
+        burst closeTaken 19 1 (at 57 57) (computed .1 .2) (omega arith) (omega arith) (omega arith) (omega arith),
         tt,
         tt,
       ),
@@ -158,9 +138,10 @@ gap-sharp right =
 pub guard-sharp : IWADARE-GUARD-SHARP
 guard-sharp right =
     let s = computed .2 .0 in
+    let n = s .takes in
     goes-wrong s (omega arith)
     (right (started coderWords) unlike (replicate 33 0) earlyBit (enough s)
     (right-so (zerosSent 33) earlyTaken 29 (computed .2 .2))
-    (bursts s 1 56
-    (burst s 1 (at 90 90) (computed .2 .1) (omega arith) (omega arith) (omega arith) (omega arith), tt, tt))
+    (bursts-so (zerosSent 33) earlyTaken 1 56 (at 90 90 ∷ []) (s .covering)
+    (burst earlyTaken 33 1 (at 90 90) (computed .2 .1) (omega arith) (omega arith) (omega arith) (omega arith), tt, tt))
     33 (omega arith) (inside s))

@@ -11,4 +11,5 @@ pub mod Delivery
 pub mod Correction
 pub mod Recovery
 pub mod Sharp
+pub mod Witness
 pub mod Main
