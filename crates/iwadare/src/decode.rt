@@ -121,6 +121,17 @@ fn next_fill(fill: u64) -> u64
     if fill < 18 { fill + 1 } else { fill }
 }
 
+// The block 15 back. Nothing is written where nothing is flipped: words just written would hold up those that move.
+fn flip(state: &mut [u64], one: u64)
+    requires { ⌜ length (now state) ≡ 21 ⌝ }
+    ensures { λ r. ⌜ now (state .exit) ≡ set (now (state .entry)) 6 (getD (now (state .entry)) 6 0 ⊕ one) ⌝ }
+{
+    if one == 0 {
+        return;
+    }
+    state[6] = state[6] ^ one;
+}
+
 // The memory after a step: the block 15 back is flipped, w halved stays, and the delayed blocks move.
 fn keep(state: &mut [u64], w: u64, terms: u64, one: u64, youngest: u64)
     requires { ⌜ length (now state) ≡ 21 ⌝ }
@@ -128,7 +139,7 @@ fn keep(state: &mut [u64], w: u64, terms: u64, one: u64, youngest: u64)
         ⌜ now (state .exit) ≡ fillNext (fillOf (now (state .entry))) ∷ w / 2 ∷ terms
         ∷ (drop 4 (set (now (state .entry)) 6 (getD (now (state .entry)) 6 0 ⊕ one)) ++ (youngest ∷ [])) ⌝ }
 {
-    state[6] = state[6] ^ one;
+    flip(state, one);
     state[0] = next_fill(state[0]);
     state[1] = w >> 1;
     state[2] = terms;
