@@ -29,23 +29,24 @@ use Rattle.tables.proofs.Written.{parses-exactly}
 use Rattle.tables.proofs.Writing.{writes-by, reads-back}
 use Rattle.tables.proofs.Made.{made, is-made, not-made}
 use Rattle.tables.proofs.MadeWhole.{made-whole}
-use Rattle.link.specs.Refusals.{startFault, coderFault, decoderFault, callNumbers}
-use Rattle.link.specs.Coder.{codedBlock}
-use Rattle.link.specs.Decoder.{decodeValues}
-use Rattle.link.proofs.Refusals.{refused-numbers, taken-numbers}
-use Rattle.link.proofs.Starting.{start-refuses, starts}
-use Rattle.link.proofs.Coder.{code-refuses, codes}
-use Rattle.link.proofs.Decoder.{decode-refuses, decodes}
+use Rattle.link.specs.Memory.{started}
+use Rattle.link.specs.Refusals.{startFault, coderFault, decoderFault, leaves, callNumbers}
+use Rattle.link.specs.Start.{startMemory, lengthFault}
+use Rattle.link.specs.Coder.{codedBlock, coderNext, codeMemory}
+use Rattle.link.specs.Decoder.{decodeValues, decoderNext, decodeMemory}
+use Rattle.link.proofs.Refusals.{refuses, takes, refused-numbers, taken-numbers}
+use Rattle.iwadare.specs.Refusals as refusals
+use Rattle.iwadare.specs.Coder as coder
+use Rattle.iwadare.specs.Decoder as decoder
 use Rattle.export.specs.declared.reading.BurstReading.{BurstReading}
 use Rattle.export.specs.declared.written.BurstWritten.{BurstWritten}
-use Rattle.export.specs.declared.coded.BurstCoded.{BurstCoded}
-use Rattle.export.specs.declared.decoded.BurstDecoded.{BurstDecoded}
 use Rattle.export.specs.Numbers.{tableOf, numbersOf, givenBack}
 use Rattle.export.proofs.Numbers.{given-back, table-back}
-use Rattle.export.specs.Answers.{numberOf, readingOf, writtenOf, codedOf, decodedOf}
+use Rattle.export.specs.Answers.{numberOf, readingOf, writtenOf, codedOf, decodedOf, iwadareDecodedOf}
 use Rattle.export.specs.Promises.{Reads}
 use Rattle.export.specs.Laws.{ReadTold, READ-TOLD, WriteTold, WRITE-TOLD, STORED-BACK, MADE-TOLD}
-use Rattle.export.specs.Laws.{START-TOLD, CODE-TOLD, DECODE-TOLD}
+use Rattle.export.specs.Laws.{START-TOLD, CODE-TOLD, DECODE-TOLD, IWADARE-START-TOLD, IWADARE-CODE-TOLD}
+use Rattle.export.specs.Laws.{IWADARE-DECODE-TOLD}
 
 read-so : (bytes : List ℕ) → ((i : ℕ) → getD bytes i 0 < 256) → (a : ReadAnswer) (before : List ℕ)
     → reading bytes .answer ≡ a →
@@ -189,44 +190,64 @@ number-is fault values = go (ℕ-discrete fault 0)
     go (yes z) = ap numberOf (taken-numbers fault values z) ∙ sym z
     go (no z) = ap numberOf (refused-numbers fault values z)
 
+-- ---- starts and steps: the struct `of` the numbers of a call, whose first number `refusedOf` tells
+
+module _ {X : Type 0} (of : List ℕ → X) (refusedOf : X → ℕ) (first : (ns : List ℕ) → refusedOf (of ns) ≡ numberOf ns)
+    (fault : ℕ) (values next before : List ℕ) (r : X) (after : List ℕ) (answer : r ≡ of (callNumbers fault values))
+    (memory : after ≡ leaves fault next before) where
+  call-told : (refusedOf r ≡ fault) × (refusedOf r ≢ 0 → (r ≡ of (refusedOf r ∷ [])) × (after ≡ before))
+      × (refusedOf r ≡ 0 → (r ≡ of (0 ∷ values)) × (after ≡ next))
+  call-told =
+      let number : refusedOf r ≡ fault = ap refusedOf answer ∙ first (callNumbers fault values) ∙ number-is fault values
+      in (
+        number,
+        λ some. (
+          answer ∙ ap of (refused-numbers fault values (λ z. some (number ∙ z)))
+              ∙ ap (λ (k : ℕ). of (k ∷ [])) (sym number),
+          memory ∙ sym (refuses (λ k. r) fault r next before fault refl (omega arith) .1),
+        ),
+        λ none. (
+          answer ∙ ap of (taken-numbers fault values (sym number ∙ none)),
+          memory ∙ sym (takes (λ k. r) fault r next before (sym number ∙ none) .1),
+        ),
+      )
+
+-- of a start the number is all
+start-said : (fault : ℕ) (next before : List ℕ) (r : ℕ) (after : List ℕ) → r ≡ numberOf (callNumbers fault [])
+    → after ≡ leaves fault next before → (r ≡ fault) × (r ≢ 0 → after ≡ before) × (r ≡ 0 → after ≡ next)
+start-said fault next before r after number memory =
+    let c = call-told numberOf (λ k. k) (λ ns. refl) fault [] next before r after number memory in
+    (c .0, λ some. c .1 some .1, λ none. c .2 none .1)
+
 pub start-told : START-TOLD
+unfolding startMemory
 start-told t words before r after h =
-    let number = h .number ∙ number-is (startFault t words before) [] in (
-      number,
-      λ some. h .memory ∙ sym (start-refuses t words before (startFault t words before) refl (omega arith) .1),
-      λ none. h .memory ∙ sym (starts t words before (sym number ∙ none) .1),
-    )
+    start-said (startFault t words before) (started words) before r after (h .number) (h .memory)
 
 pub code-told : CODE-TOLD
+unfolding codeMemory
 code-told t before info r after h =
-    let fault = coderFault t before info in
-    let values = codedBlock t before info ∷ [] in
-    let number : r .refused ≡ fault = ap (λ (x : BurstCoded). x .refused) (h .answer) ∙ number-is fault values in (
-      number,
-      λ some. (
-        h .answer ∙ ap codedOf (refused-numbers fault values (λ z. some (number ∙ z)))
-            ∙ ap (λ (k : ℕ). codedOf (k ∷ 0 ∷ [])) (sym number),
-        h .memory ∙ sym (code-refuses t before info fault refl (omega arith) .1),
-      ),
-      λ none. (
-        h .answer ∙ ap codedOf (taken-numbers fault values (sym number ∙ none)),
-        h .memory ∙ sym (codes t before info (sym number ∙ none) .1),
-      ),
-    )
+    call-told codedOf (λ x. x .refused) (λ ns. refl) (coderFault t before info) (codedBlock t before info ∷ [])
+    (coderNext t before info) before r after (h .answer) (h .memory)
 
 pub decode-told : DECODE-TOLD
+unfolding decodeMemory
 decode-told t before received r after h =
-    let fault = decoderFault t before received in
-    let values = decodeValues t before received in
-    let number : r .refused ≡ fault = ap (λ (x : BurstDecoded). x .refused) (h .answer) ∙ number-is fault values in (
-      number,
-      λ some. (
-        h .answer ∙ ap decodedOf (refused-numbers fault values (λ z. some (number ∙ z)))
-            ∙ ap (λ (k : ℕ). decodedOf (k ∷ 0 ∷ 0 ∷ 0 ∷ [])) (sym number),
-        h .memory ∙ sym (decode-refuses t before received fault refl (omega arith) .1),
-      ),
-      λ none. (
-        h .answer ∙ ap decodedOf (taken-numbers fault values (sym number ∙ none)),
-        h .memory ∙ sym (decodes t before received (sym number ∙ none) .1),
-      ),
-    )
+    call-told decodedOf (λ x. x .refused) (λ ns. refl) (decoderFault t before received) (decodeValues t before received)
+    (decoderNext t before received) before r after (h .answer) (h .memory)
+
+pub iwadare-start-told : IWADARE-START-TOLD
+iwadare-start-told words before r after h =
+    start-said (lengthFault words before) (started words) before r after (h .number) (h .memory)
+
+pub iwadare-code-told : IWADARE-CODE-TOLD
+unfolding coder.codeMemory
+iwadare-code-told before info r after h =
+    call-told codedOf (λ x. x .refused) (λ ns. refl) (refusals.coderFault before info)
+    (coder.codedBlock before info ∷ []) (coder.coderNext before info) before r after (h .answer) (h .memory)
+
+pub iwadare-decode-told : IWADARE-DECODE-TOLD
+unfolding decoder.decodeMemory
+iwadare-decode-told before received r after h =
+    call-told iwadareDecodedOf (λ x. x .refused) (λ ns. refl) (refusals.decoderFault before received)
+    (decoder.decodeValues before received) (decoder.decoderNext before received) before r after (h .answer) (h .memory)

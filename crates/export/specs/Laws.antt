@@ -13,6 +13,8 @@
 --                 word was written
 --   CODE-TOLD, DECODE-TOLD   a step: number 0 comes with the values of the step, any other, the first of 12 to 15 that
 --                 applies, with zeros, and then no word was written
+--   IWADARE-START-TOLD, IWADARE-CODE-TOLD, IWADARE-DECODE-TOLD   the same of the Iwadare-Massey stations, where 13 is
+--                 the first number
 use mathlib.Core.Path.{_≡_}
 use mathlib.Core.Bool.{true, false, cond}
 use mathlib.Core.Logic.{_≢_}
@@ -28,15 +30,21 @@ use Rattle.tables.specs.Writing.{written, writtenLength}
 use Rattle.tables.specs.Made.{columns, triangleRows, making}
 use Rattle.link.specs.Memory.{started}
 use Rattle.link.specs.Refusals.{startFault, coderFault, decoderFault}
+use Rattle.link.specs.Start.{lengthFault}
 use Rattle.link.specs.Coder.{codedBlock, coderNext}
 use Rattle.link.specs.Decoder.{decodeValues, decoderNext}
+use Rattle.iwadare.specs.Refusals as refusals
+use Rattle.iwadare.specs.Coder as coder
+use Rattle.iwadare.specs.Decoder as decoder
 use Rattle.export.specs.declared.reading.BurstReading.{BurstReading}
 use Rattle.export.specs.declared.written.BurstWritten.{BurstWritten}
 use Rattle.export.specs.declared.coded.BurstCoded.{BurstCoded}
 use Rattle.export.specs.declared.decoded.BurstDecoded.{BurstDecoded}
+use Rattle.export.specs.declared.iwadare_decoded.BurstIwadareDecoded.{BurstIwadareDecoded}
 use Rattle.export.specs.Numbers.{tableOf, numbersOf}
-use Rattle.export.specs.Answers.{readingOf, writtenOf, codedOf, decodedOf}
-use Rattle.export.specs.Promises.{Reads, WritesBy, MakesTable, StartsBy, CodesBy, DecodesBy}
+use Rattle.export.specs.Answers.{readingOf, writtenOf, codedOf, decodedOf, iwadareDecodedOf}
+use Rattle.export.specs.Promises.{Reads, WritesBy, MakesTable, StartsBy, CodesBy, DecodesBy, IwadareStartsBy}
+use Rattle.export.specs.Promises.{IwadareCodesBy, IwadareDecodesBy}
 
 -- what reading answers, r, and what it leaves of the numbers lent for the table; `Whole`: the table is fit, and its
 -- rows past n − 1 are 0
@@ -113,3 +121,26 @@ DECODE-TOLD =
     → (r .refused ≡ decoderFault t before received)
     × (r .refused ≢ 0 → (r ≡ decodedOf (r .refused ∷ 0 ∷ 0 ∷ 0 ∷ [])) × (after ≡ before))
     × (r .refused ≡ 0 → (r ≡ decodedOf (0 ∷ decodeValues t before received)) × (after ≡ decoderNext t before received))
+
+-- ---- the Iwadare-Massey stations: `refusals`, `coder` and `decoder` are those of `iwadare`
+
+abbrev pub IWADARE-START-TOLD : Type 0
+IWADARE-START-TOLD =
+    (words : ℕ) (before : List ℕ) (r : ℕ) (after : List ℕ) → IwadareStartsBy words before r after
+    → (r ≡ lengthFault words before) × (r ≢ 0 → after ≡ before) × (r ≡ 0 → after ≡ started words)
+
+abbrev pub IWADARE-CODE-TOLD : Type 0
+IWADARE-CODE-TOLD =
+    (before : List ℕ) (info : ℕ) (r : BurstCoded) (after : List ℕ) → IwadareCodesBy before info r after
+    → (r .refused ≡ refusals.coderFault before info)
+    × (r .refused ≢ 0 → (r ≡ codedOf (r .refused ∷ 0 ∷ [])) × (after ≡ before))
+    × (r .refused ≡ 0 → (r ≡ codedOf (0 ∷ coder.codedBlock before info ∷ [])) × (after ≡ coder.coderNext before info))
+
+abbrev pub IWADARE-DECODE-TOLD : Type 0
+IWADARE-DECODE-TOLD =
+    (before : List ℕ) (received : ℕ) (r : BurstIwadareDecoded) (after : List ℕ)
+    → IwadareDecodesBy before received r after
+    → (r .refused ≡ refusals.decoderFault before received)
+    × (r .refused ≢ 0 → (r ≡ iwadareDecodedOf (r .refused ∷ 0 ∷ 0 ∷ [])) × (after ≡ before))
+    × (r .refused ≡ 0 → (r ≡ iwadareDecodedOf (0 ∷ decoder.decodeValues before received))
+    × (after ≡ decoder.decoderNext before received))

@@ -19,9 +19,9 @@ use Rattle.iwadare.specs.Memory.{delay, fillOf}
 use Rattle.iwadare.specs.Refusals.{stepFault, coderFault, decoderFault}
 use Rattle.iwadare.specs.Coder.{codedBlock, coderNext, codeAnswer, codeMemory}
 use Rattle.iwadare.specs.Decoder.{delivered, delivery, decoderNext, decodeAnswer, decodeMemory}
-use Rattle.iwadare.specs.Calls.{IWADARE-REFUSED-CALLS, IWADARE-TAKEN-CALLS}
-use Rattle.iwadare.proofs.Coder.{codes}
-use Rattle.iwadare.proofs.Decoder.{decodes}
+use Rattle.iwadare.specs.Calls.{IWADARE-REFUSED-CALLS, IWADARE-TAKEN-CALLS, IWADARE-BELOW}
+use Rattle.iwadare.proofs.Coder.{codes, coded-below}
+use Rattle.iwadare.proofs.Decoder.{decodes, delivered-below}
 
 start-range : (words : ℕ) (s : List ℕ) → (lengthFault words s ≡ 0 → ⊥) → lengthFault words s ≡ 13
 unfolding lengthFault
@@ -81,3 +81,6 @@ taken-calls = (
   λ s b r s' h z. let e = codes s b z in (h .answer ∙ sym (e .0), h .memory ∙ sym (e .1)),
   λ s b r s' h z. let e = decodes s b z in (h .answer ∙ sym (e .0), h .memory ∙ sym (e .1)),
 )
+
+pub below : IWADARE-BELOW
+below = (coded-below, delivered-below)

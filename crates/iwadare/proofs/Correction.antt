@@ -3,6 +3,7 @@
 --
 --   linked           the two runs, in step
 --   spread           where the wrong bits lie
+--   right-at         a place at which the errors deliver zero
 --   right-from       from a place on at which the errors have settled, every delivery is right
 --   started-quiet    started memories have settled
 --   correction-ten, correction   the theorems
@@ -62,6 +63,15 @@ module _ (coder decoder bs rs : List ℕ) where
         ne (sym (ap₂ (λ (i q : ℕ). bit i (takenAt taken q .block)) symbol block) ∙ same
         ∙ ap₂ (λ (i q : ℕ). bit i (sentAt sent q .block)) symbol block)
 
+    -- where the decoder on errors alone delivers zero, what was sent is delivered
+    pub right-at : (p : ℕ) → delay ≤ p → p < length taken → delivered (errorMemory linked p) (errors linked p) ≡ 0
+        → Corrected sent taken (suc p)
+    right-at p late inside zeros =
+        answers-complete (decoded decoder rs) p inside late
+        ∙ ap Delivery
+        (delivers linked p inside late zeros
+        ∙ ap (λ (k : ℕ). getD sent k noneSent .info) (let q : suc (p - 18) - 1 ≡ suc p - 18 - 1 = omega arith in q))
+
     module _ (apart : Separated (WrongBit sent taken) 10 56 (3 * length taken)) where
       spread : Spread (errors linked)
       spread = record {
@@ -79,17 +89,12 @@ module _ (coder decoder bs rs : List ℕ) where
           move i j (inl h) = inl (omega arith)
           move i j (inr h) = inr (omega arith)
 
-      pub error-run : ErrorRun (errorMemory linked) (errors linked)
-      error-run = record { spread = spread; next = error-next linked }
-
       pub right-from : (a : ℕ) → errorMemory linked a ≡ quiet
           → (p : ℕ) → a < p → delay < p → p ≤ length taken → Corrected sent taken p
       right-from a is zero after late inside = absurd (omega arith)
       right-from a is (suc p) after late inside =
-          answers-complete (decoded decoder rs) p (omega arith) (omega arith)
-          ∙ ap Delivery
-          (delivers linked p (omega arith) (omega arith) (quiet-on error-run a is p (omega arith))
-          ∙ ap (λ (k : ℕ). getD sent k noneSent .info) (let q : suc (p - 18) - 1 ≡ suc p - 18 - 1 = omega arith in q))
+          right-at p (omega arith) (omega arith)
+          (quiet-on (record { spread = spread; next = error-next linked }) a is p (omega arith))
 
 -- ---- from started memories
 

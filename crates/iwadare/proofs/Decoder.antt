@@ -26,7 +26,7 @@ use Rattle.iwadare.specs.Memory.{decoderWords, delay, fillOf, pendingOf,
 use Rattle.iwadare.specs.Memory.{pendingBound, termsBound, delayedBound, receivedBound}
 use Rattle.iwadare.specs.Refusals.{decoderMalformed, decoderFault}
 use Rattle.iwadare.specs.Formed.{DecoderFormed}
-use Rattle.iwadare.specs.Decoder.{rawOf, registerOf, flipsZero, decoderNext, delivered, delivery}
+use Rattle.iwadare.specs.Decoder.{rawOf, registerOf, flipsSymbol0, decoderNext, delivered, delivery}
 use Rattle.iwadare.specs.Decoder.{decodeAnswer, decodeMemory, decodeNumbers, decodeValues, Decodes}
 use Rattle.iwadare.proofs.Refusals.{step-fault, step-passed, some-none}
 
@@ -106,6 +106,6 @@ register-lt s r h = topped-lt 12 (termsOf s) (rawOf s r) h
 pub delivered-below : (s : List ℕ) (r : ℕ) → decoderFault s r ≡ 0 → delivered s r < 4
 unfolding delivered
 delivered-below s r e =
-    let flip = flipsZero (registerOf s r) in
+    let flip = flipsSymbol0 (registerOf s r) in
     xor-lt 2 (delayedBack s delay) (sel flip 1) (decoder-taken s r e .formed .delayed 0 (omega arith))
     (sel-lt 2 flip 1 (omega arith))

@@ -20,7 +20,7 @@ use Rattle.iwadare.specs.declared.decode.DecodeAnswer.{DecodeAnswer}
 use Rattle.iwadare.specs.declared.decode.DecodeAnswer.the-variants.{Delivery, NothingYet}
 use Rattle.iwadare.specs.Memory.{fillOf, fillNext}
 use Rattle.iwadare.specs.Refusals.{decoderFault}
-use Rattle.iwadare.specs.Decoder.{registerOf, flipsOne, flipsZero, delivered, delivery, decodeMemory}
+use Rattle.iwadare.specs.Decoder.{registerOf, flipsSymbol1, flipsSymbol0, delivered, delivery, decodeMemory}
 use Rattle.iwadare.specs.Runs.{Taken, handed, takenBy, noneTaken}
 use Rattle.iwadare.specs.Taps.{blockTaken}
 use Rattle.iwadare.specs.Delivery.{registerAt, IWADARE-WAITING, IWADARE-DELIVERY}
@@ -89,7 +89,7 @@ module _ {S : ℕ → List ℕ} {R : ℕ → ℕ} {A : ℕ → DecodeAnswer} {co
         ∙ kept t (suc i) (omega arith) (omega arith) (omega arith)
 
     abbrev flip : ℕ
-    flip = sel (flipsOne (registerOf (S (q + 15)) (R (q + 15)))) 2
+    flip = sel (flipsSymbol1 (registerOf (S (q + 15)) (R (q + 15)))) 2
 
     flipped-once : q + 15 < count → delayed (S (suc (q + 15))) 2 ≡ R q % 2 ^ 2 ⊕ flip
     flipped-once h =
@@ -109,10 +109,10 @@ module _ {S : ℕ → List ℕ} {R : ℕ → ℕ} {A : ℕ → DecodeAnswer} {co
 
     comes : q + 18 < count
         → delivered (S (q + 18)) (R (q + 18))
-        ≡ R q % 2 ^ 2 ⊕ flip ⊕ sel (flipsZero (registerOf (S (q + 18)) (R (q + 18)))) 1
+        ≡ R q % 2 ^ 2 ⊕ flip ⊕ sel (flipsSymbol0 (registerOf (S (q + 18)) (R (q + 18)))) 1
     unfolding delivered
     comes h =
-        ap (λ (x : ℕ). x ⊕ sel (flipsZero (registerOf (S (q + 18)) (R (q + 18)))) 1) (oldest (omega arith))
+        ap (λ (x : ℕ). x ⊕ sel (flipsSymbol0 (registerOf (S (q + 18)) (R (q + 18)))) 1) (oldest (omega arith))
 
 -- ---- the theorems
 
@@ -129,10 +129,10 @@ deliveries memory rs p after inside =
     ∙ ap Delivery
     (comes steps q (omega arith)
     ∙ ap₂ _⊕_
-    (ap₂ (λ (x y : ℕ). x % 2 ^ 2 ⊕ sel (flipsOne y) 2)
+    (ap₂ (λ (x y : ℕ). x % 2 ^ 2 ⊕ sel (flipsSymbol1 y) 2)
     (ap (λ (k : ℕ). getD taken k noneTaken .block) (let z : suc q - 1 ≡ p - 18 - 1 = omega arith in z))
     (at (q + 15) (p - 3) (omega arith) (omega arith)))
-    (ap (λ (y : ℕ). sel (flipsZero y) 1) (at (q + 18) p (omega arith) (omega arith))))
+    (ap (λ (y : ℕ). sel (flipsSymbol0 y) 1) (at (q + 18) p (omega arith) (omega arith))))
   where
     taken : List Taken
     taken = takenBy memory rs

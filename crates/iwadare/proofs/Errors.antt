@@ -31,7 +31,7 @@ use Rattle.link.proofs.Step.{joined-half, joined-odd, both-half, both-odd, code
 use Rattle.iwadare.specs.declared.decode.DecodeAnswer.{DecodeAnswer}
 use Rattle.iwadare.specs.declared.decode.DecodeAnswer.the-variants.{Delivery}
 use Rattle.iwadare.specs.Memory.{generators, coderPending, fillOf, pendingOf, termsOf, fillNext}
-use Rattle.iwadare.specs.Decoder.{decoderJoining, rawOf, registerOf, flipsOne, flipsZero, termsNext, decoderNext}
+use Rattle.iwadare.specs.Decoder.{decoderJoining, rawOf, registerOf, flipsSymbol1, flipsSymbol0, termsNext, decoderNext}
 use Rattle.iwadare.specs.Decoder.{delivered, delivery}
 use Rattle.iwadare.proofs.Runs.{CoderRun, DecoderRun}
 use Rattle.iwadare.proofs.Words.{CoderStep, delayed, DecoderStep, decoder-step}
@@ -117,9 +117,9 @@ module _ {M S : ℕ → List ℕ} {B C R : ℕ → ℕ} {A : ℕ → DecodeAnswe
     delivered-same : Agree p → delivered (errorMemory p) (errors p) ≡ delivered (S p) (R p) ⊕ late p
     unfolding delivered
     delivered-same g =
-        ap₂ (λ (d x : ℕ). d ⊕ sel (flipsZero x) 1) (g .delays 0 (omega arith)) (register-same g)
-        ∙ xor-right (delayed (S p) 0) (late (p + 0)) (sel (flipsZero (registerOf (S p) (R p))) 1)
-        ∙ ap (λ (q : ℕ). delayed (S p) 0 ⊕ sel (flipsZero (registerOf (S p) (R p))) 1 ⊕ late q) (add-zero p)
+        ap₂ (λ (d x : ℕ). d ⊕ sel (flipsSymbol0 x) 1) (g .delays 0 (omega arith)) (register-same g)
+        ∙ xor-right (delayed (S p) 0) (late (p + 0)) (sel (flipsSymbol0 (registerOf (S p) (R p))) 1)
+        ∙ ap (λ (q : ℕ). delayed (S p) 0 ⊕ sel (flipsSymbol0 (registerOf (S p) (R p))) 1 ⊕ late q) (add-zero p)
 
     agree-on : Agree p → Agree (suc p)
     unfolding errorMemory
@@ -139,7 +139,7 @@ module _ {M S : ℕ → List ℕ} {B C R : ℕ → ℕ} {A : ℕ → DecodeAnswe
         a = decoder-step (errorMemory p) (errors p) (g .size)
 
         flip : ℕ
-        flip = sel (flipsOne (registerOf (S p) (R p))) 2
+        flip = sel (flipsSymbol1 (registerOf (S p) (R p))) 2
 
         late-on : (i : ℕ) → i < 18 → Dec (i ≡ 17) → Dec (i ≡ 2)
             → delayed (decoderNext (errorMemory p) (errors p)) i ≡ delayed (S (suc p)) i ⊕ late (suc p + i)
@@ -151,7 +151,7 @@ module _ {M S : ℕ → List ℕ} {B C R : ℕ → ℕ} {A : ℕ → DecodeAnswe
             ∙ sym (late-is (suc p + i) p (omega arith)))
         late-on i k (no e) (yes d) =
             ap (delayed (decoderNext (errorMemory p) (errors p))) d ∙ a .flipped
-            ∙ ap₂ (λ (y x : ℕ). y ⊕ sel (flipsOne x) 2) (g .delays 3 (omega arith)) (register-same g)
+            ∙ ap₂ (λ (y x : ℕ). y ⊕ sel (flipsSymbol1 x) 2) (g .delays 3 (omega arith)) (register-same g)
             ∙ xor-right (delayed (S p) 3) (late (p + 3)) flip
             ∙ ap₂ _⊕_ (sym (ap (delayed (S (suc p))) d ∙ takes .flipped))
             (ap late (let q : p + 3 ≡ suc p + i = omega arith in q))

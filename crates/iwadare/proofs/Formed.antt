@@ -21,9 +21,9 @@ use Rattle.iwadare.specs.Memory.{generators, coderWords, coderPending, p
 use Rattle.iwadare.specs.Memory.{pendingOf, termsOf, termsBound, wordBack, delayedBound, receivedBound, fillNext}
 use Rattle.iwadare.specs.Refusals.{coderMalformed, decoderMalformed, coderFault, decoderFault}
 use Rattle.iwadare.specs.Coder.{coderNext, codeMemory}
-use Rattle.iwadare.specs.Decoder.{registerOf, flipsOne, decoderNext, decodeMemory}
+use Rattle.iwadare.specs.Decoder.{registerOf, flipsSymbol1, decoderNext, decodeMemory}
 use Rattle.iwadare.specs.Runs.{handed, noneSent, noneTaken, Sent, Taken}
-use Rattle.iwadare.specs.Formed.{CoderFormed, DecoderFormed, IWADARE-FORMED, IWADARE-FORMED-STEPS}
+use Rattle.iwadare.specs.Formed.{CoderFormed, DecoderFormed, IWADARE-FORMED-EXACTLY, IWADARE-FORMED-STEPS}
 use Rattle.iwadare.specs.Formed.{IWADARE-STARTED-FORMED, IWADARE-FORMED-THROUGHOUT}
 use Rattle.iwadare.proofs.Refusals.{step-settled}
 use Rattle.iwadare.proofs.Coder.{coder-taken}
@@ -53,7 +53,7 @@ decoder-fine s f =
 coder-fine : (s : List ℕ) → CoderFormed s → coderMalformed s ≡ false
 coder-fine s f = lt-leb pendingBound (coderPending s) (f .pending)
 
-pub formed-exactly : IWADARE-FORMED
+pub formed-exactly : IWADARE-FORMED-EXACTLY
 formed-exactly s = (
   (
     λ f. (f .size, coder-fine s f),
@@ -126,8 +126,8 @@ decoder-kept s r e = record {
         subst (λ (x : ℕ). x < 4) (sym (ap (delayed (decoderNext s r)) d ∙ k .youngest)) (let z : r % 4 < 4 = omega arith in z)
     low i h (no d) (yes c) =
         subst (λ (x : ℕ). x < 4) (sym (ap (delayed (decoderNext s r)) c ∙ k .flipped))
-        (xor-lt 2 (delayed s 3) (sel (flipsOne (registerOf s r)) 2) (f .delayed 3 (omega arith))
-        (sel-lt 2 (flipsOne (registerOf s r)) 2 (omega arith)))
+        (xor-lt 2 (delayed s 3) (sel (flipsSymbol1 (registerOf s r)) 2) (f .delayed 3 (omega arith))
+        (sel-lt 2 (flipsSymbol1 (registerOf s r)) 2 (omega arith)))
     low i h (no d) (no c) =
         subst (λ (x : ℕ). x < 4) (sym (k .moved i (omega arith) c)) (f .delayed (suc i) (omega arith))
 

@@ -1,12 +1,13 @@
--- A decoder on errors alone, of which the first 30 blocks are right: 18 of them leave its pending word 0, 12 more its
+-- A decoder on errors alone, of which the first `many` blocks are right: 18 of them leave its pending word 0, 12 more its
 -- terms, and no flip comes any more that could have reached a block of these. Assumes nothing.
 --
---   guarded       after them the memory is quiet
+--   guard-delivers   past 21 of them each delivers zero
+--   guarded          after 30 of them the memory is quiet
 use mathlib.Core.Path.{_≡_, refl, sym, ap, ap₂, _∙_, subst}
 use mathlib.Core.Bool.{Bool, false, xor}
 use mathlib.Core.Logic.{_≢_, _⊎_, inl, inr}
 use mathlib.Core.List.{List, [], _∷_}
-use Prim.Native.Nat.{ℕ, zero, suc, _+_, _*_, _/_, _%_, _^_, _≤_, _<_}
+use Prim.Native.Nat.{ℕ, zero, suc, _+_, _-_, _*_, _/_, _%_, _^_, _≤_, _<_}
 use native.Mathlib.Nat.{add-zero}
 use native.Mathlib.Decide.{ℕ-discrete}
 use native.Mathlib.Omega.{arith}
@@ -20,11 +21,12 @@ use Rattle.tables.proofs.Fit.{zeros-at}
 use Rattle.link.specs.Memory.{joining}
 use Rattle.link.specs.Step.{register}
 use Rattle.iwadare.specs.Memory.{generators, fillOf, pendingOf, termsOf, fillNext}
-use Rattle.iwadare.specs.Decoder.{decoderJoining, rawOf, registerOf, flipsOne, termsNext, decoderNext}
+use Rattle.iwadare.specs.Decoder.{decoderJoining, rawOf, registerOf, flipsSymbol1, flipsSymbol0, termsNext, decoderNext}
+use Rattle.iwadare.specs.Decoder.{delivered}
 use Rattle.iwadare.proofs.Decoder.{register-lt}
-use Rattle.iwadare.proofs.Words.{delayed, DecoderStep, decoder-step, no-flip-one, terms-quiet, terms-lt}
+use Rattle.iwadare.proofs.Words.{delayed, DecoderStep, decoder-step, no-flip-symbol1, no-flip-symbol0}
+use Rattle.iwadare.proofs.Words.{terms-quiet, terms-lt}
 use Rattle.iwadare.proofs.Patterns.{quiet}
-use Rattle.iwadare.proofs.Settled.{ErrorRun}
 
 -- the delayed blocks from number j on are zero
 abbrev Tail : ℕ → List ℕ → Type 0
@@ -55,10 +57,10 @@ module _ (s : List ℕ) (size : length s ≡ 21) where
       step .terms-on ∙ ap termsNext (register-none z) ∙ terms-quiet (termsOf s) h
 
   -- a flip reaches number 3 only
-  tail-on : (j : ℕ) → 3 ≤ j ⊎ (flipsOne (registerOf s 0) ≡ false) → Tail (suc j) s → Tail j (decoderNext s 0)
+  tail-on : (j : ℕ) → 3 ≤ j ⊎ (flipsSymbol1 (registerOf s 0) ≡ false) → Tail (suc j) s → Tail j (decoderNext s 0)
   tail-on j c t i from to = go (ℕ-discrete i 17) (ℕ-discrete i 2) c
     where
-      go : Dec (i ≡ 17) → Dec (i ≡ 2) → 3 ≤ j ⊎ (flipsOne (registerOf s 0) ≡ false) → delayed (decoderNext s 0) i ≡ 0
+      go : Dec (i ≡ 17) → Dec (i ≡ 2) → 3 ≤ j ⊎ (flipsSymbol1 (registerOf s 0) ≡ false) → delayed (decoderNext s 0) i ≡ 0
       go (yes e) d c = ap (delayed (decoderNext s 0)) e ∙ step .youngest
       go (no e) (no d) c = step .moved i (omega arith) d ∙ t (suc i) (omega arith) (omega arith)
       go (no e) (yes d) (inl l) = absurd (omega arith)
@@ -66,58 +68,59 @@ module _ (s : List ℕ) (size : length s ≡ 21) where
           ap (delayed (decoderNext s 0)) d ∙ step .flipped
           ∙ ap₂ (λ (x : ℕ) (b : Bool). x ⊕ sel b 2) (t 3 (omega arith) (omega arith)) f ∙ xor-zero-r 0
 
--- ---- 30 of them
+-- ---- many of them
 
-module _ {E : ℕ → List ℕ} {e : ℕ → ℕ} (r : ErrorRun E e) (right : (p : ℕ) → p < 30 → e p ≡ 0)
+module _ (E : ℕ → List ℕ) (e : ℕ → ℕ) (next : (p : ℕ) → E (suc p) ≡ decoderNext (E p) (e p)) (many : ℕ)
+    (right : (p : ℕ) → p < many → e p ≡ 0)
     (size : length (E 0) ≡ 21) (fill : fillOf (E 0) ≡ 18) (pending : pendingOf (E 0) < 2 ^ 18)
     (terms : termsOf (E 0) < 2 ^ 12) where
-  on : (p : ℕ) → p < 30 → E (suc p) ≡ decoderNext (E p) 0
-  on p h = r .next p ∙ ap (decoderNext (E p)) (right p h)
+  on : (p : ℕ) → p < many → E (suc p) ≡ decoderNext (E p) 0
+  on p h = next p ∙ ap (decoderNext (E p)) (right p h)
 
-  sizes : (p : ℕ) → p ≤ 30 → length (E p) ≡ 21
+  sizes : (p : ℕ) → p ≤ many → length (E p) ≡ 21
   sizes zero h = size
   sizes (suc p) h = ap length (on p (omega arith)) ∙ decoder-step (E p) 0 (sizes p (omega arith)) .size
 
-  fills : (p : ℕ) → p ≤ 30 → fillOf (E p) ≡ 18
+  fills : (p : ℕ) → p ≤ many → fillOf (E p) ≡ 18
   fills zero h = fill
   fills (suc p) h =
       ap fillOf (on p (omega arith)) ∙ decoder-step (E p) 0 (sizes p (omega arith)) .fill-on
       ∙ ap fillNext (fills p (omega arith))
 
-  pending-falls : (p k : ℕ) → p + k ≡ 18 → pendingOf (E p) < 2 ^ k
-  pending-falls zero k h = subst (λ (j : ℕ). pendingOf (E 0) < 2 ^ j) (let q : 18 ≡ k = omega arith in q) pending
-  pending-falls (suc p) k h =
-      let z = pending-falls p (suc k) (omega arith) in
+  pending-falls : (p k : ℕ) → p ≤ many → p + k ≡ 18 → pendingOf (E p) < 2 ^ k
+  pending-falls zero k l h = subst (λ (j : ℕ). pendingOf (E 0) < 2 ^ j) (let q : 18 ≡ k = omega arith in q) pending
+  pending-falls (suc p) k l h =
+      let z = pending-falls p (suc k) (omega arith) (omega arith) in
       let half = ap pendingOf (on p (omega arith)) ∙ pending-half (E p) (sizes p (omega arith)) in
       omega arith
 
-  pending-none : (d : ℕ) → d ≤ 12 → pendingOf (E (18 + d)) ≡ 0
-  pending-none zero h = let z = pending-falls 18 0 (omega arith) in omega arith
+  pending-none : (d : ℕ) → 18 + d ≤ many → pendingOf (E (18 + d)) ≡ 0
+  pending-none zero h = let z = pending-falls 18 0 (omega arith) (omega arith) in omega arith
   pending-none (suc d) h =
       let z = pending-none d (omega arith) in
       let half = ap pendingOf (ap E (let q : 18 + suc d ≡ suc (18 + d) = omega arith in q) ∙ on (18 + d) (omega arith))
       ∙ pending-half (E (18 + d)) (sizes (18 + d) (omega arith)) in
       omega arith
 
-  terms-low : (p : ℕ) → p ≤ 30 → termsOf (E p) < 2 ^ 12
+  terms-low : (p : ℕ) → p ≤ many → termsOf (E p) < 2 ^ 12
   terms-low zero h = terms
   terms-low (suc p) h =
       subst (λ (x : ℕ). x < 2 ^ 12)
       (sym (ap termsOf (on p (omega arith)) ∙ decoder-step (E p) 0 (sizes p (omega arith)) .terms-on))
       (terms-lt (registerOf (E p) 0) (register-lt (E p) 0 (terms-low p (omega arith))))
 
-  terms-fall : (d k : ℕ) → d + k ≡ 12 → termsOf (E (18 + d)) < 2 ^ k
-  terms-fall zero k h =
+  terms-fall : (d k : ℕ) → 18 + d ≤ many → d + k ≡ 12 → termsOf (E (18 + d)) < 2 ^ k
+  terms-fall zero k l h =
       subst (λ (j : ℕ). termsOf (E 18) < 2 ^ j) (let q : 12 ≡ k = omega arith in q) (terms-low 18 (omega arith))
-  terms-fall (suc d) k h =
-      let z = terms-fall d (suc k) (omega arith) in
+  terms-fall (suc d) k l h =
+      let z = terms-fall d (suc k) (omega arith) (omega arith) in
       let half = ap termsOf (ap E (let q : 18 + suc d ≡ suc (18 + d) = omega arith in q) ∙ on (18 + d) (omega arith))
       ∙ terms-half (E (18 + d)) (sizes (18 + d) (omega arith)) (pending-none d (omega arith))
       (terms-low (18 + d) (omega arith)) in
       omega arith
 
   -- flips or not: the youngest blocks are right ones, as far as no flip reaches
-  tail-young : (p j : ℕ) → p ≤ 30 → 3 ≤ j → 18 ≤ p + j → Tail j (E p)
+  tail-young : (p j : ℕ) → p ≤ many → 3 ≤ j → 18 ≤ p + j → Tail j (E p)
   tail-young zero j h low many = λ i from to. absurd (omega arith)
   tail-young (suc p) j h low many =
       subst (Tail j) (sym (on p (omega arith)))
@@ -125,24 +128,36 @@ module _ {E : ℕ → List ℕ} {e : ℕ → ℕ} (r : ErrorRun E e) (right : (p
       (tail-young p (suc j) (omega arith) (omega arith) (omega arith)))
 
   -- and once no flip comes, all are
-  tail-all : (d j : ℕ) → d ≤ 12 → 3 ≤ d + j → Tail j (E (18 + d))
+  tail-all : (d j : ℕ) → 18 + d ≤ many → 3 ≤ d + j → Tail j (E (18 + d))
   tail-all zero j h many = tail-young 18 j (omega arith) (omega arith) (omega arith)
   tail-all (suc d) j h many =
       subst (Tail j) (sym (ap E (let q : 18 + suc d ≡ suc (18 + d) = omega arith in q) ∙ on (18 + d) (omega arith)))
       (tail-on (E (18 + d)) (sizes (18 + d) (omega arith)) j
-      (inr (ap flipsOne (register-none (E (18 + d)) (sizes (18 + d) (omega arith)) (pending-none d (omega arith)))
-      ∙ no-flip-one (termsOf (E (18 + d))) (terms-low (18 + d) (omega arith))))
+      (inr (ap flipsSymbol1 (register-none (E (18 + d)) (sizes (18 + d) (omega arith)) (pending-none d (omega arith)))
+      ∙ no-flip-symbol1 (termsOf (E (18 + d))) (terms-low (18 + d) (omega arith))))
       (tail-all d (suc j) (omega arith) (omega arith)))
 
-  pub guarded : E 30 ≡ quiet
-  guarded = ext-getD 0 (E 30) quiet (sizes 30 (omega arith)) at
+  -- the delayed blocks and the newest term are zero
+  pub guard-delivers : (p : ℕ) → 21 ≤ p → p < many → delivered (E p) (e p) ≡ 0
+  unfolding delivered
+  guard-delivers p from to =
+      let d = p - 18 in
+      let is : p ≡ 18 + d = omega arith in
+      ap₂ (λ (q x : ℕ). delayed (E q) 0 ⊕ sel (flipsSymbol0 (registerOf (E q) x)) 1) is (right p to)
+      ∙ ap₂ (λ (x : ℕ) (b : Bool). x ⊕ sel b 1) (tail-all d 0 (omega arith) (omega arith) 0 (omega arith) (omega arith))
+      (ap flipsSymbol0 (register-none (E (18 + d)) (sizes (18 + d) (omega arith)) (pending-none d (omega arith)))
+      ∙ no-flip-symbol0 (termsOf (E (18 + d))) (terms-low (18 + d) (omega arith)))
+      ∙ xor-zero-r 0
+
+  pub guarded : 30 ≤ many → E 30 ≡ quiet
+  guarded enough = ext-getD 0 (E 30) quiet (sizes 30 enough) at
     where
       at : (i : ℕ) → i < length (E 30) → getD (E 30) i 0 ≡ getD quiet i 0
-      at zero h = fills 30 (omega arith)
-      at (suc zero) h = pending-none 12 (omega arith)
-      at (suc (suc zero)) h = let z = terms-fall 12 0 (omega arith) in omega arith
+      at zero h = fills 30 enough
+      at (suc zero) h = pending-none 12 enough
+      at (suc (suc zero)) h = let z = terms-fall 12 0 enough (omega arith) in omega arith
       at (suc (suc (suc i))) h =
-          let n = sizes 30 (omega arith) in
+          let n = sizes 30 enough in
           ap (λ (j : ℕ). getD (E 30) j 0) (let q : suc (suc (suc i)) ≡ 3 + i = omega arith in q)
-          ∙ tail-all 12 0 (omega arith) (omega arith) i (omega arith) (omega arith)
+          ∙ tail-all 12 0 enough (omega arith) i (omega arith) (omega arith)
           ∙ sym (zeros-at 18 i)

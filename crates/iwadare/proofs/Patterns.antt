@@ -25,7 +25,7 @@ use Rattle.span.specs.Combination.{combination}
 use Rattle.tables.proofs.Fit.{and-left, and-right}
 use Rattle.tables.proofs.Every.{every, every-at}
 use Rattle.link.specs.Memory.{joining}
-use Rattle.iwadare.specs.Decoder.{decoderJoining, rawOf, registerOf, flipsOne, flipsZero, matched, termsNext}
+use Rattle.iwadare.specs.Decoder.{decoderJoining, rawOf, registerOf, flipsSymbol1, flipsSymbol0, matched, termsNext}
 use Rattle.iwadare.specs.Decoder.{decoderNext, delivered}
 
 abbrev pub quiet : List ℕ
@@ -59,7 +59,7 @@ tested e =
     && patterns (decoderNext quiet e) (8 ∷ 8 ∷ roomOf e ∷ [])
 
 computed : every (λ i. tested (suc i)) 7 ≡ true
-unfolding every tested roomOf patterns settles alike delivered decoderNext termsNext matched flipsZero flipsOne
+unfolding every tested roomOf patterns settles alike delivered decoderNext termsNext matched flipsSymbol0 flipsSymbol1
     registerOf rawOf decoderJoining joining combination bit odd xor _⊕_
 computed = refl
 
@@ -78,12 +78,12 @@ unfolding roomOf
 room-last e p q = rw (p, q)
 
 pub quiet-next : decoderNext quiet 0 ≡ quiet
-unfolding decoderNext termsNext matched flipsZero flipsOne registerOf rawOf decoderJoining joining combination bit odd
+unfolding decoderNext termsNext matched flipsSymbol0 flipsSymbol1 registerOf rawOf decoderJoining joining combination bit odd
     xor _⊕_
 quiet-next = refl
 
 pub quiet-delivers : delivered quiet 0 ≡ 0
-unfolding delivered flipsZero registerOf rawOf decoderJoining joining combination bit odd xor _⊕_
+unfolding delivered flipsSymbol0 registerOf rawOf decoderJoining joining combination bit odd xor _⊕_
 quiet-delivers = refl
 
 alike-so : (xs ys : List ℕ) → alike xs ys ≡ true → xs ≡ ys

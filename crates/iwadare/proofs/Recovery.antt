@@ -1,7 +1,7 @@
--- Recovery of these stations: 30 right blocks settle the decoder on errors alone, whatever the memories were. Assumes
--- nothing.
+-- Recovery of these stations: 30 right blocks settle the decoder on errors alone, whatever the memories were, and past
+-- 21 each delivers zero. Assumes nothing.
 use mathlib.Core.Path.{_≡_, ap, _∙_}
-use Prim.Native.Nat.{ℕ, suc, _+_, _*_, _≤_, _<_}
+use Prim.Native.Nat.{ℕ, zero, suc, _+_, _*_, _≤_, _<_}
 use mathlib.Core.List.{List}
 use native.Mathlib.Decide.{decLt}
 use native.Mathlib.Omega.{arith}
@@ -12,10 +12,10 @@ use Rattle.link.proofs.Bursts.{bursts-separated}
 use Rattle.iwadare.specs.Runs.{Sent, Taken, sentBy, takenBy}
 use Rattle.iwadare.specs.Taps.{blockSent}
 use Rattle.iwadare.specs.Correction.{WrongBit}
-use Rattle.iwadare.specs.Recovery.{guard, RightFirst, IWADARE-RECOVERY}
-use Rattle.iwadare.proofs.Errors.{errors, errors-in, errors-past, first-formed}
-use Rattle.iwadare.proofs.Guard.{guarded}
-use Rattle.iwadare.proofs.Correction.{linked, error-run, right-from}
+use Rattle.iwadare.specs.Recovery.{RightFirst, IWADARE-RECOVERY, IWADARE-GUARD-END}
+use Rattle.iwadare.proofs.Errors.{errors, errorMemory, error-next, errors-in, errors-past, first-formed}
+use Rattle.iwadare.proofs.Guard.{guard-delivers, guarded}
+use Rattle.iwadare.proofs.Correction.{linked, right-at, right-from}
 
 module _ (coder decoder bs rs : List ℕ) where
   abbrev sent : List Sent
@@ -25,8 +25,8 @@ module _ (coder decoder bs rs : List ℕ) where
   taken = takenBy decoder rs
 
   -- right blocks are error blocks of zero
-  module _ (enough : length taken ≤ length sent) (right : RightFirst guard sent taken) where
-    still : (p : ℕ) → p < 30 → errors (linked coder decoder bs rs enough) p ≡ 0
+  module _ (enough : length taken ≤ length sent) (many : ℕ) (right : RightFirst many sent taken) where
+    still : (p : ℕ) → p < many → errors (linked coder decoder bs rs enough) p ≡ 0
     still p h = go (decLt p (length taken))
       where
         go : Dec (p < length taken) → errors (linked coder decoder bs rs enough) p ≡ 0
@@ -40,7 +40,18 @@ pub recovery : IWADARE-RECOVERY
 recovery coder decoder bs rs enough right bursts p after inside =
     let apart = bursts-separated (WrongBit (sentBy coder bs) (takenBy decoder rs)) 10 56
     (3 * length (takenBy decoder rs)) bursts in
-    let f = first-formed (linked coder decoder bs rs enough) (omega arith) in
+    let l = linked coder decoder bs rs enough in
+    let f = first-formed l (omega arith) in
     right-from coder decoder bs rs enough apart 30
-    (guarded (error-run coder decoder bs rs enough apart) (still coder decoder bs rs enough right)
-    (f .size) (f .fill) (f .pending) (f .terms)) p after (omega arith) inside
+    (guarded (errorMemory l) (errors l) (error-next l) 30 (still coder decoder bs rs enough 30 right) (f .size) (f .fill) (f .pending) (f .terms)
+    (omega arith))
+    p after (omega arith) inside
+
+pub guard-end : IWADARE-GUARD-END
+guard-end coder decoder bs rs enough zero after inside right = absurd (omega arith)
+guard-end coder decoder bs rs enough (suc p) after inside right =
+    let l = linked coder decoder bs rs enough in
+    let f = first-formed l (omega arith) in
+    right-at coder decoder bs rs enough p (omega arith) (omega arith)
+    (guard-delivers (errorMemory l) (errors l) (error-next l) (suc p) (still coder decoder bs rs enough (suc p) right) (f .size) (f .fill)
+    (f .pending) (f .terms) p (omega arith) (omega arith))

@@ -4,17 +4,18 @@
 --   CoderRun, DecoderRun      the steps of a run, each on its memory
 --   coded, decoded            the runs of coder and decoder are such
 --   told-place                anything told of the decoder's steps
+--   refused-skipped           a run with a refused step in it
 use mathlib.Core.Path.{_≡_, refl, sym, ap, _∙_, subst}
 use mathlib.Core.Bool.{Bool, true, false, cond}
-use mathlib.Core.List.{List, [], _∷_}
+use mathlib.Core.List.{List, [], _∷_, _++_, map-append}
 use Prim.Native.Nat.{ℕ, suc, _-_, _<_}
 use native.Mathlib.Omega.{arith}
 use lib.Dec.{ltb, eqb}
 use lib.ListN.{length, getD}
 use Rattle.link.specs.declared.code.CodeAnswer.the-variants.{Coded, Refused as CodeRefused}
 use Rattle.link.specs.Refusals.{answered, leaves}
-use Rattle.link.specs.Runs.{CallOf, run, placed}
-use Rattle.link.proofs.Runs.{before, before-first, Told, Place, run-place}
+use Rattle.link.specs.Runs.{CallOf, run, ran, placed}
+use Rattle.link.proofs.Runs.{before, before-first, Told, Place, run-place, skipped}
 use Rattle.iwadare.specs.declared.decode.DecodeAnswer.{DecodeAnswer}
 use Rattle.iwadare.specs.declared.decode.DecodeAnswer.the-variants.{Delivery, NothingYet, Refused}
 use Rattle.iwadare.specs.Memory.{delay, fillOf}
@@ -22,7 +23,7 @@ use Rattle.iwadare.specs.Refusals.{coderFault, decoderFault}
 use Rattle.iwadare.specs.Coder.{codedBlock, coderNext, codeAnswer, codeMemory}
 use Rattle.iwadare.specs.Decoder.{delivered, delivery, decoderNext, decodeAnswer, decodeMemory}
 use Rattle.iwadare.specs.Runs.{Sent, Taken, sentOf, takenOf, handed, sentBy, takenBy, noneSent, noneTaken}
-use Rattle.iwadare.specs.Runs.{sentAt, takenAt}
+use Rattle.iwadare.specs.Runs.{sentAt, takenAt, IWADARE-REFUSED-SKIPPED}
 use Rattle.iwadare.proofs.Decoder.{DecoderTaken, decoder-taken}
 use Rattle.iwadare.proofs.Words.{CoderStep, coder-step, DecoderStep, decoder-step}
 use Rattle.iwadare.specs.Taps.{infoSent, blockSent, blockTaken}
@@ -173,3 +174,28 @@ module _ (s rs : List ℕ) where
   told-place entry d p h =
       taken-place p h .is (placed (λ n. decoderFault) (λ n. entry)) (λ n. entry) (λ n s r. refl) d
       ∙ sym (ap (entry (S p)) (block-is p h))
+
+-- ---- refused steps
+
+handed-append : (xs ys : List ℕ) → handed (xs ++ ys) ≡ handed xs ++ handed ys
+handed-append xs ys = map-append (λ (b : ℕ). record { table = tt; block = b }) xs ys
+
+pub refused-skipped : IWADARE-REFUSED-SKIPPED
+refused-skipped s bs b bs′ = (
+  λ refused.
+      let k = skipped (λ (n : None). coderFault) (λ n. coderNext) (λ n. codeMemory) coder-memory sentKept sentEntry
+      sent-told s (handed bs) (record { table = tt; block = b }) (handed bs′) refused in (
+        ap (run (λ n. codeMemory) sentKept s) (handed-append bs (b ∷ bs′)) ∙ k .0
+            ∙ sym (ap (run (λ n. codeMemory) sentKept s) (handed-append bs bs′)),
+        ap (ran (λ n. codeMemory) s) (handed-append bs (b ∷ bs′)) ∙ k .1
+            ∙ sym (ap (ran (λ n. codeMemory) s) (handed-append bs bs′)),
+      ),
+  λ refused.
+      let k = skipped (λ (n : None). decoderFault) (λ n. decoderNext) (λ n. decodeMemory) decoder-memory takenKept
+      takenEntry taken-told s (handed bs) (record { table = tt; block = b }) (handed bs′) refused in (
+        ap (run (λ n. decodeMemory) takenKept s) (handed-append bs (b ∷ bs′)) ∙ k .0
+            ∙ sym (ap (run (λ n. decodeMemory) takenKept s) (handed-append bs bs′)),
+        ap (ran (λ n. decodeMemory) s) (handed-append bs (b ∷ bs′)) ∙ k .1
+            ∙ sym (ap (ran (λ n. decodeMemory) s) (handed-append bs bs′)),
+      ),
+)

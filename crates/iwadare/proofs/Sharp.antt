@@ -17,7 +17,7 @@ use Rattle.iwadare.specs.declared.decode.DecodeAnswer.the-variants.{Deli
 use Rattle.iwadare.specs.Memory.{coderWords, decoderWords}
 use Rattle.iwadare.specs.Refusals.{stepFault, coderFault, decoderFault}
 use Rattle.iwadare.specs.Coder.{coderJoining, codedBlock, coderNext, codeAnswer, codeMemory}
-use Rattle.iwadare.specs.Decoder.{decoderJoining, rawOf, registerOf, flipsOne, flipsZero, matched, termsNext}
+use Rattle.iwadare.specs.Decoder.{decoderJoining, rawOf, registerOf, flipsSymbol1, flipsSymbol0, matched, termsNext}
 use Rattle.iwadare.specs.Decoder.{decoderNext, delivered, delivery, decodeAnswer, decodeMemory}
 use Rattle.iwadare.specs.Runs.{Sent, Taken, sentBy, takenBy, sentAt, takenAt, bitSent, bitTaken}
 use Rattle.iwadare.specs.Correction.{WrongBit, BitBursts, Corrected}
@@ -29,10 +29,10 @@ abbrev zerosSent : ℕ → List Sent
 zerosSent count = sentBy (started coderWords) (replicate count 0)
 
 abbrev longBurst : List ℕ
-longBurst = 4 ∷ 7 ∷ 7 ∷ 7 ∷ 1 ∷ replicate 18 0
+longBurst = replicate 30 0 ++ (4 ∷ 7 ∷ 7 ∷ 7 ∷ 1 ∷ replicate 18 0)
 
 abbrev closeBits : List ℕ
-closeBits = 1 ∷ (replicate 17 0 ++ (4 ∷ []))
+closeBits = replicate 30 0 ++ (1 ∷ (replicate 17 0 ++ (4 ∷ [])))
 
 abbrev earlyBit : List ℕ
 earlyBit = replicate 29 0 ++ (4 ∷ replicate 3 0)
@@ -62,22 +62,26 @@ record Shown (taken : List Taken) (count : ℕ) (chosen : List Stretch) (answer 
   answers : takenAt taken count .answer ≡ Delivery answer
   info : sentAt (zerosSent count) (count - 18) .info ≡ 0
 
-computed : (Shown longTaken 23 (at 3 13 ∷ []) 1 × Ends (zerosSent 23) longTaken (at 3 13))
-    × (Shown closeTaken 19 (at 1 1 ∷ at 57 57 ∷ []) 1 × Ends (zerosSent 19) closeTaken (at 1 1) × Ends (zerosSent 19) closeTaken (at 57 57))
+computed : (Shown longTaken 53 (at 93 103 ∷ []) 1 × Ends (zerosSent 53) longTaken (at 93 103)
+    × (starts-right (zerosSent 53) longTaken 30 ≡ true))
+    × (Shown closeTaken 49 (at 91 91 ∷ at 147 147 ∷ []) 1 × Ends (zerosSent 49) closeTaken (at 91 91)
+    × Ends (zerosSent 49) closeTaken (at 147 147) × (starts-right (zerosSent 49) closeTaken 30 ≡ true))
     × (Shown earlyTaken 33 (at 90 90 ∷ []) 2 × Ends (zerosSent 33) earlyTaken (at 90 90)
     × (starts-right (zerosSent 33) earlyTaken 29 ≡ true))
 unfolding run codeAnswer codeMemory decodeAnswer decodeMemory answered leaves stepFault coderFault decoderFault
-    someAbove firstOf coderJoining codedBlock coderNext decoderJoining rawOf registerOf flipsOne flipsZero matched
+    someAbove firstOf coderJoining codedBlock coderNext decoderJoining rawOf registerOf flipsSymbol1 flipsSymbol0 matched
     termsNext decoderNext delivered delivery joining combination every covers starts-right agrees lies bit odd xor _⊕_
 computed = (
   (
     record { takes = refl; sends = refl; covering = refl; answers = refl; info = refl },
     record { first = refl; last = refl },
+    refl,
   ),
   (
     record { takes = refl; sends = refl; covering = refl; answers = refl; info = refl },
     record { first = refl; last = refl },
     record { first = refl; last = refl },
+    refl,
   ),
   (
     record { takes = refl; sends = refl; covering = refl; answers = refl; info = refl },
@@ -108,40 +112,61 @@ abbrev burst : (taken : List Taken) (count long : ℕ) (b : Stretch) → Ends (z
     → Burst (WrongBit (zerosSent count) taken) long (3 * length taken) b
 burst taken count long b = burst-so (zerosSent count) taken long (3 * length taken) b
 
-pub length-sharp : IWADARE-LENGTH-SHARP
-length-sharp gap right =
-    let s = computed .0 .0 in
-    let n = s .takes in
-    goes-wrong s (omega arith)
-    (right (replicate 23 0) longBurst (enough s)
-    (bursts-so (zerosSent 23) longTaken 11 gap (at 3 13 ∷ []) (s .covering)
-    (burst longTaken 23 11 (at 3 13) (computed .0 .1) (omega arith) (omega arith) (omega arith) (omega arith), tt, tt))
-    23 (omega arith) (inside s))
+-- the runs as premises
 
-pub gap-sharp : IWADARE-GAP-SHARP
-gap-sharp right =
-    let s = computed .1 .0 in
-    let n = s .takes in
-    goes-wrong s (omega arith)
-    (right (replicate 19 0) closeBits (enough s)
-    (bursts-so (zerosSent 19) closeTaken 1 55 (at 1 1 ∷ at 57 57 ∷ []) (s .covering) (
-      burst closeTaken 19 1 (at 1 1) (computed .1 .1) (omega arith) (omega arith) (omega arith) (omega arith),
-      (omega arith),
+long-bursts : (gap : ℕ) → BitBursts 11 gap (zerosSent 53) longTaken
+long-bursts gap =
+    let n = computed .0 .0 .takes in
+    bursts-so (zerosSent 53) longTaken 11 gap (at 93 103 ∷ []) (computed .0 .0 .covering)
+    (burst longTaken 53 11 (at 93 103) (computed .0 .1) (omega arith) (omega arith) (omega arith) (omega arith), tt, tt)
+
+close-bursts : (long : ℕ) → 1 ≤ long → BitBursts long 55 (zerosSent 49) closeTaken
+close-bursts long some =
+    let n = computed .1 .0 .takes in
+    bursts-so (zerosSent 49) closeTaken long 55 (at 91 91 ∷ at 147 147 ∷ []) (computed .1 .0 .covering) (
+      burst closeTaken 49 long (at 91 91) (computed .1 .1) (omega arith) (omega arith) (omega arith) (omega arith),
+      omega arith,
       (
-        burst closeTaken 19 1 (at 57 57) (computed .1 .2) (omega arith) (omega arith) (omega arith) (omega arith),
+        burst closeTaken 49 long (at 147 147) (computed .1 .2) (omega arith) (omega arith) (omega arith) (omega arith),
         tt,
         tt,
       ),
-    ))
-    19 (omega arith) (inside s))
+    )
+
+early-bursts : (long gap : ℕ) → 1 ≤ long → BitBursts long gap (zerosSent 33) earlyTaken
+early-bursts long gap some =
+    let n = computed .2 .0 .takes in
+    bursts-so (zerosSent 33) earlyTaken long gap (at 90 90 ∷ []) (computed .2 .0 .covering)
+    (burst earlyTaken 33 long (at 90 90) (computed .2 .1) (omega arith) (omega arith) (omega arith) (omega arith), tt, tt)
+
+pub length-sharp : IWADARE-LENGTH-SHARP
+length-sharp gap =
+    let s = computed .0 .0 in (
+      λ right.
+          goes-wrong s (omega arith)
+          (right (replicate 53 0) longBurst (enough s) (long-bursts gap) 53 (omega arith) (inside s)),
+      λ right.
+          goes-wrong s (omega arith)
+          (right (started coderWords) (started decoderWords) (replicate 53 0) longBurst (enough s)
+          (right-so (zerosSent 53) longTaken 30 (computed .0 .2)) (long-bursts gap) 53 (omega arith) (inside s)),
+    )
+
+pub gap-sharp : IWADARE-GAP-SHARP
+gap-sharp long some =
+    let s = computed .1 .0 in (
+      λ right.
+          goes-wrong s (omega arith)
+          (right (replicate 49 0) closeBits (enough s) (close-bursts long some) 49 (omega arith) (inside s)),
+      λ right.
+          goes-wrong s (omega arith)
+          (right (started coderWords) (started decoderWords) (replicate 49 0) closeBits (enough s)
+          (right-so (zerosSent 49) closeTaken 30 (computed .1 .3)) (close-bursts long some) 49 (omega arith)
+          (inside s)),
+    )
 
 pub guard-sharp : IWADARE-GUARD-SHARP
-guard-sharp right =
+guard-sharp long gap some right =
     let s = computed .2 .0 in
-    let n = s .takes in
     goes-wrong s (omega arith)
     (right (started coderWords) unlike (replicate 33 0) earlyBit (enough s)
-    (right-so (zerosSent 33) earlyTaken 29 (computed .2 .2))
-    (bursts-so (zerosSent 33) earlyTaken 1 56 (at 90 90 ∷ []) (s .covering)
-    (burst earlyTaken 33 1 (at 90 90) (computed .2 .1) (omega arith) (omega arith) (omega arith) (omega arith), tt, tt))
-    33 (omega arith) (inside s))
+    (right-so (zerosSent 33) earlyTaken 29 (computed .2 .2)) (early-bursts long gap some) 33 (omega arith) (inside s))

@@ -16,7 +16,7 @@ use Rattle.link.specs.Computed.{differing}
 use Rattle.link.specs.Recovery.{Stretch, Burst}
 use Rattle.iwadare.specs.Refusals.{stepFault, coderFault, decoderFault}
 use Rattle.iwadare.specs.Coder.{coderJoining, codedBlock, coderNext, codeAnswer, codeMemory}
-use Rattle.iwadare.specs.Decoder.{decoderJoining, rawOf, registerOf, flipsOne, flipsZero, matched, termsNext}
+use Rattle.iwadare.specs.Decoder.{decoderJoining, rawOf, registerOf, flipsSymbol1, flipsSymbol0, matched, termsNext}
 use Rattle.iwadare.specs.Decoder.{decoderNext, delivered, delivery, decodeAnswer, decodeMemory}
 use Rattle.iwadare.specs.Runs.{Sent, Taken, sentBy, takenBy, bitSent, bitTaken}
 use Rattle.iwadare.specs.Correction.{WrongBit}
@@ -37,8 +37,8 @@ abbrev second : Stretch
 second = record { first = 158; last = 167 }
 
 record Shown : Type 0 where
-  sends : length sent ≡ 58
-  takes : length taken ≡ 58
+  sends : length sent ≡ 76
+  takes : length taken ≡ 76
   guarded : starts-right sent taken 30 ≡ true
   covering : covers sent taken (first ∷ second ∷ []) (3 * length taken) ≡ true
   first-ends : Ends sent taken first
@@ -46,13 +46,13 @@ record Shown : Type 0 where
   wrong : differing 1 (map (λ (x : Taken). x .block) taken) (map (λ (x : Sent). x .block) sent)
       ≡ 31 ∷ 32 ∷ 33 ∷ 34 ∷ 53 ∷ 54 ∷ 55 ∷ 56 ∷ []
   coder-faults : faultsBy coderFault codeMemory coderMemory infos
-      ≡ replicate 20 0 ++ (15 ∷ replicate 20 0) ++ (15 ∷ replicate 18 0)
+      ≡ replicate 20 0 ++ (15 ∷ replicate 20 0) ++ (15 ∷ replicate 36 0)
   decoder-faults : faultsBy decoderFault decodeMemory decoderMemory received
-      ≡ (15 ∷ replicate 32 0) ++ (15 ∷ replicate 24 0) ++ (15 ∷ replicate 2 0)
+      ≡ (15 ∷ replicate 32 0) ++ (15 ∷ replicate 24 0) ++ (15 ∷ replicate 20 0)
 
 computed : Shown
 unfolding run faultsBy differing codeAnswer codeMemory decodeAnswer decodeMemory answered leaves stepFault coderFault
-    decoderFault someAbove firstOf coderJoining codedBlock coderNext decoderJoining rawOf registerOf flipsOne flipsZero
+    decoderFault someAbove firstOf coderJoining codedBlock coderNext decoderJoining rawOf registerOf flipsSymbol1 flipsSymbol0
     matched termsNext decoderNext delivered delivery joining combination every covers starts-right agrees lies bit odd
     xor _⊕_
 computed = record {

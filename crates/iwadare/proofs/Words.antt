@@ -4,7 +4,7 @@
 --   CoderStep, coder-step         what a coder's step does
 --   delayed                       a delayed block
 --   DecoderStep, decoder-step     what a decoder's step does
---   no-flip-one, no-flip-zero, terms-quiet   where the newest term is 0 nothing is flipped
+--   no-flip-symbol1, no-flip-symbol0, terms-quiet   where the newest term is 0 nothing is flipped
 --   terms-lt                      the terms stay below 2^12
 use mathlib.Core.Path.{_≡_, refl, sym, ap, ap₂, _∙_}
 use mathlib.Core.Bool.{Bool, true, false, not, _&&_}
@@ -20,7 +20,7 @@ use Rattle.link.specs.Memory.{joining}
 use Rattle.iwadare.specs.Memory.{generators, coderPending, fillOf, pendingOf, termsOf, fillNext}
 use Rattle.iwadare.specs.Refusals.{coderFault}
 use Rattle.iwadare.specs.Coder.{coderJoining, codedBlock, coderNext}
-use Rattle.iwadare.specs.Decoder.{decoderJoining, registerOf, flipsOne, flipsZero, matched, termsNext, decoderNext}
+use Rattle.iwadare.specs.Decoder.{decoderJoining, registerOf, flipsSymbol1, flipsSymbol0, matched, termsNext, decoderNext}
 use Rattle.iwadare.proofs.Coder.{coder-taken}
 
 -- ---- the coder's step
@@ -56,12 +56,12 @@ pub record DecoderStep (s : List ℕ) (r : ℕ) (after : List ℕ) : Type 0 wher
   pub pending-on : pendingOf after ≡ joining generators (pendingOf s) (r % 2 ^ 2) / 2
   pub terms-on : termsOf after ≡ termsNext (registerOf s r)
   pub moved : (i : ℕ) → i < 17 → i ≢ 2 → delayed after i ≡ delayed s (suc i)
-  pub flipped : delayed after 2 ≡ delayed s 3 ⊕ sel (flipsOne (registerOf s r)) 2
+  pub flipped : delayed after 2 ≡ delayed s 3 ⊕ sel (flipsSymbol1 (registerOf s r)) 2
   pub youngest : delayed after 17 ≡ r % 2 ^ 2
 
 module _ (s : List ℕ) (r : ℕ) (size : length s ≡ 21) where
   abbrev flip : ℕ
-  flip = delayed s 3 ⊕ sel (flipsOne (registerOf s r)) 2
+  flip = delayed s 3 ⊕ sel (flipsSymbol1 (registerOf s r)) 2
 
   abbrev kept : List ℕ
   kept = drop 4 (set s 6 flip)
@@ -105,26 +105,26 @@ module _ (x : ℕ) (h : x < 2 ^ 12) where
   newest : bit 12 x ≡ false
   newest = bit-none 12 x h
 
-  pub no-flip-one : flipsOne x ≡ false
-  unfolding flipsOne
-  no-flip-one = and-none (bit 12 x) (bit 0 x) newest
+  pub no-flip-symbol1 : flipsSymbol1 x ≡ false
+  unfolding flipsSymbol1
+  no-flip-symbol1 = and-none (bit 12 x) (bit 0 x) newest
 
-  pub no-flip-zero : flipsZero x ≡ false
-  unfolding flipsZero
-  no-flip-zero = rw newest
+  pub no-flip-symbol0 : flipsSymbol0 x ≡ false
+  unfolding flipsSymbol0
+  no-flip-symbol0 = rw newest
 
   pub terms-quiet : termsNext x ≡ x / 2
   unfolding termsNext matched
   terms-quiet =
       ap (λ (y : ℕ). y / 2)
-      (ap₂ (λ (a b : Bool). x ⊕ (sel a (2 ^ 12 + 2 ^ 0) ⊕ sel b (2 ^ 12 + 2 ^ 1))) no-flip-one no-flip-zero
+      (ap₂ (λ (a b : Bool). x ⊕ (sel a (2 ^ 12 + 2 ^ 0) ⊕ sel b (2 ^ 12 + 2 ^ 1))) no-flip-symbol1 no-flip-symbol0
       ∙ ap (λ (y : ℕ). x ⊕ y) (xor-zero-r 0) ∙ xor-zero-r x)
 
 pub terms-lt : (x : ℕ) → x < 2 ^ 13 → termsNext x < 2 ^ 12
 unfolding termsNext matched
 terms-lt x h =
-    let a = sel-lt 13 (flipsOne x) (2 ^ 12 + 2 ^ 0) (omega arith) in
-    let b = sel-lt 13 (flipsZero x) (2 ^ 12 + 2 ^ 1) (omega arith) in
-    let m = xor-lt 13 (sel (flipsOne x) (2 ^ 12 + 2 ^ 0)) (sel (flipsZero x) (2 ^ 12 + 2 ^ 1)) a b in
-    let z = xor-lt 13 x (sel (flipsOne x) (2 ^ 12 + 2 ^ 0) ⊕ sel (flipsZero x) (2 ^ 12 + 2 ^ 1)) h m in
+    let a = sel-lt 13 (flipsSymbol1 x) (2 ^ 12 + 2 ^ 0) (omega arith) in
+    let b = sel-lt 13 (flipsSymbol0 x) (2 ^ 12 + 2 ^ 1) (omega arith) in
+    let m = xor-lt 13 (sel (flipsSymbol1 x) (2 ^ 12 + 2 ^ 0)) (sel (flipsSymbol0 x) (2 ^ 12 + 2 ^ 1)) a b in
+    let z = xor-lt 13 x (sel (flipsSymbol1 x) (2 ^ 12 + 2 ^ 0) ⊕ sel (flipsSymbol0 x) (2 ^ 12 + 2 ^ 1)) h m in
     omega arith

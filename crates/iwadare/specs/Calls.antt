@@ -4,9 +4,10 @@
 --   IWADARE-REFUSED-CALLS   a refused call has the number of the first reason that applies, and leaves every lent word
 --                           as it was
 --   IWADARE-TAKEN-CALLS     where no reason applies a call is not refused
+--   IWADARE-BELOW           a coded block is below 8, and what is delivered below 4
 use mathlib.Core.Path.{_≡_}
 use mathlib.Core.List.{List}
-use Prim.Native.Nat.{ℕ, _≤_}
+use Prim.Native.Nat.{ℕ, _≤_, _<_}
 use Rattle.link.specs.declared.start.StartAnswer.{StartAnswer}
 use Rattle.link.specs.declared.start.StartAnswer.the-variants.{Started, Refused as StartRefused}
 use Rattle.link.specs.declared.code.CodeAnswer.{CodeAnswer}
@@ -15,9 +16,10 @@ use Rattle.link.specs.Memory.{started}
 use Rattle.link.specs.Start.{lengthFault, StartsWords}
 use Rattle.iwadare.specs.declared.decode.DecodeAnswer.{DecodeAnswer}
 use Rattle.iwadare.specs.declared.decode.DecodeAnswer.the-variants.{Refused as DecodeRefused}
+use Rattle.iwadare.specs.Memory.{delayedBound, receivedBound}
 use Rattle.iwadare.specs.Refusals.{coderFault, decoderFault}
 use Rattle.iwadare.specs.Coder.{codedBlock, coderNext, Codes}
-use Rattle.iwadare.specs.Decoder.{delivery, decoderNext, Decodes}
+use Rattle.iwadare.specs.Decoder.{delivered, delivery, decoderNext, Decodes}
 
 abbrev pub IWADARE-REFUSED-CALLS : Type 0
 IWADARE-REFUSED-CALLS =
@@ -36,3 +38,8 @@ IWADARE-TAKEN-CALLS =
     → coderFault s b ≡ 0 → (r ≡ Coded (codedBlock s b)) × (s' ≡ coderNext s b))
     × ((s : List ℕ) (b : ℕ) (r : DecodeAnswer) (s' : List ℕ) → Decodes s b r s'
     → decoderFault s b ≡ 0 → (r ≡ delivery s b) × (s' ≡ decoderNext s b))
+
+abbrev pub IWADARE-BELOW : Type 0
+IWADARE-BELOW =
+    ((s : List ℕ) (b : ℕ) → coderFault s b ≡ 0 → codedBlock s b < receivedBound)
+    × ((s : List ℕ) (r : ℕ) → decoderFault s r ≡ 0 → delivered s r < delayedBound)

@@ -30,7 +30,8 @@ BitBursts long gap sent taken = Bursts (WrongBit sent taken) long gap (3 * lengt
 abbrev pub Corrected : List Sent → List Taken → ℕ → Type 0
 Corrected sent taken p = takenAt taken p .answer ≡ Delivery (sentAt sent (p - delay) .info)
 
--- at least as many blocks are sent as taken; each step past the eighteenth that takes a block answers with it
+-- at least as many blocks are sent as taken; each step past the eighteenth that takes a block answers with the
+-- information sent 18 blocks before
 abbrev pub CorrectionWith : ℕ → ℕ → Type 0
 CorrectionWith long gap =
     (bs rs : List ℕ) →

@@ -3,7 +3,7 @@
 --
 --   decoderJoining, rawOf    the word w of a step, and its raw term
 --   registerOf s r           the 13 terms
---   flipsOne x, flipsZero x  whether these terms flip symbol 1 of the block 15 back, and symbol 0 of the block 18 back
+--   flipsSymbol1 x, flipsSymbol0 x  whether these terms flip symbol 1 of the block 15 back, and symbol 0 of the block 18 back
 --   matched x                the two ones that a flip matched
 --   termsNext x              the last 12 terms after the step
 --   decoderNext              the memory after a step that is taken
@@ -38,18 +38,18 @@ unfoldable pub registerOf : List ℕ → ℕ → ℕ
 registerOf s r = register 13 (termsOf s) (rawOf s r)
 
 -- "Symbol 1 of the block 15 back is flipped if the newest term and the one 12 before it are both 1."
-unfoldable pub flipsOne : ℕ → Bool
-flipsOne x = bit 12 x && bit 0 x
+unfoldable pub flipsSymbol1 : ℕ → Bool
+flipsSymbol1 x = bit 12 x && bit 0 x
 
 -- "Symbol 0 of the block 18 back is flipped if the newest term and the one 11 before it are 1 and the one 12 before it
 -- is 0."
-unfoldable pub flipsZero : ℕ → Bool
-flipsZero x = bit 12 x && bit 1 x && not (bit 0 x)
+unfoldable pub flipsSymbol0 : ℕ → Bool
+flipsSymbol0 x = bit 12 x && bit 1 x && not (bit 0 x)
 
 -- "A flip sets the two ones that it matched to 0." At most one of the two flips comes, since one asks for bit 0 and the
 -- other for its absence.
 unfoldable pub matched : ℕ → ℕ
-matched x = sel (flipsOne x) (2 ^ 12 + 2 ^ 0) ⊕ sel (flipsZero x) (2 ^ 12 + 2 ^ 1)
+matched x = sel (flipsSymbol1 x) (2 ^ 12 + 2 ^ 0) ⊕ sel (flipsSymbol0 x) (2 ^ 12 + 2 ^ 1)
 
 -- what is left of the 13 terms, without the oldest
 unfoldable pub termsNext : ℕ → ℕ
@@ -61,12 +61,12 @@ unfoldable pub decoderNext : List ℕ → ℕ → List ℕ
 decoderNext s r =
     let x = registerOf s r in
     fillNext (fillOf s) ∷ nextPending (decoderJoining s r) ∷ termsNext x
-    ∷ (drop 4 (set s (wordBack 15) (delayedBack s 15 ⊕ sel (flipsOne x) 2)) ++ (information 3 r ∷ []))
+    ∷ (drop 4 (set s (wordBack 15) (delayedBack s 15 ⊕ sel (flipsSymbol1 x) 2)) ++ (information 3 r ∷ []))
 
 -- "Both symbols of a block are delivered together, without a mark, when the eighteenth block after it is taken": the
 -- oldest, flipped in symbol 0, of weight 1, where it is to be
 unfoldable pub delivered : List ℕ → ℕ → ℕ
-delivered s r = delayedBack s delay ⊕ sel (flipsZero (registerOf s r)) 1
+delivered s r = delayedBack s delay ⊕ sel (flipsSymbol0 (registerOf s r)) 1
 
 -- "before that the answer is "nothing yet""
 unfoldable pub delivery : List ℕ → ℕ → DecodeAnswer

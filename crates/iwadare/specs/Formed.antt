@@ -2,7 +2,7 @@
 -- memory that was started, and then written by steps alone, is never refused for 14.
 --
 --   CoderFormed s, DecoderFormed s   the memory is well-formed
---   IWADARE-FORMED              that is what 13 and 14 let pass
+--   IWADARE-FORMED-EXACTLY      that is what 13 and 14 let pass
 --   IWADARE-FORMED-STEPS        a step on a well-formed memory is refused for 15 only
 --   IWADARE-STARTED-FORMED      a started memory is well-formed
 --   IWADARE-FORMED-THROUGHOUT   after any steps, refused ones among them, a well-formed memory is well-formed
@@ -31,8 +31,8 @@ pub record DecoderFormed (s : List ℕ) : Type 0 where
   pub terms : termsOf s < termsBound
   pub delayed : (i : ℕ) → i < delay → getD s (wordBack delay + i) 0 < delayedBound
 
-abbrev pub IWADARE-FORMED : Type 0
-IWADARE-FORMED =
+abbrev pub IWADARE-FORMED-EXACTLY : Type 0
+IWADARE-FORMED-EXACTLY =
     (s : List ℕ)
     → (CoderFormed s ↔ ((length s ≡ coderWords) × (coderMalformed s ≡ false)))
     × (DecoderFormed s ↔ ((length s ≡ decoderWords) × (decoderMalformed s ≡ false)))

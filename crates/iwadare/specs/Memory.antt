@@ -64,6 +64,6 @@ wordBack k = 21 - k
 abbrev pub delayedBack : List ℕ → ℕ → ℕ
 delayedBack s k = getD s (wordBack k) 0
 
--- "the fill (0 to 18)": it counts the blocks that were taken, as far as they are delayed
+-- 01: "Fill grows to m × (N − 1) and stays", which is 18 here
 abbrev pub fillNext : ℕ → ℕ
 fillNext fill = cond (ltb fill delay) (fill + 1) fill

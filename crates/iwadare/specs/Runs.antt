@@ -7,9 +7,12 @@
 --   sentBy s bs, takenBy s rs   what is kept of the steps that are handed these blocks, in order, from the memory s on
 --   coderAfter s bs, decoderAfter s rs   the memory after all of them
 --   sentAt xs p, takenAt xs p   entry p of such a list, counted from 1; past its end noneSent and noneTaken
+--   IWADARE-REFUSED-SKIPPED   a run with a refused step in it is the run without it
 --   bitSent xs q, bitTaken xs q   bit q of what is sent and of what is taken, counted from 1
+use mathlib.Core.Path.{_≡_}
 use mathlib.Core.Bool.{Bool}
-use mathlib.Core.List.{List, [], _∷_, map}
+use mathlib.Core.Logic.{_≢_}
+use mathlib.Core.List.{List, [], _∷_, _++_, map}
 use Prim.Native.Nat.{ℕ, _+_, _-_, _/_, _%_}
 use lib.ListN.{getD}
 use Rattle.span.specs.Word.{bit}
@@ -18,6 +21,7 @@ use Rattle.link.specs.declared.code.CodeAnswer.the-variants.{Coded, Refused as 
 use Rattle.link.specs.Runs.{CallOf, run, ran}
 use Rattle.iwadare.specs.declared.decode.DecodeAnswer.{DecodeAnswer}
 use Rattle.iwadare.specs.declared.decode.DecodeAnswer.the-variants.{Delivery, NothingYet, Refused}
+use Rattle.iwadare.specs.Refusals.{coderFault, decoderFault}
 use Rattle.iwadare.specs.Coder.{codeAnswer, codeMemory}
 use Rattle.iwadare.specs.Decoder.{decodeAnswer, decodeMemory}
 
@@ -65,6 +69,16 @@ sentAt xs p = getD xs (p - 1) noneSent
 
 abbrev pub takenAt : List Taken → ℕ → Taken
 takenAt xs p = getD xs (p - 1) noneTaken
+
+-- 01: "It writes no lent word, so a sequence goes on as if the call had not come."
+abbrev pub IWADARE-REFUSED-SKIPPED : Type 0
+IWADARE-REFUSED-SKIPPED =
+    (s bs : List ℕ) (b : ℕ) (bs′ : List ℕ)
+    → (coderFault (coderAfter s bs) b ≢ 0
+    → (sentBy s (bs ++ (b ∷ bs′)) ≡ sentBy s (bs ++ bs′)) × (coderAfter s (bs ++ (b ∷ bs′)) ≡ coderAfter s (bs ++ bs′)))
+    × (decoderFault (decoderAfter s bs) b ≢ 0
+    → (takenBy s (bs ++ (b ∷ bs′)) ≡ takenBy s (bs ++ bs′))
+    × (decoderAfter s (bs ++ (b ∷ bs′)) ≡ decoderAfter s (bs ++ bs′)))
 
 -- "three symbols, numbered 0 and 1 (information) and 2 (parity), sent in that order": symbol s of block p is bit
 -- 3 × (p − 1) + s + 1, so that bit q is symbol (q − 1) mod 3 of block (q − 1) div 3 + 1

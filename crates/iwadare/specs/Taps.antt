@@ -45,7 +45,8 @@ IWADARE-PARITY =
     (b : ℕ) → b < length sent
     → (parity 3 (blockSent sent b) ≡ taps (infoSent sent) b) × (information 3 (blockSent sent b) ≡ infoSent sent b)
 
--- "Raw terms are formed as for our own codes": the parity of the received information, and the received parity
+-- "Raw terms are formed as for our own codes": the parity of the received information, exclusive or the received
+-- parity
 abbrev pub IWADARE-SYNDROME : Type 0
 IWADARE-SYNDROME =
     (rs : List ℕ) →

@@ -12,7 +12,7 @@ ghost use Rattle.span.specs.Word.{_⊕_, sel};
 ghost use Rattle.link.specs.Refusals.{someAbove};
 ghost use Rattle.iwadare.specs.Memory.{fillOf, fillNext};
 ghost use Rattle.iwadare.specs.Refusals.{decoderMalformed, decoderFault};
-ghost use Rattle.iwadare.specs.Decoder.{flipsOne, flipsZero, termsNext, delivery, decoderNext, Decodes};
+ghost use Rattle.iwadare.specs.Decoder.{flipsSymbol1, flipsSymbol0, termsNext, delivery, decoderNext, Decodes};
 
 pub enum DecodeAnswer {
     // The information of the block taken 18 steps before.
@@ -25,13 +25,14 @@ pub enum DecodeAnswer {
 // What 13 terms say: the terms that stay, and what is flipped of the block 18 back and of the one 15 back.
 struct Verdict {
     pub terms: u64,
-    pub zero: u64,
-    pub one: u64,
+    pub symbol0: u64,
+    pub symbol1: u64,
 }
 
 // ---- refusals
 
-// Whether a delayed block is 4 or more: their ones together are, so no branch is taken for each.
+// Whether a delayed block is 4 or more: their ones together are, since 4 is a power of two, and no branch is taken for
+// each.
 fn delayed_above(state: &[u64]) -> bool
     requires { ⌜ length (now state) ≡ 21 ⌝ }
     ensures { λ r. ⌜ r ≡ someAbove 4 (now (state .entry)) 3 18 ⌝ }
@@ -84,34 +85,34 @@ fn fault(state: &[u64], received: u64) -> u64
 fn judged(x: u64) -> Verdict
     requires { ⌜ x < 2 ^ 13 ⌝ }
     ensures terms { λ r. ⌜ r .terms ≡ termsNext x ⌝ }
-    ensures zero { λ r. ⌜ r .zero ≡ sel (flipsZero x) 1 ⌝ }
-    ensures one { λ r. ⌜ r .one ≡ sel (flipsOne x) 2 ⌝ }
+    ensures symbol0 { λ r. ⌜ r .symbol0 ≡ sel (flipsSymbol0 x) 1 ⌝ }
+    ensures symbol1 { λ r. ⌜ r .symbol1 ≡ sel (flipsSymbol1 x) 2 ⌝ }
 {
     if x < 4096 {
         return Verdict {
             terms: x >> 1,
-            zero: 0,
-            one: 0,
+            symbol0: 0,
+            symbol1: 0,
         };
     }
     if x % 2 == 1 {
         return Verdict {
             terms: (x ^ 4097) >> 1,
-            zero: 0,
-            one: 2,
+            symbol0: 0,
+            symbol1: 2,
         };
     }
     if (x >> 1) % 2 == 1 {
         return Verdict {
             terms: (x ^ 4098) >> 1,
-            zero: 1,
-            one: 0,
+            symbol0: 1,
+            symbol1: 0,
         };
     }
     Verdict {
         terms: x >> 1,
-        zero: 0,
-        one: 0,
+        symbol0: 0,
+        symbol1: 0,
     }
 }
 
@@ -121,25 +122,25 @@ fn next_fill(fill: u64) -> u64
     if fill < 18 { fill + 1 } else { fill }
 }
 
-// The block 15 back. Nothing is written where nothing is flipped: words just written would hold up those that move.
-fn flip(state: &mut [u64], one: u64)
+// The block 15 back, flipped in the symbol of that weight. Nothing is written where nothing is flipped: words just written would hold up those that move.
+fn flip(state: &mut [u64], weight: u64)
     requires { ⌜ length (now state) ≡ 21 ⌝ }
-    ensures { λ r. ⌜ now (state .exit) ≡ set (now (state .entry)) 6 (getD (now (state .entry)) 6 0 ⊕ one) ⌝ }
+    ensures { λ r. ⌜ now (state .exit) ≡ set (now (state .entry)) 6 (getD (now (state .entry)) 6 0 ⊕ weight) ⌝ }
 {
-    if one == 0 {
+    if weight == 0 {
         return;
     }
-    state[6] = state[6] ^ one;
+    state[6] = state[6] ^ weight;
 }
 
 // The memory after a step: the block 15 back is flipped, w halved stays, and the delayed blocks move.
-fn keep(state: &mut [u64], w: u64, terms: u64, one: u64, youngest: u64)
+fn keep(state: &mut [u64], w: u64, terms: u64, weight: u64, youngest: u64)
     requires { ⌜ length (now state) ≡ 21 ⌝ }
     ensures { λ r.
         ⌜ now (state .exit) ≡ fillNext (fillOf (now (state .entry))) ∷ w / 2 ∷ terms
-        ∷ (drop 4 (set (now (state .entry)) 6 (getD (now (state .entry)) 6 0 ⊕ one)) ++ (youngest ∷ [])) ⌝ }
+        ∷ (drop 4 (set (now (state .entry)) 6 (getD (now (state .entry)) 6 0 ⊕ weight)) ++ (youngest ∷ [])) ⌝ }
 {
-    flip(state, one);
+    flip(state, weight);
     state[0] = next_fill(state[0]);
     state[1] = w >> 1;
     state[2] = terms;
@@ -155,8 +156,8 @@ fn taken(state: &mut [u64], received: u64) -> DecodeAnswer
     let fill = state[0];
     let w = state[1] ^ image(received);
     let v = judged(state[2] + select(4096, w ^ (received >> 2)));
-    let oldest = state[3] ^ v.zero;
-    keep(state, w, v.terms, v.one, received % 4);
+    let oldest = state[3] ^ v.symbol0;
+    keep(state, w, v.terms, v.symbol1, received % 4);
     if fill < 18 {
         return DecodeAnswer::NothingYet;
     }

@@ -230,7 +230,7 @@ module _ {T : Type 0} (fault : T → List ℕ → ℕ → ℕ) (next memory : T 
   there : List ℕ
   there = ran memory s cs
 
-  skipped : (run memory kept s (cs ++ (c ∷ cs′)) ≡ run memory kept s (cs ++ cs′))
+  pub skipped : (run memory kept s (cs ++ (c ∷ cs′)) ≡ run memory kept s (cs ++ cs′))
       × (ran memory s (cs ++ (c ∷ cs′)) ≡ ran memory s (cs ++ cs′))
   unfolding ran there
   skipped =

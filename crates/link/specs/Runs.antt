@@ -30,7 +30,7 @@ use Rattle.link.specs.Refusals.{coderFault, decoderFault}
 use Rattle.link.specs.Coder.{codeAnswer, codeMemory}
 use Rattle.link.specs.Decoder.{decodeAnswer, decodeMemory}
 
--- stations with a code of their own have no table: `iwadare` hands nothing in its place
+-- stations whose code is fixed have no table: they are handed nothing in its place
 pub record CallOf (T : Type 0) : Type 0 where
   pub table : T
   pub block : ℕ

@@ -29,7 +29,7 @@ returns-2 : tie.Need-returns-2
 returns-2 c =
     let a = c .before .before .args in
     let s = a .state .now in
-    ap (set s 6) (xor-code (getD s 6 0) (a .one))
+    ap (set s 6) (xor-code (getD s 6 0) (a .weight))
 
 pub flip-spec : {M : Type 1} → statement M
 flip-spec = tie.close (tie.spec returns slice-read-state slice-write-state same-length returns-2)

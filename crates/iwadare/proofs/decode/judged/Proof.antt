@@ -6,14 +6,14 @@ use native.Mathlib.Omega.{arith}
 use lib.Bits.{bitXor}
 use Rattle.span.specs.Word.{_⊕_, bit, sel, digit}
 use Rattle.span.proofs.Word.{odd-of, xor-zero-r, bit-odd, bit-zero, bit-none, bit-top, and-false}
-use Rattle.iwadare.specs.Decoder.{flipsOne, flipsZero, matched, termsNext}
+use Rattle.iwadare.specs.Decoder.{flipsSymbol1, flipsSymbol0, matched, termsNext}
 use Rattle.iwadare.proofs.decode.judged.Statement.{statement}
 use Rattle.iwadare.proofs.decode.judged.Tie as tie
 
 -- what the terms say, by whether they flip
-verdict : (x : ℕ) (one zero : Bool) (kept : ℕ) → flipsOne x ≡ one → flipsZero x ≡ zero
+verdict : (x : ℕ) (one zero : Bool) (kept : ℕ) → flipsSymbol1 x ≡ one → flipsSymbol0 x ≡ zero
     → kept ≡ x ⊕ (sel one 4097 ⊕ sel zero 4098)
-    → (kept / 2 ≡ termsNext x) × ((sel zero 1 ≡ sel (flipsZero x) 1) × (sel one 2 ≡ sel (flipsOne x) 2))
+    → (kept / 2 ≡ termsNext x) × ((sel zero 1 ≡ sel (flipsSymbol0 x) 1) × (sel one 2 ≡ sel (flipsSymbol1 x) 2))
 unfolding termsNext matched
 verdict x one zero kept e f g = (
   ap (λ (y : ℕ). y / 2) (g ∙ ap₂ (λ (a b : Bool). x ⊕ (sel a 4097 ⊕ sel b 4098)) (sym e) (sym f)),
@@ -22,8 +22,8 @@ verdict x one zero kept e f g = (
 
 -- the two rules by three terms: the newest, the oldest but one, and the oldest
 flips : (x : ℕ) (p q r : Bool) → bit 12 x ≡ p → bit 1 x ≡ q → bit 0 x ≡ r
-    → (flipsOne x ≡ p && r) × (flipsZero x ≡ p && q && not r)
-unfolding flipsOne flipsZero
+    → (flipsSymbol1 x ≡ p && r) × (flipsSymbol0 x ≡ p && q && not r)
+unfolding flipsSymbol1 flipsSymbol0
 flips x p q r e f g = (rw (e, g), rw (e, f, g))
 
 oldest : (x : ℕ) (s : Bool) → x % 2 ≡ digit s → bit 0 x ≡ s

@@ -59,7 +59,7 @@ kept : (c : tie.After-push)
     → let a = entry c .args in
     let s = a .state .now in
     c .push .last .0
-    ≡ fillNext (fillOf s) ∷ a .w / 2 ∷ a .terms ∷ (drop 4 (set s 6 (getD s 6 0 ⊕ a .one)) ++ (a .youngest ∷ []))
+    ≡ fillNext (fillOf s) ∷ a .w / 2 ∷ a .terms ∷ (drop 4 (set s 6 (getD s 6 0 ⊕ a .weight)) ++ (a .youngest ∷ []))
 kept c =
     let a = entry c .args in
     let s = a .state .now in
@@ -70,7 +70,7 @@ kept c =
     ∙ moved flipped (n .result) (a .w / 2) (a .terms) (a .youngest) (let l = sized (flipping c) in omega arith)
     ∙ ap₂ (λ (f : ℕ) (l : List ℕ). f ∷ a .w / 2 ∷ a .terms ∷ (drop 4 l ++ (a .youngest ∷ [])))
     (n .ensures ∙ ap fillNext (ap fillOf is
-    ∙ getD-set-other s 6 0 (getD s 6 0 ⊕ a .one) 0 (λ (z : 0 ≡ 6). omega arith)))
+    ∙ getD-set-other s 6 0 (getD s 6 0 ⊕ a .weight) 0 (λ (z : 0 ≡ 6). omega arith)))
     is
 
 same-length : tie.Need-same-length
@@ -78,7 +78,7 @@ same-length c =
     let here = entry (c .before .before) in
     let a = here .args in
     let s = a .state .now in
-    let x = getD s 6 0 ⊕ a .one in
+    let x = getD s 6 0 ⊕ a .weight in
     let e = here .pre in
     let k = length-append (drop 4 (set s 6 x)) (a .youngest ∷ []) in
     let d = length-drop 4 (set s 6 x) in

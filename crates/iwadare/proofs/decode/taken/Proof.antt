@@ -18,7 +18,7 @@ use Rattle.link.proofs.Coder.{sel-digit}
 use Rattle.iwadare.specs.declared.decode.DecodeAnswer.the-variants.{Delivery, NothingYet}
 use Rattle.iwadare.specs.Memory.{generators, delay, fillOf, pendingOf, termsOf, fillNext}
 use Rattle.iwadare.specs.Formed.{DecoderFormed}
-use Rattle.iwadare.specs.Decoder.{decoderJoining, rawOf, registerOf, flipsOne, flipsZero, termsNext}
+use Rattle.iwadare.specs.Decoder.{decoderJoining, rawOf, registerOf, flipsSymbol1, flipsSymbol0, termsNext}
 use Rattle.iwadare.specs.Decoder.{decoderNext, delivered, delivery}
 use Rattle.iwadare.proofs.Coder.{joined}
 use Rattle.iwadare.proofs.Decoder.{decoder-taken, register-lt, delivered-below}
@@ -42,16 +42,16 @@ module _ (s : List ℕ) (r image : ℕ) (e : image ≡ combination generators r)
       ∙ ap₂ xor (ap odd joining-is) (sym (bit-odd 2 r)))
       ∙ sel-digit (rawOf s r) (2 ^ 12))
 
-  memory-is : (x terms one : ℕ) → x ≡ registerOf s r → terms ≡ termsNext x → one ≡ sel (flipsOne x) 2
+  memory-is : (x terms one : ℕ) → x ≡ registerOf s r → terms ≡ termsNext x → one ≡ sel (flipsSymbol1 x) 2
       → fillNext (fillOf s) ∷ w / 2 ∷ terms ∷ (drop 4 (set s 6 (getD s 6 0 ⊕ one)) ++ (r % 4 ∷ [])) ≡ decoderNext s r
   unfolding decoderNext
   memory-is x terms one is f g = rw (f, g, is, joining-is)
 
-delivered-is : (s : List ℕ) (r x flip : ℕ) → x ≡ registerOf s r → flip ≡ sel (flipsZero x) 1
+delivered-is : (s : List ℕ) (r x flip : ℕ) → x ≡ registerOf s r → flip ≡ sel (flipsSymbol0 x) 1
     → bitXor (getD s 3 0) flip ≡ delivered s r
 unfolding delivered
 delivered-is s r x flip is f =
-    xor-code (getD s 3 0) flip ∙ ap (λ (y : ℕ). getD s 3 0 ⊕ y) (f ∙ ap (λ (y : ℕ). sel (flipsZero y) 1) is)
+    xor-code (getD s 3 0) flip ∙ ap (λ (y : ℕ). getD s 3 0 ⊕ y) (f ∙ ap (λ (y : ℕ). sel (flipsSymbol0 y) 1) is)
 
 -- what the tests of the step said
 tests : (c : tie.Start) → DecoderFormed (c .args .state .now)
@@ -120,7 +120,7 @@ kept c =
     let v = here .judged in
     c .keep .ensures
     ∙ memory-is (a .state .now) (a .received) (i .result) (i .ensures) (register (here .before)) (v .result .terms)
-    (v .result .one) (registered (here .before)) (v .ensures .0) (v .ensures .1 .1)
+    (v .result .symbol1) (registered (here .before)) (v .ensures .0) (v .ensures .1 .1)
 
 returns : tie.Need-returns
 unfolding delivery
@@ -136,11 +136,11 @@ returns c =
 -- the information that is delivered
 flipped : (c : tie.After-keep)
     → let a = entry (judged-at c .before) .args in
-    bitXor (getD (a .state .now) 3 0) (judged-at c .judged .result .zero) ≡ delivered (a .state .now) (a .received)
+    bitXor (getD (a .state .now) 3 0) (judged-at c .judged .result .symbol0) ≡ delivered (a .state .now) (a .received)
 flipped c =
     let here = judged-at c in
     let a = entry (here .before) .args in
-    delivered-is (a .state .now) (a .received) (register (here .before)) (here .judged .result .zero)
+    delivered-is (a .state .now) (a .received) (register (here .before)) (here .judged .result .symbol0)
     (registered (here .before)) (here .judged .ensures .1 .0)
 
 cast-t20 : tie.Need-cast-t20
