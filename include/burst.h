@@ -1,5 +1,7 @@
 /*
- * The relay's burst codec for C99 and C++: tables, and a coder and a decoder, by the block and by the batch.
+ * The relay's burst codec for C99 and C++: tables, and a coder and a decoder, by the block and by the batch. Beside
+ * them stand coder and decoder of the Iwadare-Massey stations, at the end: their code is fixed, so that they have no
+ * table, and they have no batch. "The code", "Memory" and "Batches" below are of the codes with a table.
  *
  * Link with libexport.a (make staticlib), which is for x86-64 Linux and needs memcpy, memmove and memset of the C
  * library. Nothing here keeps a state of its own, allocates, or calls back: a caller lends all memory, and a call writes
@@ -64,6 +66,10 @@
  *     15  a step: the block is 2^(n-1) or more (information) or 2^n or more (received)
  *   writing a table: 12, then 10 (with the same l, e0 and e1), then
  *     16  the lent bytes are fewer than 10n - 5
+ *   the Iwadare-Massey stations, in this order
+ *     13  the lent memory has not exactly the length that is asked for
+ *     14  a step: a word is outside its bounds (never so once started, and then written by steps alone)
+ *     15  a step: the block is 4 or more (information) or 8 or more (received)
  *
  * A call that refuses writes nothing that it is lent, so a sequence goes on as if the call had not come.
  */
@@ -97,8 +103,9 @@ struct burst_written {
 
 /* What a coder's step says. */
 struct burst_coded {
-    uint64_t refused; /* 0, or 12 to 15 */
-    uint64_t block;   /* the coded block, below 2^n and so a uint16_t: the information and its parity; 0 if refused */
+    uint64_t refused; /* 0, or 12 to 15; of an Iwadare-Massey station 0, or 13 to 15 */
+    uint64_t block;   /* the coded block, the information and its parity, below 2^n (of such a station below 8), and so
+                         a uint16_t; 0 if refused */
 };
 
 /* What a decoder's step says: all 0 but its number if it is refused, all 0 if nothing is delivered yet. */
@@ -107,6 +114,14 @@ struct burst_decoded {
     uint64_t info;    /* the information of the block taken m * (N - 1) blocks before, corrected if the mark is 3 */
     uint64_t mark;    /* 0 nothing yet, 1 clean, 2 held, 3 corrected, 4 doubtful, 5 parity */
     uint64_t error;   /* the error block that was removed, below 2^n, where the mark is 3 or 5; else 0 */
+};
+
+/* What a decoder's step of the Iwadare-Massey stations says: all 0 but its number if it is refused, all 0 if nothing is
+   delivered yet. */
+struct burst_iwadare_decoded {
+    uint64_t refused;   /* 0, or 13 to 15 */
+    uint64_t delivered; /* 1 if a block is delivered, else 0 */
+    uint64_t info;      /* its information, below 4: that of the block taken 18 blocks before, with its flips */
 };
 
 /*
@@ -219,6 +234,60 @@ size_t burst_code_batch(const uint64_t table[18], uint64_t *words, size_t count,
  */
 size_t burst_decode_batch(const uint64_t table[18], uint64_t *words, size_t count, const uint16_t *received,
                           size_t length, uint32_t *entries, size_t room);
+
+/*
+ * The Iwadare-Massey stations. A block has three symbols, sent in this order: 0 and 1, the information, with weights 1
+ * and 2, and 2, the parity, with weight 4. The generators are D^7 + D^18 for symbol 0 and D^3 + D^15 for symbol 1: the
+ * parity of block t is the exclusive or of symbol 0 of blocks t - 7 and t - 18 and symbol 1 of blocks t - 3 and t - 15;
+ * blocks before the start are 0.
+ *
+ * A coder's memory is 1 word: the pending word, below 2^18. A decoder's is 21 words: the fill, 0 to 18; the pending
+ * word, below 2^18; the last 12 terms of the syndrome, below 2^12, the newest in bit 11; and 18 delayed blocks, the
+ * information as received and flipped since, each below 4, oldest first. A step writes any of them.
+ */
+
+/*
+ * Starts a coder's memory of 1 word: it becomes 0.
+ *
+ * Returns 0; or 13, and then no word is written.
+ */
+uint64_t burst_iwadare_start_coder(uint64_t *words, size_t count);
+
+/*
+ * Starts a decoder's memory of 21 words: every word becomes 0.
+ *
+ * Returns 0; or 13, and then no word is written.
+ */
+uint64_t burst_iwadare_start_decoder(uint64_t *words, size_t count);
+
+/*
+ * Codes one block of information, which is below 4, on a coder's memory of 1 word: adds its parity.
+ *
+ * Refused, 13 to 15, it writes no word.
+ */
+struct burst_coded burst_iwadare_code(uint64_t *words, size_t count, uint16_t info);
+
+/*
+ * Takes one received block, which is below 8, on a decoder's memory of 21 words, and delivers the oldest delayed block:
+ * the one that was taken 18 steps before, counting steps that were not refused. The first 18 of these on a started
+ * memory deliver nothing; to get the last blocks, 18 more are coded and taken.
+ *
+ * The newest term of the syndrome is the parity of the received information, exclusive or the received parity. If it is
+ * 1 and the one 12 before it is 1, symbol 1 of the block 15 back is flipped. If it is 1, the one 11 before it is 1, and
+ * the one 12 before it is 0, symbol 0 of the block 18 back is flipped, which is the one that is delivered. A flip sets
+ * the two ones that it matched to 0. A word of the memory is flipped also where no block was taken for it yet.
+ *
+ * Both memories started, and then written by steps alone; every coded block taken, in order; bits counted as they are
+ * sent, wrong ones only in bursts within 10 consecutive bits, with at least 56 bits between, all right: then every block
+ * delivered is right. From any other memory within the bounds, and after any other damage, that holds once 30 right
+ * blocks in a row were taken, bursts keeping to the rule from there on; while all blocks are right it holds from the
+ * 22nd of them on. There is no mark: where bursts are longer or closer, nothing tells a wrong block. A block that was
+ * not received is handed in as any block below 8, and those of its bits that differ are wrong ones. One that is left
+ * out, or refused, shifts all later ones by a place.
+ *
+ * Refused, 13 to 15, it writes no word.
+ */
+struct burst_iwadare_decoded burst_iwadare_decode(uint64_t *words, size_t count, uint16_t received);
 
 #ifdef __cplusplus
 }

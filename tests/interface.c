@@ -1,9 +1,10 @@
 /*
  * The C interface, called: 01's examples T1 to T6, T8 for n = 5, and T9 to T12, and each refusal's number with what it leaves unwritten;
- * T10 to T12 by the batch too, and each way that a batch ends; T1 and T8 written.
+ * T10 to T12 by the batch too, and each way that a batch ends; T1 and T8 written; a run of the Iwadare-Massey stations.
  * Prints one line a call. What it prints is held to interface.stdout; that the functions do this on every input is proved.
  */
 #include <inttypes.h>
+#include <stddef.h>
 #include <stdio.h>
 #include <string.h>
 
@@ -198,6 +199,76 @@ static void batches(const uint16_t t10[5], const uint16_t t11[4])
     batch("decode", burst_decode_batch, 7, zeros, 2, 2);
 }
 
+typedef uint64_t start_call(uint64_t *words, size_t count);
+
+/* The words are one more than those lent. */
+static void station_start(const char *what, start_call *call, size_t count)
+{
+    memset(words, 0xff, sizeof words);
+    printf("start a station's %s, %d words: %" PRIu64 "; words", what, (int)count, call(words, count));
+    numbers(words, (int)count + 1);
+}
+
+static uint16_t station_code(size_t count, uint16_t info)
+{
+    struct burst_coded c;
+    memcpy(before, words, sizeof words);
+    c = burst_iwadare_code(words, count, info);
+    printf("a station codes %d: %" PRIu64 " block %" PRIu64 "; %s", info, c.refused, c.block,
+           memcmp(before, words, sizeof words) ? "words" : "unchanged");
+    numbers(words, (int)count);
+    return (uint16_t)c.block;
+}
+
+static void station_decode(size_t count, uint16_t received)
+{
+    struct burst_iwadare_decoded d;
+    memcpy(before, words, sizeof words);
+    d = burst_iwadare_decode(words, count, received);
+    printf("a station decodes %d: %" PRIu64 " delivered %" PRIu64 " info %" PRIu64 "; %s", received, d.refused,
+           d.delivered, d.info, memcmp(before, words, sizeof words) ? "words" : "unchanged");
+    numbers(words, (int)count);
+}
+
+/* 1, 2, 3 and zeros; the first block is received with both symbols wrong. Then the order of 13, 14 and 15. */
+static void stations(void)
+{
+    static const uint16_t infos[22] = {1, 2, 3};
+    uint16_t sent[22];
+    int i;
+    printf("struct burst_iwadare_decoded: %d bytes, refused at %d, delivered at %d, info at %d\n",
+           (int)sizeof(struct burst_iwadare_decoded), (int)offsetof(struct burst_iwadare_decoded, refused),
+           (int)offsetof(struct burst_iwadare_decoded, delivered), (int)offsetof(struct burst_iwadare_decoded, info));
+    station_start("coder", burst_iwadare_start_coder, 1);
+    for (i = 0; i < 22; i++) {
+        sent[i] = station_code(1, infos[i]);
+    }
+    station_code(1, 4);
+    words[0] = (uint64_t)1 << 18;
+    station_code(1, 0);
+    station_code(1, 4);
+    station_code(2, 4);
+    station_code(0, 4);
+    station_start("coder", burst_iwadare_start_coder, 0);
+    station_start("coder", burst_iwadare_start_coder, 2);
+
+    station_start("decoder", burst_iwadare_start_decoder, 21);
+    for (i = 0; i < 22; i++) {
+        station_decode(21, i == 0 ? (uint16_t)(sent[i] ^ 3) : sent[i]);
+    }
+    station_decode(21, 8);
+    words[20] = 4;
+    station_decode(21, 0);
+    station_decode(21, 8);
+    station_decode(20, 8);
+    station_decode(22, 8);
+    words[20] = 0;
+    words[0] = 19;
+    station_decode(21, 0);
+    station_start("decoder", burst_iwadare_start_decoder, 20);
+    station_start("decoder", burst_iwadare_start_decoder, 22);
+}
+
 int main(void)
 {
     static const uint8_t z[] = {1, 2, 4, 1, 2, 1, 10, 0, 0, 0, 0, 0, 0, 0, 0, 0};
@@ -276,5 +347,6 @@ int main(void)
     table[3] = 16;
     decode(7, 0);
     batch("decode", burst_decode_batch, 7, t11, 4, 4);
+    stations();
     return 0;
 }

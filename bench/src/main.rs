@@ -1,8 +1,9 @@
 //! Prints what a call takes in nanoseconds, the proved codec and the one written for speed in the same run,
 //! and their ratio: medians of several rounds, the ratio's too, answers and memories compared throughout.
 //! Then how much longer the images of all error blocks of 16 symbols take with a span of 64 than with one of
-//! 4, and what writing a table costs beside judging it. Last, batches against single calls. The exit status
-//! is 1 if images or batches take longer than is asked for.
+//! 4, and what writing a table costs beside judging it. Then steps of the Iwadare-Massey stations beside our
+//! own. Last, batches against single calls. The exit status is 1 if images, stations or batches take longer
+//! than is asked for.
 
 // The declarations that the comparing tests have; not every function is timed.
 #[allow(dead_code)]
@@ -11,6 +12,7 @@ mod archive;
 mod batch;
 mod fast;
 mod images;
+mod iwadare;
 
 use archive::{burst_code, burst_decode, burst_read, burst_write, Written};
 use std::time::Instant;
@@ -191,14 +193,18 @@ fn main() {
     }
     let fetched_once = images::report();
     report_writing();
+    let stations = iwadare::report_all(&mut random);
     let batches = batch::report_all(&mut random);
     if !fetched_once {
         println!("images with a span of 64 take more than twice what they take with one of 4");
     }
+    if !stations {
+        println!("a step of an Iwadare-Massey station takes longer than one of our own codes with n = 3");
+    }
     if !batches {
         println!("a batch of 256 blocks or more with m = 16 is slower than is asked for");
     }
-    if !fetched_once || !batches {
+    if !fetched_once || !stations || !batches {
         std::process::exit(1);
     }
 }

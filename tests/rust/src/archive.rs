@@ -41,6 +41,15 @@ pub struct Decoded {
     pub error: u64,
 }
 
+/// The answer of a decoder step of the Iwadare-Massey stations; delivered 0 is "nothing yet".
+#[repr(C)]
+#[derive(Clone, Copy, Debug, PartialEq, Eq)]
+pub struct IwadareDecoded {
+    pub refused: u64,
+    pub delivered: u64,
+    pub info: u64,
+}
+
 extern "C" {
     pub fn burst_read(bytes: *const u8, length: usize, table: *mut u64) -> Reading;
     pub fn burst_make(n: u64, m: u64, table: *mut u64) -> u64;
@@ -67,6 +76,10 @@ extern "C" {
         entries: *mut u32,
         room: usize,
     ) -> usize;
+    pub fn burst_iwadare_start_coder(words: *mut u64, count: usize) -> u64;
+    pub fn burst_iwadare_start_decoder(words: *mut u64, count: usize) -> u64;
+    pub fn burst_iwadare_code(words: *mut u64, count: usize, info: u16) -> Coded;
+    pub fn burst_iwadare_decode(words: *mut u64, count: usize, received: u16) -> IwadareDecoded;
 }
 
 /// Table, words and their count, blocks and their length, entries and their room.

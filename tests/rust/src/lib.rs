@@ -1,15 +1,19 @@
-//! The plain implementation of the burst codec, a safe wrapper over the proved one's C interface, and its listing
-//! program, run.
+//! The plain implementations of the burst codec and of the Iwadare-Massey stations, a safe wrapper over the proved ones'
+//! C interface, and the listing program, run.
 
 pub mod archive;
 pub mod cases;
 pub mod examples;
+pub mod iwadare;
+pub mod iwadare_cases;
 pub mod oracle;
 
 #[cfg(test)]
+mod iwadare_tests;
+#[cfg(test)]
 mod oracle_tests;
 
-pub use archive::{Coded, Decoded, Reading, Written};
+pub use archive::{Coded, Decoded, IwadareDecoded, Reading, Written};
 
 /// A table as it crosses the boundary: n, N, m, then rows 1 to 15.
 pub type Numbers = [u64; 18];
@@ -76,6 +80,26 @@ pub mod linked {
 
     pub fn decode_batch(table: &Numbers, words: &mut [u64], received: &[u16], entries: &mut [u32]) -> usize {
         batch(burst_decode_batch, table, words, received, entries)
+    }
+
+    pub fn iwadare_start_coder(words: &mut [u64]) -> u64 {
+        // SAFETY: the slice's own length goes along.
+        unsafe { burst_iwadare_start_coder(words.as_mut_ptr(), words.len()) }
+    }
+
+    pub fn iwadare_start_decoder(words: &mut [u64]) -> u64 {
+        // SAFETY: as for the coder.
+        unsafe { burst_iwadare_start_decoder(words.as_mut_ptr(), words.len()) }
+    }
+
+    pub fn iwadare_code(words: &mut [u64], info: u16) -> Coded {
+        // SAFETY: as for starting.
+        unsafe { burst_iwadare_code(words.as_mut_ptr(), words.len(), info) }
+    }
+
+    pub fn iwadare_decode(words: &mut [u64], received: u16) -> IwadareDecoded {
+        // SAFETY: as for starting.
+        unsafe { burst_iwadare_decode(words.as_mut_ptr(), words.len(), received) }
     }
 }
 

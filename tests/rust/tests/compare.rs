@@ -3,6 +3,7 @@
 
 use burst_compare::cases::*;
 use burst_compare::examples::{read_cases, step_cases, write_cases, z, ReadCase, Says, Step, StepCase};
+use burst_compare::iwadare_cases::station_cases;
 use burst_compare::oracle::{self, Delivered, ReadRefusal, Table, Triple, MARKS};
 use burst_compare::{linked, program, Coded, Decoded, Numbers, Reading};
 use std::fmt::Debug;
@@ -12,6 +13,7 @@ use std::time::Instant;
 mod batches;
 mod clashes;
 mod images;
+mod iwadare;
 mod writing;
 
 const SEED: u64 = 0x9E37_79B9_7F4A_7C15;
@@ -30,6 +32,7 @@ struct Tally {
     batches: batches::Count,
     writing: writing::Count,
     clashes: clashes::Count,
+    iwadare: iwadare::Count,
     mismatches: u64,
     shown: Vec<String>,
 }
@@ -945,8 +948,9 @@ fn everything_reached(tally: &mut Tally, _: &mut Draw) {
     batches::everything_reached(tally);
     writing::everything_reached(tally);
     clashes::everything_reached(tally);
-    let calls = tally.calls - tally.batches.batches;
-    tally.check(calls >= LEAST_CALLS, || format!("only {calls} calls compared, batches apart"));
+    iwadare::everything_reached(tally);
+    let calls = tally.calls - tally.batches.batches - tally.iwadare.calls();
+    tally.check(calls >= LEAST_CALLS, || format!("only {calls} calls compared, batches and stations apart"));
 }
 
 // ---- Listed cases ----
@@ -987,7 +991,7 @@ fn check_step(tally: &mut Tally, StepCase { table, memory, step, after }: &StepC
 
 type Group = (&'static str, fn(&mut Tally, &mut Draw));
 
-const GROUPS: [Group; 48] = [
+const GROUPS: [Group; 59] = [
     ("examples of tables", examples_of_tables),
     ("examples of steps", examples_of_steps),
     ("bytes of every refusal and place", bytes_of_every_refusal),
@@ -1035,6 +1039,17 @@ const GROUPS: [Group; 48] = [
     ("short guard", after_a_short_guard),
     ("short guard, one place less", shorter_guard_fails),
     ("first triples of unsuitable tables, read and written", clashes::drawn),
+    ("stations: starting", iwadare::starting),
+    ("stations: every refusal", iwadare::refusals),
+    ("stations: every pending word of a coder", iwadare::every_pending_word),
+    ("stations: every terms word of a decoder", iwadare::every_terms_word),
+    ("stations: steps", iwadare::steps),
+    ("stations: parities and raw terms by their definition", iwadare::by_definition),
+    ("stations: every burst of 10 bits", iwadare::every_burst),
+    ("stations: runs of bursts, 56 bits between", iwadare::runs_at_the_bounds),
+    ("stations: bursts of 11 bits, 55 bits between", iwadare::beyond_the_bounds),
+    ("stations: after 30 blocks", iwadare::recoveries),
+    ("stations: after 29 blocks", iwadare::shorter_guard_fails),
     ("everything reached", everything_reached),
 ];
 
@@ -1082,13 +1097,16 @@ fn run_cases<C: Debug>(tally: &mut Tally, name: &str, cases: &[C], check: fn(&mu
 fn main() {
     let mut tally = Tally::default();
     let (read_cases, write_cases, step_cases) = (read_cases(), write_cases(), step_cases());
+    let station_cases = station_cases();
     let mut passed = run_cases(&mut tally, "listed table bytes", &read_cases, check_reading)
         + run_cases(&mut tally, "listed writes", &write_cases, writing::check_case)
-        + run_cases(&mut tally, "listed steps", &step_cases, check_step);
+        + run_cases(&mut tally, "listed steps", &step_cases, check_step)
+        + run_cases(&mut tally, "listed steps of stations", &station_cases, iwadare::check_case);
     for (index, &group) in GROUPS.iter().enumerate() {
         passed += usize::from(run_group(&mut tally, index, group));
     }
-    let failed = read_cases.len() + write_cases.len() + step_cases.len() + GROUPS.len() - passed;
+    let cases = read_cases.len() + write_cases.len() + step_cases.len() + station_cases.len();
+    let failed = cases + GROUPS.len() - passed;
     println!("{} calls compared", tally.calls);
     println!("refusals 1 to 15: {:?}", &tally.refusals[1..]);
     println!("marks 0 to 5: {:?}", tally.marks);
@@ -1096,6 +1114,7 @@ fn main() {
     println!("{}", tally.batches);
     println!("{}", tally.writing);
     println!("{}", tally.clashes);
+    println!("{}", tally.iwadare);
     println!("{passed} passed, {failed} failed");
     std::process::exit(i32::from(failed > 0));
 }
