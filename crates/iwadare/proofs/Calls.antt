@@ -1,5 +1,5 @@
 -- Demand 1, from the promises: a call that is refused, and one that is not. Assumes nothing.
-use mathlib.Core.Path.{_≡_, refl, sym, _∙_}
+use mathlib.Core.Path.{_≡_, sym, _∙_}
 use mathlib.Core.Bool.{Bool, true, false, cond}
 use mathlib.Core.List.{List, [], _∷_}
 use Prim.Native.Nat.{ℕ, _≤_}
@@ -9,12 +9,12 @@ use Rattle.tables.proofs.Refusal.{first-range}
 use Rattle.link.specs.declared.start.StartAnswer.the-variants.{Started, Refused as StartRefused}
 use Rattle.link.specs.declared.code.CodeAnswer.the-variants.{Coded, Refused as CodeRefused}
 use Rattle.link.specs.Memory.{started}
-use Rattle.link.specs.Refusals.{answered, leaves}
 use Rattle.link.specs.Start.{lengthFault}
 use Rattle.link.proofs.Refusals.{takes}
 use Rattle.link.proofs.Calls.{refused-call}
 use Rattle.iwadare.specs.declared.decode.DecodeAnswer.{DecodeAnswer}
-use Rattle.iwadare.specs.declared.decode.DecodeAnswer.the-variants.{Delivery, NothingYet, Refused as DecodeRefused}
+use Rattle.iwadare.specs.declared.decode.DecodeAnswer.the-variants.{Delivery, NothingYet}
+use Rattle.iwadare.specs.declared.decode.DecodeAnswer.the-variants.{Refused as DecodeRefused}
 use Rattle.iwadare.specs.Memory.{delay, fillOf}
 use Rattle.iwadare.specs.Refusals.{stepFault, coderFault, decoderFault}
 use Rattle.iwadare.specs.Coder.{codedBlock, coderNext, codeAnswer, codeMemory}

@@ -1,5 +1,5 @@
--- The premises of correction and recovery of runs that are computed: tests of each bit and each block, and what they say.
--- Assumes nothing.
+-- The premises of correction and recovery of runs that are computed: tests of each bit and each block, and what they
+-- say. Assumes nothing.
 --
 --   Ends, burst-so                               a stretch with a wrong bit at both ends
 --   covers sent taken chosen count, bursts-so    every wrong bit lies in a chosen stretch
@@ -7,7 +7,7 @@
 --   delivery-same                                two deliveries that are the same
 use mathlib.Core.Path.{_≡_, refl, sym, ap, _∙_}
 use mathlib.Core.Bool.{Bool, true, false, not, cond, _&&_, _||_, true≢false}
-use mathlib.Core.Logic.{_≢_, _⊎_, inl, inr}
+use mathlib.Core.Logic.{_≢_, inl, inr}
 use mathlib.Core.List.{List, [], _∷_}
 use Prim.Native.Nat.{ℕ, zero, suc, _+_, _*_, _≤_, _<_}
 use native.Mathlib.Omega.{arith}

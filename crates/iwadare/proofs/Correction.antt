@@ -7,35 +7,31 @@
 --   right-from       from a place on at which the errors have settled, every delivery is right
 --   started-quiet    started memories have settled
 --   correction-ten, correction   the theorems
-use mathlib.Core.Path.{_≡_, refl, sym, ap, ap₂, _∙_, subst}
-use mathlib.Core.Bool.{Bool, true, false, cond}
+use mathlib.Core.Path.{_≡_, sym, ap, ap₂, _∙_}
 use mathlib.Core.Logic.{_≢_, _⊎_, inl, inr}
-use mathlib.Core.List.{List, [], _∷_}
+use mathlib.Core.List.{List, _∷_}
 use Prim.Native.Nat.{ℕ, zero, suc, _+_, _-_, _*_, _/_, _%_, _≤_, _<_}
-use native.Mathlib.Decide.{decLt}
 use native.Mathlib.Omega.{arith}
-use borrow.Author.Tests.{lt-ltb, le-ltb}
-use lib.Dec.{ltb}
 use lib.ListN.{length, getD, drop}
 use Rattle.span.specs.Word.{_⊕_, bit}
 use Rattle.span.proofs.Word.{xor-zero-r}
 use Rattle.link.specs.Memory.{started}
 use Rattle.link.specs.Recovery.{Separated}
 use Rattle.link.proofs.Bursts.{bursts-separated, bursts-longer}
-use Rattle.iwadare.specs.declared.decode.DecodeAnswer.{DecodeAnswer}
-use Rattle.iwadare.specs.declared.decode.DecodeAnswer.the-variants.{Delivery, NothingYet}
-use Rattle.iwadare.specs.Memory.{coderWords, decoderWords, delay, coderPending, fillOf, pendingOf, fillNext}
-use Rattle.iwadare.specs.Decoder.{decoderNext, delivered, delivery}
-use Rattle.iwadare.specs.Runs.{Sent, Taken, sentBy, takenBy, noneSent, noneTaken, sentAt, takenAt}
+use Rattle.iwadare.specs.declared.decode.DecodeAnswer.the-variants.{Delivery}
+use Rattle.iwadare.specs.Memory.{coderWords, decoderWords, delay, coderPending, pendingOf}
+use Rattle.iwadare.specs.Decoder.{delivered}
+use Rattle.iwadare.specs.Runs.{Sent, Taken, sentBy, takenBy, noneSent, sentAt, takenAt}
 use Rattle.iwadare.specs.Taps.{infoSent, blockSent, blockTaken}
-use Rattle.iwadare.specs.Correction.{WrongBit, BitBursts, Corrected, CorrectionWith, IWADARE-CORRECTION}
+use Rattle.iwadare.specs.Correction.{WrongBit, Corrected, IWADARE-CORRECTION}
 use Rattle.iwadare.specs.Correction.{IWADARE-CORRECTION-TEN}
-use Rattle.iwadare.proofs.Runs.{CoderRun, DecoderRun, coderBefore, decoderBefore, coder-first, decoder-first}
+use Rattle.iwadare.proofs.Runs.{coderBefore, decoderBefore, coder-first, decoder-first}
 use Rattle.iwadare.proofs.Runs.{coded, decoded, answerTaken}
 use Rattle.iwadare.proofs.Delivery.{answers-complete}
 use Rattle.iwadare.proofs.Patterns.{quiet}
-use Rattle.iwadare.proofs.Settled.{Spread, ErrorRun, quiet-on}
-use Rattle.iwadare.proofs.Errors.{Linked, errors, errorMemory, error-first, error-next, errors-below, errors-bit, delivers}
+use Rattle.iwadare.proofs.Settled.{Spread, quiet-on}
+use Rattle.iwadare.proofs.Errors.{Linked, errors, errorMemory, error-first, error-next, errors-below, errors-bit}
+use Rattle.iwadare.proofs.Errors.{delivers}
 
 -- ---- two runs
 

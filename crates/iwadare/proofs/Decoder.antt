@@ -10,16 +10,17 @@
 use mathlib.Core.Path.{_≡_, refl, ap, _∙_}
 use mathlib.Core.Bool.{Bool, true, false, cond, not, _||_}
 use mathlib.Core.List.{List, [], _∷_}
-use Prim.Native.Nat.{ℕ, _+_, _^_, _≤_, _<_}
+use Prim.Native.Nat.{ℕ, _^_, _<_}
 use native.Mathlib.Omega.{arith}
 use borrow.Author.Tests.{leb-false, ltb-false}
 use lib.Dec.{leb, ltb, eqb}
-use lib.ListN.{length, getD}
+use lib.ListN.{length}
 use Rattle.span.specs.Word.{sel}
 use Rattle.span.proofs.Word.{xor-lt, sel-lt}
 use Rattle.span.proofs.Masks.{topped-lt}
 use Rattle.link.specs.Refusals.{someAbove}
 use Rattle.link.proofs.Refusals.{or-none, refuses, takes, call-numbers}
+use Rattle.link.proofs.Malformed.{some-none}
 use Rattle.iwadare.specs.declared.decode.DecodeAnswer.{DecodeAnswer}
 use Rattle.iwadare.specs.declared.decode.DecodeAnswer.the-variants.{Delivery, NothingYet, Refused}
 use Rattle.iwadare.specs.Memory.{decoderWords, delay, fillOf, pendingOf, termsOf, wordBack, delayedBack}
@@ -28,7 +29,7 @@ use Rattle.iwadare.specs.Refusals.{decoderMalformed, decoderFault}
 use Rattle.iwadare.specs.Formed.{DecoderFormed}
 use Rattle.iwadare.specs.Decoder.{rawOf, registerOf, flipsSymbol0, decoderNext, delivered, delivery}
 use Rattle.iwadare.specs.Decoder.{decodeAnswer, decodeMemory, decodeNumbers, decodeValues, Decodes}
-use Rattle.iwadare.proofs.Refusals.{step-fault, step-passed, some-none}
+use Rattle.iwadare.proofs.Refusals.{step-fault, step-passed}
 
 -- ---- refusals
 

@@ -1,21 +1,20 @@
--- Which block a delivery is of: a block joins as number 17 of the delayed ones, moves to number 3, may be flipped there,
--- and moves to number 0. Assumes nothing.
+-- Which block a delivery is of: a block joins as number 17 of the delayed ones, moves to number 3, may be flipped
+-- there, and moves to number 0. Assumes nothing.
 --
---   fill-complete, fill-waits   the fill
+--   answers-complete, answers-waiting   what is answered, by the fill
 --   kept, flipped-once, oldest  a block on its way
 --   waiting, deliveries         the theorems
 use mathlib.Core.Path.{_≡_, refl, sym, ap, ap₂, _∙_}
 use mathlib.Core.Bool.{Bool, cond}
-use mathlib.Core.Logic.{_≢_, _⊎_, inl, inr}
 use mathlib.Core.List.{List}
 use Prim.Native.Nat.{ℕ, zero, suc, _+_, _-_, _%_, _^_, _≤_, _<_}
 use native.Mathlib.Nat.{add-zero}
-use native.Mathlib.Decide.{decLt}
 use native.Mathlib.Omega.{arith}
 use borrow.Author.Tests.{lt-ltb, le-ltb}
 use lib.ListN.{length, getD}
 use Rattle.span.specs.Word.{_⊕_, sel}
 use Rattle.link.specs.Runs.{run, placed}
+use Rattle.link.proofs.Fill.{fill-complete, fill-waits}
 use Rattle.iwadare.specs.declared.decode.DecodeAnswer.{DecodeAnswer}
 use Rattle.iwadare.specs.declared.decode.DecodeAnswer.the-variants.{Delivery, NothingYet}
 use Rattle.iwadare.specs.Memory.{fillOf, fillNext}
@@ -34,47 +33,20 @@ module _ {S : ℕ → List ℕ} {R : ℕ → ℕ} {A : ℕ → DecodeAnswer} {co
   fill-on : (p : ℕ) → p < count → fillOf (S (suc p)) ≡ fillNext (fillOf (S p))
   fill-on p h = r .decodes p h .fill-on
 
-  fill-next : (f : ℕ) → (f < 18 → fillNext f ≡ f + 1) × (18 ≤ f → fillNext f ≡ f)
-  fill-next f = (λ h. rw (lt-ltb f 18 h), λ h. rw (le-ltb f 18 h))
-
-  fill-complete : (p : ℕ) → p < count → (p ≤ fillOf (S p)) ⊎ (18 ≤ fillOf (S p))
-  fill-complete zero h = inl (omega arith)
-  fill-complete (suc p) h = go (fill-complete p (omega arith)) (decLt (fillOf (S p)) 18)
-    where
-      on : fillOf (S (suc p)) ≡ fillNext (fillOf (S p))
-      on = fill-on p (omega arith)
-
-      go : (p ≤ fillOf (S p)) ⊎ (18 ≤ fillOf (S p)) → Dec (fillOf (S p) < 18)
-          → (suc p ≤ fillOf (S (suc p))) ⊎ (18 ≤ fillOf (S (suc p)))
-      go (inl k) (yes l) = inl (let z = fill-next (fillOf (S p)) .0 l in let o = on in omega arith)
-      go (inr k) (yes l) = absurd (omega arith)
-      go k (no l) = inr (let z = fill-next (fillOf (S p)) .1 (omega arith) in let o = on in omega arith)
-
-  fill-waits : (p : ℕ) → p < count → fillOf (S 0) + p < 18 → fillOf (S p) ≡ fillOf (S 0) + p
-  fill-waits zero h l = omega arith
-  fill-waits (suc p) h l =
-      let z = fill-waits p (omega arith) (omega arith) in
-      let o = fill-on p (omega arith) in
-      let n = fill-next (fillOf (S p)) .0 (omega arith) in
-      omega arith
-
   pub answers-complete : (p : ℕ) → p < count → 18 ≤ p → A p ≡ Delivery (delivered (S p) (R p))
   unfolding delivery
   answers-complete p h from =
       r .answers p h
       ∙ ap (λ (b : Bool). cond b NothingYet (Delivery (delivered (S p) (R p))))
-      (le-ltb (fillOf (S p)) 18 (full (fill-complete p h)))
-    where
-      full : (p ≤ fillOf (S p)) ⊎ (18 ≤ fillOf (S p)) → 18 ≤ fillOf (S p)
-      full (inl k) = omega arith
-      full (inr k) = k
+      (le-ltb (fillOf (S p)) 18 (fill-complete (λ q. fillOf (S q)) 18 count fill-on p (omega arith) from))
 
   answers-waiting : (p : ℕ) → p < count → fillOf (S 0) + p < 18 → A p ≡ NothingYet
   unfolding delivery
   answers-waiting p h l =
       r .answers p h
       ∙ ap (λ (b : Bool). cond b NothingYet (Delivery (delivered (S p) (R p))))
-      (lt-ltb (fillOf (S p)) 18 (let z = fill-waits p h l in omega arith))
+      (lt-ltb (fillOf (S p)) 18
+      (let z = fill-waits (λ q. fillOf (S q)) 18 count fill-on p (omega arith) in omega arith))
 
   -- ---- a block on its way, from the place q at which it is taken
 

@@ -10,9 +10,9 @@
 --   delivers               where it delivers zero, the decoder delivers what was sent
 use mathlib.Core.Path.{_≡_, refl, sym, ap, ap₂, _∙_, subst}
 use mathlib.Core.Bool.{Bool, true, false, cond, xor, true≢false}
-use mathlib.Core.Logic.{_≢_, _⊎_, inl, inr}
+use mathlib.Core.Logic.{_≢_}
 use mathlib.Core.List.{List, [], _∷_, _++_}
-use Prim.Native.Nat.{ℕ, zero, suc, _+_, _-_, _*_, _/_, _%_, _^_, _≤_, _<_}
+use Prim.Native.Nat.{ℕ, zero, suc, _+_, _-_, _/_, _%_, _^_, _≤_, _<_}
 use native.Mathlib.Nat.{add-zero}
 use native.Mathlib.Decide.{decLt, ℕ-discrete}
 use native.Mathlib.Omega.{arith}
@@ -21,7 +21,7 @@ use lib.Dec.{leb, ltb}
 use lib.ListN.{length, getD, drop, length-drop}
 use lib.Seq.{getD-drop}
 use lib.Pow.{pow-pos}
-use Rattle.span.specs.Word.{_⊕_, odd, bit, sel, digit}
+use Rattle.span.specs.Word.{_⊕_, odd, bit, sel}
 use Rattle.span.specs.Combination.{combination}
 use Rattle.span.proofs.Word.{xor-zero-r, xor-comm, xor-assoc, xor-lt, xor-mod, xor-eq, xor-self-bool, bit-xor, bit-none}
 use Rattle.span.proofs.Masks.{topped-lt}
@@ -29,10 +29,10 @@ use Rattle.link.specs.Memory.{joining}
 use Rattle.link.specs.Step.{register}
 use Rattle.link.proofs.Step.{joined-half, joined-odd, both-half, both-odd, coder-info}
 use Rattle.iwadare.specs.declared.decode.DecodeAnswer.{DecodeAnswer}
-use Rattle.iwadare.specs.declared.decode.DecodeAnswer.the-variants.{Delivery}
 use Rattle.iwadare.specs.Memory.{generators, coderPending, fillOf, pendingOf, termsOf, fillNext}
-use Rattle.iwadare.specs.Decoder.{decoderJoining, rawOf, registerOf, flipsSymbol1, flipsSymbol0, termsNext, decoderNext}
-use Rattle.iwadare.specs.Decoder.{delivered, delivery}
+use Rattle.iwadare.specs.Decoder.{decoderJoining, rawOf, registerOf, flipsSymbol1, flipsSymbol0, termsNext}
+use Rattle.iwadare.specs.Decoder.{decoderNext}
+use Rattle.iwadare.specs.Decoder.{delivered}
 use Rattle.iwadare.proofs.Runs.{CoderRun, DecoderRun}
 use Rattle.iwadare.proofs.Words.{CoderStep, delayed, DecoderStep, decoder-step}
 
@@ -108,7 +108,8 @@ module _ {M S : ℕ → List ℕ} {B C R : ℕ → ℕ} {A : ℕ → DecodeAnswe
     unfolding rawOf decoderJoining
     raw-same g =
         sym (joined-odd generators 2 refl (pendingOf (errorMemory p)) (errors p)) ∙ ap odd (joins-same g)
-        ∙ both-odd generators 2 refl (coderPending (M p)) (pendingOf (S p)) (B p) (C p) (R p) (sends .info-lt) (sends .coded)
+        ∙ both-odd generators 2 refl (coderPending (M p)) (pendingOf (S p)) (B p) (C p) (R p) (sends .info-lt)
+        (sends .coded)
 
     register-same : Agree p → registerOf (errorMemory p) (errors p) ≡ registerOf (S p) (R p)
     unfolding registerOf
@@ -129,7 +130,8 @@ module _ {M S : ℕ → List ℕ} {B C R : ℕ → ℕ} {A : ℕ → DecodeAnswe
       pending =
           a .pending-on ∙ sym (joined-half generators 2 refl (pendingOf (errorMemory p)) (errors p))
           ∙ ap (λ (x : ℕ). x / 2) (joins-same g)
-          ∙ both-half generators 2 refl (coderPending (M p)) (pendingOf (S p)) (B p) (C p) (R p) (sends .info-lt) (sends .coded)
+          ∙ both-half generators 2 refl (coderPending (M p)) (pendingOf (S p)) (B p) (C p) (R p) (sends .info-lt)
+          (sends .coded)
           ∙ sym (ap₂ _⊕_ (takes .pending-on) (sends .pending-on));
       terms = a .terms-on ∙ ap termsNext (register-same g) ∙ sym (takes .terms-on);
       delays = λ i k. late-on i k (ℕ-discrete i 17) (ℕ-discrete i 2);
@@ -147,7 +149,8 @@ module _ {M S : ℕ → List ℕ} {B C R : ℕ → ℕ} {A : ℕ → DecodeAnswe
             ap (delayed (decoderNext (errorMemory p) (errors p))) e ∙ a .youngest
             ∙ ap (λ (x : ℕ). x % 2 ^ 2) (errors-in p h) ∙ xor-mod (R p) (C p) 2
             ∙ ap₂ _⊕_ (sym (ap (delayed (S (suc p))) e ∙ takes .youngest))
-            (coder-info generators 2 refl (coderPending (M p)) (pendingOf (S p)) (B p) (C p) (R p) (sends .info-lt) (sends .coded)
+            (coder-info generators 2 refl (coderPending (M p)) (pendingOf (S p)) (B p) (C p) (R p) (sends .info-lt)
+            (sends .coded)
             ∙ sym (late-is (suc p + i) p (omega arith)))
         late-on i k (no e) (yes d) =
             ap (delayed (decoderNext (errorMemory p) (errors p))) d ∙ a .flipped

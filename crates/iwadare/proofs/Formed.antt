@@ -1,48 +1,37 @@
 -- Well-formed memories: what 13 and 14 let pass, a start makes, and the steps keep. Assumes nothing.
 use mathlib.Core.Path.{_≡_, refl, sym, ap, _∙_, subst}
-use mathlib.Core.Bool.{Bool, true, false, cond}
-use mathlib.Core.Logic.{_≢_, _↔_}
+use mathlib.Core.Bool.{false}
 use mathlib.Core.List.{List}
-use Prim.Native.Nat.{ℕ, zero, suc, _+_, _/_, _%_, _^_, _≤_, _<_}
+use Prim.Native.Nat.{ℕ, suc, _+_, _/_, _%_, _^_, _≤_, _<_}
 use native.Mathlib.Decide.{decLt, ℕ-discrete}
 use native.Mathlib.Omega.{arith}
 use borrow.Author.Tests.{lt-ltb, le-ltb, lt-leb, leb-false}
-use lib.Dec.{leb, ltb}
-use lib.ListN.{length, getD, length-replicate, length-set}
-use Rattle.span.specs.Word.{_⊕_, sel}
+use lib.Dec.{leb}
+use Rattle.span.specs.Word.{sel}
 use Rattle.span.specs.Combination.{combination}
 use Rattle.span.proofs.Word.{xor-lt, sel-lt}
 use Rattle.tables.proofs.Fit.{zeros-at}
-use Rattle.link.specs.Memory.{started, joining}
-use Rattle.link.specs.Refusals.{someAbove}
+use Rattle.link.specs.Memory.{joining}
 use Rattle.link.proofs.Refusals.{none-or}
+use Rattle.link.proofs.Malformed.{none-above}
 use Rattle.link.proofs.Runs.{ran-keeps}
 use Rattle.iwadare.specs.Memory.{generators, coderWords, coderPending, pendingBound, decoderWords, delay, fillOf}
 use Rattle.iwadare.specs.Memory.{pendingOf, termsOf, termsBound, wordBack, delayedBound, receivedBound, fillNext}
 use Rattle.iwadare.specs.Refusals.{coderMalformed, decoderMalformed, coderFault, decoderFault}
 use Rattle.iwadare.specs.Coder.{coderNext, codeMemory}
 use Rattle.iwadare.specs.Decoder.{registerOf, flipsSymbol1, decoderNext, decodeMemory}
-use Rattle.iwadare.specs.Runs.{handed, noneSent, noneTaken, Sent, Taken}
+use Rattle.iwadare.specs.Runs.{handed, noneSent, noneTaken}
 use Rattle.iwadare.specs.Formed.{CoderFormed, DecoderFormed, IWADARE-FORMED-EXACTLY, IWADARE-FORMED-STEPS}
 use Rattle.iwadare.specs.Formed.{IWADARE-STARTED-FORMED, IWADARE-FORMED-THROUGHOUT}
 use Rattle.iwadare.proofs.Refusals.{step-settled}
 use Rattle.iwadare.proofs.Coder.{coder-taken}
 use Rattle.iwadare.proofs.Decoder.{formed-passed, decoder-taken, register-lt}
-use Rattle.iwadare.proofs.Words.{CoderStep, coder-step, delayed, DecoderStep, decoder-step, terms-lt}
+use Rattle.iwadare.proofs.Words.{coder-step, delayed, DecoderStep, decoder-step, terms-lt}
 use Rattle.iwadare.proofs.Taps.{images}
 use Rattle.iwadare.proofs.Runs.{None, coder-memory, decoder-memory, sentKept, sentEntry, sent-told, takenKept}
 use Rattle.iwadare.proofs.Runs.{takenEntry, taken-told}
 
 -- ---- 13 and 14
-
-none-above : (bound : ℕ) (s : List ℕ) (from i : ℕ) → ((j : ℕ) → j < i → getD s (from + j) 0 < bound)
-    → someAbove bound s from i ≡ false
-unfolding someAbove
-none-above bound s from zero h = refl
-none-above bound s from (suc i) h =
-    none-or (someAbove bound s from i) (leb bound (getD s (from + i) 0))
-    (none-above bound s from i (λ j l. h j (omega arith)))
-    (lt-leb bound (getD s (from + i) 0) (h i (omega arith)))
 
 decoder-fine : (s : List ℕ) → DecoderFormed s → decoderMalformed s ≡ false
 decoder-fine s f =
@@ -123,7 +112,8 @@ decoder-kept s r e = record {
 
     low : (i : ℕ) → i < 18 → Dec (i ≡ 17) → Dec (i ≡ 2) → delayed (decoderNext s r) i < 4
     low i h (yes d) c =
-        subst (λ (x : ℕ). x < 4) (sym (ap (delayed (decoderNext s r)) d ∙ k .youngest)) (let z : r % 4 < 4 = omega arith in z)
+        subst (λ (x : ℕ). x < 4) (sym (ap (delayed (decoderNext s r)) d ∙ k .youngest))
+        (let z : r % 4 < 4 = omega arith in z)
     low i h (no d) (yes c) =
         subst (λ (x : ℕ). x < 4) (sym (ap (delayed (decoderNext s r)) c ∙ k .flipped))
         (xor-lt 2 (delayed s 3) (sel (flipsSymbol1 (registerOf s r)) 2) (f .delayed 3 (omega arith))

@@ -1,27 +1,27 @@
--- A decoder on errors alone, of which the first `many` blocks are right: 18 of them leave its pending word 0, 12 more its
--- terms, and no flip comes any more that could have reached a block of these. Assumes nothing.
+-- A decoder on errors alone, of which the first `many` blocks are right: 18 of them leave its pending word 0, 12 more
+-- its terms, and no flip comes any more that could have reached a block of these. Assumes nothing.
 --
 --   guard-delivers   past 21 of them each delivers zero
 --   guarded          after 30 of them the memory is quiet
-use mathlib.Core.Path.{_≡_, refl, sym, ap, ap₂, _∙_, subst}
+use mathlib.Core.Path.{_≡_, sym, ap, ap₂, _∙_, subst}
 use mathlib.Core.Bool.{Bool, false, xor}
-use mathlib.Core.Logic.{_≢_, _⊎_, inl, inr}
-use mathlib.Core.List.{List, [], _∷_}
-use Prim.Native.Nat.{ℕ, zero, suc, _+_, _-_, _*_, _/_, _%_, _^_, _≤_, _<_}
+use mathlib.Core.Logic.{_⊎_, inl, inr}
+use mathlib.Core.List.{List}
+use Prim.Native.Nat.{ℕ, zero, suc, _+_, _-_, _/_, _%_, _^_, _≤_, _<_}
 use native.Mathlib.Nat.{add-zero}
 use native.Mathlib.Decide.{ℕ-discrete}
 use native.Mathlib.Omega.{arith}
-use lib.ListN.{length, getD, replicate}
+use lib.ListN.{length, getD}
 use lib.Seq.{ext-getD}
-use Rattle.span.specs.Word.{_⊕_, odd, bit, sel, digit}
-use Rattle.span.specs.Combination.{combination}
-use Rattle.span.proofs.Word.{xor-zero-r, bit-none}
+use Rattle.span.specs.Word.{_⊕_, odd, bit, sel}
+use Rattle.span.proofs.Word.{xor-zero-r}
 use Rattle.span.proofs.Combination.{combination-zero}
 use Rattle.tables.proofs.Fit.{zeros-at}
 use Rattle.link.specs.Memory.{joining}
 use Rattle.link.specs.Step.{register}
 use Rattle.iwadare.specs.Memory.{generators, fillOf, pendingOf, termsOf, fillNext}
-use Rattle.iwadare.specs.Decoder.{decoderJoining, rawOf, registerOf, flipsSymbol1, flipsSymbol0, termsNext, decoderNext}
+use Rattle.iwadare.specs.Decoder.{decoderJoining, rawOf, registerOf, flipsSymbol1, flipsSymbol0, termsNext}
+use Rattle.iwadare.specs.Decoder.{decoderNext}
 use Rattle.iwadare.specs.Decoder.{delivered}
 use Rattle.iwadare.proofs.Decoder.{register-lt}
 use Rattle.iwadare.proofs.Words.{delayed, DecoderStep, decoder-step, no-flip-symbol1, no-flip-symbol0}
@@ -60,7 +60,8 @@ module _ (s : List ℕ) (size : length s ≡ 21) where
   tail-on : (j : ℕ) → 3 ≤ j ⊎ (flipsSymbol1 (registerOf s 0) ≡ false) → Tail (suc j) s → Tail j (decoderNext s 0)
   tail-on j c t i from to = go (ℕ-discrete i 17) (ℕ-discrete i 2) c
     where
-      go : Dec (i ≡ 17) → Dec (i ≡ 2) → 3 ≤ j ⊎ (flipsSymbol1 (registerOf s 0) ≡ false) → delayed (decoderNext s 0) i ≡ 0
+      go : Dec (i ≡ 17) → Dec (i ≡ 2) → 3 ≤ j ⊎ (flipsSymbol1 (registerOf s 0) ≡ false)
+          → delayed (decoderNext s 0) i ≡ 0
       go (yes e) d c = ap (delayed (decoderNext s 0)) e ∙ step .youngest
       go (no e) (no d) c = step .moved i (omega arith) d ∙ t (suc i) (omega arith) (omega arith)
       go (no e) (yes d) (inl l) = absurd (omega arith)

@@ -7,7 +7,7 @@
 --   quiet-next, quiet-delivers   a right block leaves it
 --   settles s es          from s on, the blocks es deliver zeros only and end in the quiet memory
 --   calm                  18 right blocks
---   patterns s bounds     so does each list of blocks below these bounds that ends with a wrong one, with the calm after
+--   patterns s bounds     so does each list of blocks below these bounds that ends with a wrong one, and the calm
 --   roomOf e              what the fourth block is below, after a first block e
 --   tested e              the test of all bursts with the first block e
 --   computed              it holds of all of them
@@ -25,7 +25,8 @@ use Rattle.span.specs.Combination.{combination}
 use Rattle.tables.proofs.Fit.{and-left, and-right}
 use Rattle.tables.proofs.Every.{every, every-at}
 use Rattle.link.specs.Memory.{joining}
-use Rattle.iwadare.specs.Decoder.{decoderJoining, rawOf, registerOf, flipsSymbol1, flipsSymbol0, matched, termsNext}
+use Rattle.iwadare.specs.Decoder.{decoderJoining, rawOf, registerOf, flipsSymbol1, flipsSymbol0, matched}
+use Rattle.iwadare.specs.Decoder.{termsNext}
 use Rattle.iwadare.specs.Decoder.{decoderNext, delivered}
 
 abbrev pub quiet : List ℕ
@@ -78,8 +79,8 @@ unfolding roomOf
 room-last e p q = rw (p, q)
 
 pub quiet-next : decoderNext quiet 0 ≡ quiet
-unfolding decoderNext termsNext matched flipsSymbol0 flipsSymbol1 registerOf rawOf decoderJoining joining combination bit odd
-    xor _⊕_
+unfolding decoderNext termsNext matched flipsSymbol0 flipsSymbol1 registerOf rawOf decoderJoining joining combination
+    bit odd xor _⊕_
 quiet-next = refl
 
 pub quiet-delivers : delivered quiet 0 ≡ 0

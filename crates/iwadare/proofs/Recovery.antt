@@ -1,7 +1,7 @@
 -- Recovery of these stations: 30 right blocks settle the decoder on errors alone, whatever the memories were, and past
 -- 21 each delivers zero. Assumes nothing.
 use mathlib.Core.Path.{_≡_, ap, _∙_}
-use Prim.Native.Nat.{ℕ, zero, suc, _+_, _*_, _≤_, _<_}
+use Prim.Native.Nat.{ℕ, zero, suc, _*_, _≤_, _<_}
 use mathlib.Core.List.{List}
 use native.Mathlib.Decide.{decLt}
 use native.Mathlib.Omega.{arith}
@@ -43,8 +43,8 @@ recovery coder decoder bs rs enough right bursts p after inside =
     let l = linked coder decoder bs rs enough in
     let f = first-formed l (omega arith) in
     right-from coder decoder bs rs enough apart 30
-    (guarded (errorMemory l) (errors l) (error-next l) 30 (still coder decoder bs rs enough 30 right) (f .size) (f .fill) (f .pending) (f .terms)
-    (omega arith))
+    (guarded (errorMemory l) (errors l) (error-next l) 30 (still coder decoder bs rs enough 30 right) (f .size) (f .fill)
+    (f .pending) (f .terms) (omega arith))
     p after (omega arith) inside
 
 pub guard-end : IWADARE-GUARD-END
@@ -53,5 +53,5 @@ guard-end coder decoder bs rs enough (suc p) after inside right =
     let l = linked coder decoder bs rs enough in
     let f = first-formed l (omega arith) in
     right-at coder decoder bs rs enough p (omega arith) (omega arith)
-    (guard-delivers (errorMemory l) (errors l) (error-next l) (suc p) (still coder decoder bs rs enough (suc p) right) (f .size) (f .fill)
-    (f .pending) (f .terms) p (omega arith) (omega arith))
+    (guard-delivers (errorMemory l) (errors l) (error-next l) (suc p) (still coder decoder bs rs enough (suc p) right)
+    (f .size) (f .fill) (f .pending) (f .terms) p (omega arith) (omega arith))

@@ -4,19 +4,15 @@
 --   step-fault            the chain
 --   step-settled          the same once 13 is settled
 --   Passed, step-passed   what no refusal says
---   some-none             no word is above a bound
-use mathlib.Core.Path.{_≡_, sym, ap, subst, _∙_}
+use mathlib.Core.Path.{_≡_, ap, _∙_}
 use mathlib.Core.Bool.{Bool, false, cond, not}
 use mathlib.Core.List.{List, [], _∷_}
-use Prim.Native.Nat.{ℕ, zero, suc, _+_, _<_}
-use native.Mathlib.Decide.{ℕ-discrete}
+use Prim.Native.Nat.{ℕ, _<_}
 use native.Mathlib.Omega.{arith}
 use borrow.Author.Tests.{eq-eqb, eqb-true, leb-false, not-false}
 use lib.Dec.{leb, eqb}
-use lib.ListN.{length, getD}
+use lib.ListN.{length}
 use Rattle.tables.proofs.Refusal.{first-nil, first-cons, first-none}
-use Rattle.link.specs.Refusals.{someAbove}
-use Rattle.link.proofs.Refusals.{or-none}
 use Rattle.iwadare.specs.Refusals.{stepFault}
 
 module _ (words : ℕ) (malformed : Bool) (bound : ℕ) (s : List ℕ) (b : ℕ) where
@@ -55,15 +51,3 @@ module _ (words : ℕ) (malformed : Bool) (bound : ℕ) (s : List ℕ) (b : ℕ)
         formed = q .0;
         block = leb-false bound b (r .0);
       }
-
-pub some-none : (bound : ℕ) (s : List ℕ) (from i : ℕ) → someAbove bound s from i ≡ false → (j : ℕ) → j < i
-    → getD s (from + j) 0 < bound
-unfolding someAbove
-some-none bound s from zero e j h = absurd (omega arith)
-some-none bound s from (suc i) e j h =
-    let b = or-none (someAbove bound s from i) (leb bound (getD s (from + i) 0)) e in
-    go (ℕ-discrete j i) (leb-false bound (getD s (from + i) 0) (b .1)) (some-none bound s from i (b .0) j)
-  where
-    go : Dec (j ≡ i) → getD s (from + i) 0 < bound → (j < i → getD s (from + j) 0 < bound) → getD s (from + j) 0 < bound
-    go (yes q) last rest = subst (λ (k : ℕ). getD s (from + k) 0 < bound) (sym q) last
-    go (no q) last rest = rest (omega arith)

@@ -14,7 +14,7 @@ use lib.Dec.{ltb, eqb}
 use lib.ListN.{length, getD}
 use Rattle.link.specs.declared.code.CodeAnswer.the-variants.{Coded, Refused as CodeRefused}
 use Rattle.link.specs.Refusals.{answered, leaves}
-use Rattle.link.specs.Runs.{CallOf, run, ran, placed}
+use Rattle.link.specs.Runs.{run, ran, placed}
 use Rattle.link.proofs.Runs.{before, before-first, Told, Place, run-place, skipped}
 use Rattle.iwadare.specs.declared.decode.DecodeAnswer.{DecodeAnswer}
 use Rattle.iwadare.specs.declared.decode.DecodeAnswer.the-variants.{Delivery, NothingYet, Refused}

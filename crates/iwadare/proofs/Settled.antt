@@ -7,10 +7,10 @@
 --   some-bit            a wrong block has a wrong bit
 --   quiet-on            the theorem
 use mathlib.Core.Path.{_≡_, refl, sym, ap, ap₂, _∙_, subst}
-use mathlib.Core.Bool.{Bool, true, false, cond}
+use mathlib.Core.Bool.{Bool, true, false}
 use mathlib.Core.Logic.{_≢_, _⊎_, inl, inr}
 use mathlib.Core.List.{List, [], _∷_}
-use Prim.Native.Nat.{ℕ, zero, suc, _+_, _-_, _*_, _^_, _≤_, _<_}
+use Prim.Native.Nat.{ℕ, zero, suc, _+_, _-_, _*_, _≤_, _<_}
 use native.Mathlib.Nat.{add-zero}
 use native.Mathlib.Decide.{decLt, ℕ-discrete}
 use native.Mathlib.Omega.{arith}
@@ -18,7 +18,7 @@ use lib.ListN.{length, getD, replicate}
 use Rattle.span.specs.Word.{bit}
 use Rattle.span.proofs.Linear.{top-none, bits-none}
 use Rattle.iwadare.specs.Decoder.{decoderNext, delivered}
-use Rattle.iwadare.proofs.Patterns.{quiet, quiet-next, quiet-delivers, settles, calm, patterns, roomOf, Goes}
+use Rattle.iwadare.proofs.Patterns.{quiet, quiet-next, quiet-delivers, settles, patterns, roomOf, Goes}
 use Rattle.iwadare.proofs.Patterns.{settles-end, settles-more, settles-so, patterns-go, first-goes, room-odd}
 use Rattle.iwadare.proofs.Patterns.{room-second, room-last}
 
@@ -194,7 +194,8 @@ module _ {E : ℕ → List ℕ} {e : ℕ → ℕ} (r : ErrorRun E e) where
       go : Dec (e c ≡ 0) → Dec (l .at + suc j < 4) → e c ≡ 0
       go (yes k) d = k
       go (no k) (yes d) =
-          ap e (let q : c ≡ a + (l .at + suc j) = omega arith in q) ∙ l .none (l .at + suc j) (omega arith) (omega arith)
+          ap e (let q : c ≡ a + (l .at + suc j) = omega arith in q)
+          ∙ l .none (l .at + suc j) (omega arith) (omega arith)
       go (no k) (no d) = far (some-bit (e a) (r .spread .below a) ne)
           (some-bit (e (a + l .at)) (r .spread .below (a + l .at)) (l .wrong)) (some-bit (e c) (r .spread .below c) k)
         where

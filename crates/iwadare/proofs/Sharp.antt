@@ -1,6 +1,6 @@
 -- Three runs that go wrong, computed. Assumes nothing.
 use mathlib.Core.Path.{_≡_, refl, sym, ap, _∙_}
-use mathlib.Core.Bool.{true, false, xor}
+use mathlib.Core.Bool.{true, xor}
 use mathlib.Core.List.{List, [], _∷_, _++_}
 use Prim.Native.Nat.{ℕ, _+_, _-_, _*_, _^_, _≤_, _<_}
 use native.Mathlib.Omega.{arith}
@@ -12,14 +12,15 @@ use Rattle.tables.proofs.Every.{every}
 use Rattle.link.specs.Memory.{started, joining}
 use Rattle.link.specs.Refusals.{someAbove, answered, leaves}
 use Rattle.link.specs.Runs.{run}
-use Rattle.link.specs.Recovery.{Stretch, Burst, Chosen}
+use Rattle.link.specs.Recovery.{Stretch, Burst}
 use Rattle.iwadare.specs.declared.decode.DecodeAnswer.the-variants.{Delivery}
 use Rattle.iwadare.specs.Memory.{coderWords, decoderWords}
 use Rattle.iwadare.specs.Refusals.{stepFault, coderFault, decoderFault}
 use Rattle.iwadare.specs.Coder.{coderJoining, codedBlock, coderNext, codeAnswer, codeMemory}
-use Rattle.iwadare.specs.Decoder.{decoderJoining, rawOf, registerOf, flipsSymbol1, flipsSymbol0, matched, termsNext}
+use Rattle.iwadare.specs.Decoder.{decoderJoining, rawOf, registerOf, flipsSymbol1, flipsSymbol0, matched}
+use Rattle.iwadare.specs.Decoder.{termsNext}
 use Rattle.iwadare.specs.Decoder.{decoderNext, delivered, delivery, decodeAnswer, decodeMemory}
-use Rattle.iwadare.specs.Runs.{Sent, Taken, sentBy, takenBy, sentAt, takenAt, bitSent, bitTaken}
+use Rattle.iwadare.specs.Runs.{Sent, Taken, sentBy, takenBy, sentAt, takenAt}
 use Rattle.iwadare.specs.Correction.{WrongBit, BitBursts, Corrected}
 use Rattle.iwadare.specs.Sharp.{IWADARE-LENGTH-SHARP, IWADARE-GAP-SHARP, IWADARE-GUARD-SHARP}
 use Rattle.iwadare.proofs.Computed.{agrees, lies, Ends, burst-so, covers, bursts-so, starts-right, right-so}
@@ -69,8 +70,8 @@ computed : (Shown longTaken 53 (at 93 103 ∷ []) 1 × Ends (zerosSent 53) longT
     × (Shown earlyTaken 33 (at 90 90 ∷ []) 2 × Ends (zerosSent 33) earlyTaken (at 90 90)
     × (starts-right (zerosSent 33) earlyTaken 29 ≡ true))
 unfolding run codeAnswer codeMemory decodeAnswer decodeMemory answered leaves stepFault coderFault decoderFault
-    someAbove firstOf coderJoining codedBlock coderNext decoderJoining rawOf registerOf flipsSymbol1 flipsSymbol0 matched
-    termsNext decoderNext delivered delivery joining combination every covers starts-right agrees lies bit odd xor _⊕_
+    someAbove firstOf coderJoining codedBlock coderNext decoderJoining rawOf registerOf flipsSymbol1 flipsSymbol0
+    matched termsNext decoderNext delivered delivery joining combination every covers starts-right agrees lies bit odd xor _⊕_
 computed = (
   (
     record { takes = refl; sends = refl; covering = refl; answers = refl; info = refl },
@@ -136,8 +137,11 @@ close-bursts long some =
 early-bursts : (long gap : ℕ) → 1 ≤ long → BitBursts long gap (zerosSent 33) earlyTaken
 early-bursts long gap some =
     let n = computed .2 .0 .takes in
-    bursts-so (zerosSent 33) earlyTaken long gap (at 90 90 ∷ []) (computed .2 .0 .covering)
-    (burst earlyTaken 33 long (at 90 90) (computed .2 .1) (omega arith) (omega arith) (omega arith) (omega arith), tt, tt)
+    bursts-so (zerosSent 33) earlyTaken long gap (at 90 90 ∷ []) (computed .2 .0 .covering) (
+      burst earlyTaken 33 long (at 90 90) (computed .2 .1) (omega arith) (omega arith) (omega arith) (omega arith),
+      tt,
+      tt,
+    )
 
 pub length-sharp : IWADARE-LENGTH-SHARP
 length-sharp gap =

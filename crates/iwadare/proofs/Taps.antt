@@ -3,18 +3,18 @@
 --
 --   taps-two, taps-three   the convolution of the information, and of all three symbols
 --   parities, syndromes, syndrome-errors   the theorems
-use mathlib.Core.Path.{_≡_, refl, sym, ap, ap₂, _∙_, subst}
-use mathlib.Core.Bool.{Bool, false, xor, _&&_}
+use mathlib.Core.Path.{_≡_, refl, sym, ap, _∙_}
+use mathlib.Core.Bool.{Bool, false, xor}
 use mathlib.Core.List.{List, [], _∷_, _++_}
-use Prim.Native.Nat.{ℕ, zero, suc, _+_, _-_, _*_, _/_, _%_, _^_, _≤_, _<_}
+use Prim.Native.Nat.{ℕ, zero, suc, _+_, _-_, _^_, _<_}
 use native.Mathlib.Omega.{arith}
-use lib.ListN.{length, getD}
-use Rattle.span.specs.Word.{_⊕_, odd, bit, digit}
+use lib.ListN.{length}
+use Rattle.span.specs.Word.{_⊕_, odd, bit}
 use Rattle.span.specs.Combination.{combination, Below}
 use Rattle.span.proofs.Word.{xor-false-l, xor-false-r, xor-swap-bool}
 use Rattle.span.proofs.Combination.{combination-lt}
 use Rattle.link.specs.Memory.{started, joining}
-use Rattle.link.specs.Step.{information, parity}
+use Rattle.link.specs.Step.{parity}
 use Rattle.link.specs.Massey.{sumOver, ago, convolution}
 use Rattle.link.proofs.Step.{topped-bit, joined-half, joined-odd, coder-info, coder-half, coder-even}
 use Rattle.link.proofs.Convolution.{convolution-xor, ago-now, stream-convolution}
@@ -23,7 +23,7 @@ use Rattle.iwadare.specs.Decoder.{decoderJoining, rawOf}
 use Rattle.iwadare.specs.Runs.{Sent, Taken, sentBy, takenBy}
 use Rattle.iwadare.specs.Taps.{taps, infoSent, blockSent, blockTaken, rawAt, IWADARE-PARITY, IWADARE-SYNDROME}
 use Rattle.iwadare.specs.Taps.{IWADARE-SYNDROME-ERRORS}
-use Rattle.iwadare.proofs.Words.{CoderStep, DecoderStep}
+use Rattle.iwadare.proofs.Words.{CoderStep}
 use Rattle.iwadare.proofs.Runs.{coderBefore, decoderBefore, coder-first, decoder-first, coded, decoded}
 use Rattle.iwadare.proofs.Runs.{told-place}
 
@@ -119,7 +119,8 @@ raw-sum : (rs : List ℕ) (b : ℕ) → b < length (takenBy (started decoderWord
     → rawAt (started decoderWords) rs b ≡ convolution 3 19 rows (blockTaken (takenBy (started decoderWords) rs)) b
 unfolding rawOf decoderJoining
 raw-sum rs b h =
-    told-place (started decoderWords) rs rawOf false b h ∙ sym (joined-odd generators 2 refl (pending b) (blockTaken taken b))
+    told-place (started decoderWords) rs rawOf false b h
+    ∙ sym (joined-odd generators 2 refl (pending b) (blockTaken taken b))
     ∙ stream-convolution 3 19 rows (blockTaken taken) pending (length taken) (omega arith) all-images
     (ap pendingOf (decoder-first (started decoderWords) rs))
     (λ t l.

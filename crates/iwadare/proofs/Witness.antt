@@ -1,8 +1,8 @@
 -- A run that meets every premise of recovery, computed. Assumes nothing.
 use mathlib.Core.Path.{_≡_, refl}
-use mathlib.Core.Bool.{Bool, true, false, xor}
+use mathlib.Core.Bool.{true, xor}
 use mathlib.Core.List.{List, [], _∷_, _++_, map}
-use Prim.Native.Nat.{ℕ, _+_, _*_, _≤_, _<_}
+use Prim.Native.Nat.{_+_, _*_}
 use native.Mathlib.Omega.{arith}
 use lib.ListN.{length, replicate}
 use Rattle.span.specs.Word.{_⊕_, odd, bit}
@@ -13,13 +13,13 @@ use Rattle.link.specs.Memory.{joining}
 use Rattle.link.specs.Refusals.{someAbove, answered, leaves}
 use Rattle.link.specs.Runs.{run}
 use Rattle.link.specs.Computed.{differing}
-use Rattle.link.specs.Recovery.{Stretch, Burst}
+use Rattle.link.specs.Recovery.{Stretch}
 use Rattle.iwadare.specs.Refusals.{stepFault, coderFault, decoderFault}
 use Rattle.iwadare.specs.Coder.{coderJoining, codedBlock, coderNext, codeAnswer, codeMemory}
-use Rattle.iwadare.specs.Decoder.{decoderJoining, rawOf, registerOf, flipsSymbol1, flipsSymbol0, matched, termsNext}
+use Rattle.iwadare.specs.Decoder.{decoderJoining, rawOf, registerOf, flipsSymbol1, flipsSymbol0, matched}
+use Rattle.iwadare.specs.Decoder.{termsNext}
 use Rattle.iwadare.specs.Decoder.{decoderNext, delivered, delivery, decodeAnswer, decodeMemory}
-use Rattle.iwadare.specs.Runs.{Sent, Taken, sentBy, takenBy, bitSent, bitTaken}
-use Rattle.iwadare.specs.Correction.{WrongBit}
+use Rattle.iwadare.specs.Runs.{Sent, Taken, sentBy, takenBy}
 use Rattle.iwadare.specs.Witness.{coderMemory, decoderMemory, infos, received, faultsBy, IWADARE-WITNESS}
 use Rattle.iwadare.proofs.Computed.{agrees, lies, Ends, burst-so, covers, bursts-so, starts-right, right-so}
 
@@ -52,8 +52,8 @@ record Shown : Type 0 where
 
 computed : Shown
 unfolding run faultsBy differing codeAnswer codeMemory decodeAnswer decodeMemory answered leaves stepFault coderFault
-    decoderFault someAbove firstOf coderJoining codedBlock coderNext decoderJoining rawOf registerOf flipsSymbol1 flipsSymbol0
-    matched termsNext decoderNext delivered delivery joining combination every covers starts-right agrees lies bit odd
+    decoderFault someAbove firstOf coderJoining codedBlock coderNext decoderJoining rawOf registerOf flipsSymbol1
+    flipsSymbol0 matched termsNext decoderNext delivered delivery joining combination every covers starts-right agrees lies bit odd
     xor _⊕_
 computed = record {
   sends = refl;

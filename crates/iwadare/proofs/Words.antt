@@ -7,10 +7,10 @@
 --   no-flip-symbol1, no-flip-symbol0, terms-quiet   where the newest term is 0 nothing is flipped
 --   terms-lt                      the terms stay below 2^12
 use mathlib.Core.Path.{_≡_, refl, sym, ap, ap₂, _∙_}
-use mathlib.Core.Bool.{Bool, true, false, not, _&&_}
+use mathlib.Core.Bool.{Bool, true, false, _&&_}
 use mathlib.Core.Logic.{_≢_}
 use mathlib.Core.List.{List, [], _∷_, _++_}
-use Prim.Native.Nat.{ℕ, suc, _+_, _*_, _/_, _%_, _^_, _≤_, _<_}
+use Prim.Native.Nat.{ℕ, suc, _+_, _*_, _/_, _%_, _^_, _<_}
 use native.Mathlib.Omega.{arith}
 use lib.ListN.{length, getD, set, drop, length-append, length-drop, length-set, List·getD-append}
 use lib.Seq.{getD-drop, getD-set-same, getD-set-other, getD-at}
@@ -20,7 +20,8 @@ use Rattle.link.specs.Memory.{joining}
 use Rattle.iwadare.specs.Memory.{generators, coderPending, fillOf, pendingOf, termsOf, fillNext}
 use Rattle.iwadare.specs.Refusals.{coderFault}
 use Rattle.iwadare.specs.Coder.{coderJoining, codedBlock, coderNext}
-use Rattle.iwadare.specs.Decoder.{decoderJoining, registerOf, flipsSymbol1, flipsSymbol0, matched, termsNext, decoderNext}
+use Rattle.iwadare.specs.Decoder.{decoderJoining, registerOf, flipsSymbol1, flipsSymbol0, matched, termsNext}
+use Rattle.iwadare.specs.Decoder.{decoderNext}
 use Rattle.iwadare.proofs.Coder.{coder-taken}
 
 -- ---- the coder's step

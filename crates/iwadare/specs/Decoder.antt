@@ -3,7 +3,8 @@
 --
 --   decoderJoining, rawOf    the word w of a step, and its raw term
 --   registerOf s r           the 13 terms
---   flipsSymbol1 x, flipsSymbol0 x  whether these terms flip symbol 1 of the block 15 back, and symbol 0 of the block 18 back
+--   flipsSymbol1 x, flipsSymbol0 x   whether these terms flip symbol 1 of the block 15 back, and symbol 0 of the block
+--                            18 back
 --   matched x                the two ones that a flip matched
 --   termsNext x              the last 12 terms after the step
 --   decoderNext              the memory after a step that is taken

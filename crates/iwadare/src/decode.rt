@@ -3,10 +3,8 @@ use crate::code::image;
 use link::stream::push;
 use span::bits::select;
 ghost use mathlib.Core.Path.{_≡_};
-ghost use mathlib.Core.Bool.{_||_};
 ghost use mathlib.Core.List.{[], _∷_, _++_};
-ghost use Prim.Native.Nat.{_/_, _^_, _≤_, _<_};
-ghost use lib.Dec.{leb, ltb};
+ghost use Prim.Native.Nat.{_/_, _^_, _<_};
 ghost use lib.ListN.{length, getD, set, drop};
 ghost use Rattle.span.specs.Word.{_⊕_, sel};
 ghost use Rattle.link.specs.Refusals.{someAbove};
@@ -122,7 +120,8 @@ fn next_fill(fill: u64) -> u64
     if fill < 18 { fill + 1 } else { fill }
 }
 
-// The block 15 back, flipped in the symbol of that weight. Nothing is written where nothing is flipped: words just written would hold up those that move.
+// The block 15 back, flipped in the symbol of that weight. Nothing is written where nothing is flipped: a word just
+// written would hold up those that move.
 fn flip(state: &mut [u64], weight: u64)
     requires { ⌜ length (now state) ≡ 21 ⌝ }
     ensures { λ r. ⌜ now (state .exit) ≡ set (now (state .entry)) 6 (getD (now (state .entry)) 6 0 ⊕ weight) ⌝ }

@@ -5,53 +5,32 @@
 --   fill-waits       after p steps it has grown by no more than p
 --   oldest           the oldest delayed block is the information received m × (N − 1) places before
 --   oldest-first     or a block of the first memory, where there is no such place
-use mathlib.Core.Path.{_≡_, refl, sym, ap, ap₂, _∙_}
-use mathlib.Core.Bool.{Bool, true, false, cond}
-use mathlib.Core.Logic.{_⊎_, inl, inr}
+use mathlib.Core.Path.{_≡_, sym, ap, ap₂, _∙_}
+use mathlib.Core.Bool.{cond}
 use mathlib.Core.List.{List}
 use Prim.Native.Nat.{ℕ, zero, suc, _+_, _-_, _*_, _/_, _%_, _^_, _≤_, _<_}
 use native.Mathlib.Nat.{add-zero, zero-add, add-mod-mod, div-lt-iff-lt-mul, suc-mul, mul-comm, mod-lt, div-add-mod'}
 use native.Mathlib.Omega.{arith}
-use borrow.Author.Tests.{ltb-false}
 use lib.Dec.{ltb}
 use lib.ListN.{getD}
 use Rattle.link.specs.declared.decode.DecodeAnswer.{DecodeAnswer}
 use Rattle.link.specs.Memory.{turnOf, fillOf}
+use Rattle.link.proofs.Fill as fill
 use Rattle.link.proofs.Interleaving.{place-first, place-next}
 use Rattle.link.proofs.Decoder.{streamIn, delayedIn}
 use Rattle.link.proofs.Turn.{DecoderRun, delayed-again, delayed-first}
 
 module _ {n N m : ℕ} {infos : List ℕ} {S : ℕ → List ℕ} {R : ℕ → ℕ} {A : ℕ → DecodeAnswer} {count : ℕ}
     (l : DecoderRun n N m infos S R A count) where
-  fill-grows : (p : ℕ) → p ≤ count → (p ≤ fillOf (S p)) ⊎ (m * (N - 1) ≤ fillOf (S p))
-  fill-grows zero h = inl (omega arith)
-  fill-grows (suc p) h =
-      go (ltb (fillOf (S p)) (m * (N - 1))) refl (l .decodes p (omega arith) .fill-on) (fill-grows p (omega arith))
-    where
-      go : (b : Bool) → ltb (fillOf (S p)) (m * (N - 1)) ≡ b
-          → fillOf (S (suc p)) ≡ cond b (fillOf (S p) + 1) (fillOf (S p))
-          → (p ≤ fillOf (S p)) ⊎ (m * (N - 1) ≤ fillOf (S p))
-          → (suc p ≤ fillOf (S (suc p))) ⊎ (m * (N - 1) ≤ fillOf (S (suc p)))
-      go true q e (inl z) = inl (omega arith)
-      go true q e (inr z) = inr (omega arith)
-      go false q e z = inr (let y = ltb-false (fillOf (S p)) (m * (N - 1)) q in omega arith)
+  fill-on : (p : ℕ) → p < count → fillOf (S (suc p)) ≡ cond (ltb (fillOf (S p)) (m * (N - 1))) (fillOf (S p) + 1)
+      (fillOf (S p))
+  fill-on p h = l .decodes p h .fill-on
 
   pub fill-complete : (p : ℕ) → p < count → m * (N - 1) ≤ p → m * (N - 1) ≤ fillOf (S p)
-  fill-complete p h full = go (fill-grows p (omega arith))
-    where
-      go : (p ≤ fillOf (S p)) ⊎ (m * (N - 1) ≤ fillOf (S p)) → m * (N - 1) ≤ fillOf (S p)
-      go (inl z) = omega arith
-      go (inr z) = z
+  fill-complete p h = fill.fill-complete (λ q. fillOf (S q)) (m * (N - 1)) count fill-on p (omega arith)
 
   pub fill-waits : (p : ℕ) → p ≤ count → fillOf (S p) ≤ fillOf (S 0) + p
-  fill-waits zero h = omega arith
-  fill-waits (suc p) h =
-      go (ltb (fillOf (S p)) (m * (N - 1))) (l .decodes p (omega arith) .fill-on) (fill-waits p (omega arith))
-    where
-      go : (b : Bool) → fillOf (S (suc p)) ≡ cond b (fillOf (S p) + 1) (fillOf (S p)) → fillOf (S p) ≤ fillOf (S 0) + p
-          → fillOf (S (suc p)) ≤ fillOf (S 0) + suc p
-      go true e z = omega arith
-      go false e z = omega arith
+  fill-waits = fill.fill-waits (λ q. fillOf (S q)) (m * (N - 1)) count fill-on
 
   abbrev dl : ℕ → ℕ → ℕ
   dl i p = delayedIn N (S p) i

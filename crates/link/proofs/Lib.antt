@@ -3,7 +3,7 @@
 mod Parts
 pub mod Memory
 pub mod Refusals
-mod Malformed
+pub mod Malformed
 pub mod Starting
 pub mod Coder
 mod Error
@@ -27,6 +27,7 @@ mod Register
 mod Interleaving
 mod Streams
 mod Turn
+pub mod Fill
 mod Delay
 mod Rows
 pub mod Runs

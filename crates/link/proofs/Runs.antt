@@ -25,7 +25,8 @@ use Rattle.link.specs.Memory.{fillOf, delayOf}
 use Rattle.link.specs.Refusals.{coderFault, decoderFault, answered, leaves}
 use Rattle.link.specs.Coder.{codedBlock, coderNext, codeAnswer, codeMemory}
 use Rattle.link.specs.Decoder.{decoderNext, delivered, delivery, decodeAnswer, decodeMemory}
-use Rattle.link.specs.Runs.{CallOf, Call, Sent, Taken, sentOf, takenOf, run, ran, placed, sentBy, takenBy, RUN-APPEND}
+use Rattle.link.specs.Runs.{CallOf, Call, Sent, Taken, sentOf, takenOf, run, ran, placed, sentBy, takenBy}
+use Rattle.link.specs.Runs.{RUN-APPEND}
 use Rattle.link.specs.Runs.{REFUSED-SKIPPED}
 
 -- a call's fault and the memory after it where that is 0: what every call leaves
@@ -174,8 +175,8 @@ module _ {T : Type 0} (fault : T → List ℕ → ℕ → ℕ) (next memory : T 
   -- what a call that is taken keeps, a run keeps, if each of its entries allows it
   pub ran-keeps : {X : Type 0} (kept : T → List ℕ → ℕ → List X) (entry : T → List ℕ → ℕ → X) → Told kept entry
       → (Kept : List ℕ → Type 0) (allows : X → Type 0) (d : X)
-      → ((c : CallOf T) (s : List ℕ) → fault (c .table) s (c .block) ≡ 0 → allows (entry (c .table) s (c .block)) → Kept s
-      → Kept (next (c .table) s (c .block)))
+      → ((c : CallOf T) (s : List ℕ) → fault (c .table) s (c .block) ≡ 0 → allows (entry (c .table) s (c .block))
+      → Kept s → Kept (next (c .table) s (c .block)))
       → (s : List ℕ) (cs : List (CallOf T)) → Kept s
       → ((p : ℕ) → p < length (run memory kept s cs) → allows (getD (run memory kept s cs) p d))
       → Kept (ran memory s cs)
