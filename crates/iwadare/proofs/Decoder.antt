@@ -49,7 +49,7 @@ pub decodes : (s : List ℕ) (r : ℕ) → decoderFault s r ≡ 0
 unfolding decodeAnswer decodeMemory
 decodes s r = takes Refused (decoderFault s r) (delivery s r) (decoderNext s r) s
 
-pub delivery-numbers : (s : List ℕ) (r : ℕ) → decodeNumbers (delivery s r) ≡ 0 ∷ decodeValues s r
+delivery-numbers : (s : List ℕ) (r : ℕ) → decodeNumbers (delivery s r) ≡ 0 ∷ decodeValues s r
 unfolding delivery
 delivery-numbers s r = go (ltb (fillOf s) delay)
   where

@@ -36,7 +36,7 @@ true-or-false : (s : Bool) → (s ≡ true) ⊎ (s ≡ false)
 true-or-false true = inl refl
 true-or-false false = inr refl
 
-pub some-bit : (x : ℕ) → x < 8 → x ≢ 0 → (a : ℕ) × (a < 3) × (bit a x ≡ true)
+some-bit : (x : ℕ) → x < 8 → x ≢ 0 → (a : ℕ) × (a < 3) × (bit a x ≡ true)
 some-bit x l ne = go (true-or-false (bit 0 x)) (true-or-false (bit 1 x)) (true-or-false (bit 2 x))
   where
     go : (bit 0 x ≡ true) ⊎ (bit 0 x ≡ false) → (bit 1 x ≡ true) ⊎ (bit 1 x ≡ false)
