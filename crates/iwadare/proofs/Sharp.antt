@@ -1,4 +1,4 @@
--- Three runs that go wrong, computed. Assumes nothing.
+-- Four runs that go wrong, computed. Assumes nothing.
 use mathlib.Core.Path.{_≡_, refl, sym, ap, _∙_}
 use mathlib.Core.Bool.{true, xor}
 use mathlib.Core.List.{List, [], _∷_, _++_}
@@ -23,6 +23,7 @@ use Rattle.iwadare.specs.Decoder.{decoderNext, delivered, delivery, deco
 use Rattle.iwadare.specs.Runs.{Sent, Taken, sentBy, takenBy, sentAt, takenAt}
 use Rattle.iwadare.specs.Correction.{WrongBit, BitBursts, Corrected}
 use Rattle.iwadare.specs.Sharp.{IWADARE-LENGTH-SHARP, IWADARE-GAP-SHARP, IWADARE-GUARD-SHARP}
+use Rattle.iwadare.specs.Sharp.{IWADARE-GUARD-END-SHARP}
 use Rattle.iwadare.proofs.Computed.{agrees, lies, Ends, burst-so, covers, bursts-so, starts-right, right-so}
 use Rattle.iwadare.proofs.Computed.{delivery-same}
 
@@ -42,6 +43,10 @@ earlyBit = replicate 29 0 ++ (4 ∷ replicate 3 0)
 abbrev unlike : List ℕ
 unlike = 18 ∷ 2 ^ 17 ∷ replicate 19 0
 
+-- the same with a one that comes 12 terms before it
+abbrev twoOnes : List ℕ
+twoOnes = 18 ∷ (2 ^ 17 + 2 ^ 5) ∷ replicate 19 0
+
 abbrev longTaken : List Taken
 longTaken = takenBy (started decoderWords) longBurst
 
@@ -50,6 +55,9 @@ closeTaken = takenBy (started decoderWords) closeBits
 
 abbrev earlyTaken : List Taken
 earlyTaken = takenBy unlike earlyBit
+
+abbrev flippedTaken : List Taken
+flippedTaken = takenBy twoOnes (replicate 21 0)
 
 abbrev at : ℕ → ℕ → Stretch
 at first last = record { first = first; last = last }
@@ -69,6 +77,7 @@ computed : (Shown longTaken 53 (at 93 103 ∷ []) 1 × Ends (zerosSent 53) longT
     × Ends (zerosSent 49) closeTaken (at 147 147) × (starts-right (zerosSent 49) closeTaken 30 ≡ true))
     × (Shown earlyTaken 33 (at 90 90 ∷ []) 2 × Ends (zerosSent 33) earlyTaken (at 90 90)
     × (starts-right (zerosSent 33) earlyTaken 29 ≡ true))
+    × (Shown flippedTaken 21 [] 2 × (starts-right (zerosSent 21) flippedTaken 21 ≡ true))
 unfolding run codeAnswer codeMemory decodeAnswer decodeMemory answered leaves stepFault coderFault decoderFault
     someAbove firstOf coderJoining codedBlock coderNext decoderJoining rawOf registerOf flipsSymbol1 flipsSymbol0
     matched termsNext decoderNext delivered delivery joining combination every covers starts-right agrees lies bit odd xor _⊕_
@@ -89,6 +98,7 @@ computed = (
     record { first = refl; last = refl },
     refl,
   ),
+  (record { takes = refl; sends = refl; covering = refl; answers = refl; info = refl }, refl),
 )
 
 -- ---- what these say
@@ -174,3 +184,10 @@ guard-sharp long gap some right =
     goes-wrong s (omega arith)
     (right (started coderWords) unlike (replicate 33 0) earlyBit (enough s)
     (right-so (zerosSent 33) earlyTaken 29 (computed .2 .2)) (early-bursts long gap some) 33 (omega arith) (inside s))
+
+pub guard-end-sharp : IWADARE-GUARD-END-SHARP
+guard-end-sharp right =
+    let s = computed .3 .0 in
+    goes-wrong s (omega arith)
+    (right (started coderWords) twoOnes (replicate 21 0) (replicate 21 0) (enough s) 21 (omega arith) (inside s)
+    (right-so (zerosSent 21) flippedTaken 21 (computed .3 .1)))

@@ -9,7 +9,8 @@
 --                       bursts keep to the rule
 --   IWADARE-RECOVERY    from any memories, after the guard, every delivery is right while bursts keep to the rule
 --   guardEnd            21
---   IWADARE-GUARD-END   while all blocks are right, every delivery is from place 22 on
+--   GuardEndAfter past  while all blocks are right, every delivery is past that place
+--   IWADARE-GUARD-END   from place 22 on
 use mathlib.Core.Path.{_≡_}
 use mathlib.Core.List.{List}
 use Prim.Native.Nat.{ℕ, _+_, _≤_, _<_}
@@ -42,10 +43,13 @@ IWADARE-RECOVERY = RecoveryAfter guard guard 10 56
 abbrev pub guardEnd : ℕ
 guardEnd = 21
 
-abbrev pub IWADARE-GUARD-END : Type 0
-IWADARE-GUARD-END =
+abbrev pub GuardEndAfter : ℕ → Type 0
+GuardEndAfter past =
     (coder decoder bs rs : List ℕ) →
     let sent = sentBy coder bs in
     let taken = takenBy decoder rs in
     length taken ≤ length sent
-    → (p : ℕ) → guardEnd < p → p ≤ length taken → RightFirst p sent taken → Corrected sent taken p
+    → (p : ℕ) → past < p → p ≤ length taken → RightFirst p sent taken → Corrected sent taken p
+
+abbrev pub IWADARE-GUARD-END : Type 0
+IWADARE-GUARD-END = GuardEndAfter guardEnd

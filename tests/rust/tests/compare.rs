@@ -991,7 +991,7 @@ fn check_step(tally: &mut Tally, StepCase { table, memory, step, after }: &StepC
 
 type Group = (&'static str, fn(&mut Tally, &mut Draw));
 
-const GROUPS: [Group; 59] = [
+const GROUPS: [Group; 60] = [
     ("examples of tables", examples_of_tables),
     ("examples of steps", examples_of_steps),
     ("bytes of every refusal and place", bytes_of_every_refusal),
@@ -1050,6 +1050,7 @@ const GROUPS: [Group; 59] = [
     ("stations: bursts of 11 bits, 55 bits between", iwadare::beyond_the_bounds),
     ("stations: after 30 blocks", iwadare::recoveries),
     ("stations: after 29 blocks", iwadare::shorter_guard_fails),
+    ("stations: the end of the guard", iwadare::end_of_the_guard),
     ("everything reached", everything_reached),
 ];
 

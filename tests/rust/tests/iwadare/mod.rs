@@ -616,6 +616,8 @@ pub fn beyond_the_bounds(tally: &mut Tally, draw: &mut Draw) {
 
 /// The right blocks after which any memory serves.
 const GUARD: usize = 30;
+/// The right blocks after which, while they are right, what is delivered is.
+const GUARD_END: usize = 21;
 
 /// The first wrong delivery after a guard of so many right blocks, from any memories; bursts begin after it and so many
 /// right bits more.
@@ -650,6 +652,19 @@ pub fn recoveries(tally: &mut Tally, draw: &mut Draw) {
     tally.check(at_once >= 1_000 && failures >= 100, || {
         format!("only {at_once} runs with a burst at once, {failures} failures with a block less")
     });
+}
+
+/// While all blocks are right, from any memories: from the 22nd on what is delivered is right, and at the 21st not always.
+pub fn end_of_the_guard(tally: &mut Tally, draw: &mut Draw) {
+    let mut late = 0;
+    for _ in 0..2_000 {
+        let mut line = Line::of(Lent::any(draw), Lent::any(draw));
+        line.send_right(tally, draw, 40);
+        let wrong = line.first_wrong(GUARD_END);
+        tally.check(wrong.is_none(), || format!("block {wrong:?} is wrong, all before it being right"));
+        late += u64::from(line.first_wrong(GUARD_END - 1).is_some());
+    }
+    tally.check(late >= 100, || format!("only {late} wrong deliveries at the 21st right block"));
 }
 
 /// The first wrong delivery after a guard of so many right blocks and one with a wrong parity, from the guard on.
