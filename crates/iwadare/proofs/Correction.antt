@@ -23,10 +23,9 @@ use Rattle.iwadare.specs.Memory.{coderWords, decoderWords, delay, coderP
 use Rattle.iwadare.specs.Decoder.{delivered}
 use Rattle.iwadare.specs.Runs.{Sent, Taken, sentBy, takenBy, noneSent, sentAt, takenAt}
 use Rattle.iwadare.specs.Taps.{infoSent, blockSent, blockTaken}
-use Rattle.iwadare.specs.Correction.{WrongBit, Corrected, IWADARE-CORRECTION}
-use Rattle.iwadare.specs.Correction.{IWADARE-CORRECTION-TEN}
-use Rattle.iwadare.proofs.Runs.{coderBefore, decoderBefore, coder-first, decoder-first}
-use Rattle.iwadare.proofs.Runs.{coded, decoded, answerTaken}
+use Rattle.iwadare.specs.Correction.{WrongBit, Corrected, IWADARE-CORRECTION, IWADARE-CORRECTION-TEN}
+use Rattle.iwadare.proofs.Runs.{coderBefore, decoderBefore, coder-first, decoder-first, coded, decoded}
+use Rattle.iwadare.proofs.Runs.{answerTaken}
 use Rattle.iwadare.proofs.Delivery.{answers-complete}
 use Rattle.iwadare.proofs.Patterns.{quiet}
 use Rattle.iwadare.proofs.Settled.{Spread, quiet-on}

@@ -27,8 +27,8 @@ use Rattle.iwadare.specs.Memory.{decoderWords, delay, fillOf, pendingOf,
 use Rattle.iwadare.specs.Memory.{pendingBound, termsBound, delayedBound, receivedBound}
 use Rattle.iwadare.specs.Refusals.{decoderMalformed, decoderFault}
 use Rattle.iwadare.specs.Formed.{DecoderFormed}
-use Rattle.iwadare.specs.Decoder.{rawOf, registerOf, flipsSymbol0, decoderNext, delivered, delivery}
-use Rattle.iwadare.specs.Decoder.{decodeAnswer, decodeMemory, decodeNumbers, decodeValues, Decodes}
+use Rattle.iwadare.specs.Decoder.{rawOf, registerOf, flipsSymbol0, decoderNext, delivered, delivery, decodeAnswer}
+use Rattle.iwadare.specs.Decoder.{decodeMemory, decodeNumbers, decodeValues, Decodes}
 use Rattle.iwadare.proofs.Refusals.{step-fault, step-passed}
 
 -- ---- refusals

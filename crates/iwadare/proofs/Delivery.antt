@@ -24,8 +24,7 @@ use Rattle.iwadare.specs.Runs.{Taken, handed, takenBy, noneTaken}
 use Rattle.iwadare.specs.Taps.{blockTaken}
 use Rattle.iwadare.specs.Delivery.{registerAt, IWADARE-WAITING, IWADARE-DELIVERY}
 use Rattle.iwadare.proofs.Words.{delayed}
-use Rattle.iwadare.proofs.Runs.{DecoderRun, decoderBefore, decoder-first, answerTaken, decoded}
-use Rattle.iwadare.proofs.Runs.{told-place}
+use Rattle.iwadare.proofs.Runs.{DecoderRun, decoderBefore, decoder-first, answerTaken, decoded, told-place}
 
 -- ---- the fill
 

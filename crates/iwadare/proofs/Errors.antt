@@ -31,8 +31,7 @@ use Rattle.link.proofs.Step.{joined-half, joined-odd, both-half, both-odd, code
 use Rattle.iwadare.specs.declared.decode.DecodeAnswer.{DecodeAnswer}
 use Rattle.iwadare.specs.Memory.{generators, coderPending, fillOf, pendingOf, termsOf, fillNext}
 use Rattle.iwadare.specs.Decoder.{decoderJoining, rawOf, registerOf, flipsSymbol1, flipsSymbol0, termsNext}
-use Rattle.iwadare.specs.Decoder.{decoderNext}
-use Rattle.iwadare.specs.Decoder.{delivered}
+use Rattle.iwadare.specs.Decoder.{decoderNext, delivered}
 use Rattle.iwadare.proofs.Runs.{CoderRun, DecoderRun}
 use Rattle.iwadare.proofs.Words.{CoderStep, delayed, DecoderStep, decoder-step}
 

@@ -21,8 +21,7 @@ use Rattle.link.specs.Memory.{joining}
 use Rattle.link.specs.Step.{register}
 use Rattle.iwadare.specs.Memory.{generators, fillOf, pendingOf, termsOf, fillNext}
 use Rattle.iwadare.specs.Decoder.{decoderJoining, rawOf, registerOf, flipsSymbol1, flipsSymbol0, termsNext}
-use Rattle.iwadare.specs.Decoder.{decoderNext}
-use Rattle.iwadare.specs.Decoder.{delivered}
+use Rattle.iwadare.specs.Decoder.{decoderNext, delivered}
 use Rattle.iwadare.proofs.Decoder.{register-lt}
 use Rattle.iwadare.proofs.Words.{delayed, DecoderStep, decoder-step, no-flip-symbol1, no-flip-symbol0}
 use Rattle.iwadare.proofs.Words.{terms-quiet, terms-lt}

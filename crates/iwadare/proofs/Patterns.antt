@@ -7,6 +7,8 @@
 --   quiet-next, quiet-delivers   a right block leaves it
 --   settles s es          from s on, the blocks es deliver zeros only and end in the quiet memory
 --   calm                  18 right blocks
+--   goes rest s e         the block e delivers zero, settles with the calm after it if it is wrong, and then the rest
+--                         holds
 --   patterns s bounds     so does each list of blocks below these bounds that ends with a wrong one, and the calm
 --   roomOf e              what the fourth block is below, after a first block e
 --   tested e              the test of all bursts with the first block e
@@ -26,8 +28,7 @@ use Rattle.tables.proofs.Fit.{and-left, and-right}
 use Rattle.tables.proofs.Every.{every, every-at}
 use Rattle.link.specs.Memory.{joining}
 use Rattle.iwadare.specs.Decoder.{decoderJoining, rawOf, registerOf, flipsSymbol1, flipsSymbol0, matched}
-use Rattle.iwadare.specs.Decoder.{termsNext}
-use Rattle.iwadare.specs.Decoder.{decoderNext, delivered}
+use Rattle.iwadare.specs.Decoder.{termsNext, decoderNext, delivered}
 
 abbrev pub quiet : List ℕ
 quiet = 18 ∷ replicate 20 0
@@ -45,22 +46,23 @@ settles s (e ∷ es) = eqb (delivered s e) 0 && settles (decoderNext s e) es
 abbrev pub calm : List ℕ
 calm = replicate 18 0
 
+-- of one block, and of what comes after it
+goes : (List ℕ → Bool) → List ℕ → ℕ → Bool
+goes rest s e =
+    eqb (delivered s e) 0 && (eqb e 0 || settles (decoderNext s e) calm) && rest (decoderNext s e)
+
 pub patterns : List ℕ → List ℕ → Bool
 patterns s [] = true
-patterns s (bound ∷ bounds) =
-    every (λ e.
-    eqb (delivered s e) 0 && (eqb e 0 || settles (decoderNext s e) calm) && patterns (decoderNext s e) bounds) bound
+patterns s (bound ∷ bounds) = every (goes (λ t. patterns t bounds) s) bound
 
 pub roomOf : ℕ → ℕ
 roomOf e = cond (bit 0 e) 2 (cond (bit 1 e) 4 8)
 
-pub tested : ℕ → Bool
-tested e =
-    eqb (delivered quiet e) 0 && settles (decoderNext quiet e) calm
-    && patterns (decoderNext quiet e) (8 ∷ 8 ∷ roomOf e ∷ [])
+tested : ℕ → Bool
+tested e = goes (λ t. patterns t (8 ∷ 8 ∷ roomOf e ∷ [])) quiet e
 
 computed : every (λ i. tested (suc i)) 7 ≡ true
-unfolding every tested roomOf patterns settles alike delivered decoderNext termsNext matched flipsSymbol0 flipsSymbol1
+unfolding every tested roomOf patterns goes settles alike delivered decoderNext termsNext matched flipsSymbol0 flipsSymbol1
     registerOf rawOf decoderJoining joining combination bit odd xor _⊕_
 computed = refl
 
@@ -119,13 +121,12 @@ pub record Goes (s : List ℕ) (e : ℕ) (bounds : List ℕ) : Type 0 where
   pub stops : e ≢ 0 → settles (decoderNext s e) calm ≡ true
   pub goes : patterns (decoderNext s e) bounds ≡ true
 
-pub patterns-go : (s : List ℕ) (bound : ℕ) (bounds : List ℕ) → patterns s (bound ∷ bounds) ≡ true
-    → (e : ℕ) → e < bound → Goes s e bounds
-unfolding patterns
-patterns-go s bound bounds h e l = record {
-  delivers = eqb-true (delivered s e) 0 (and-left a b (and-left (a && b) c here));
-  stops = λ ne. stop (eqb e 0) (ne-eqb e 0 ne) (and-right a b (and-left (a && b) c here));
-  goes = and-right (a && b) c here;
+goes-so : (bounds s : List ℕ) (e : ℕ) → goes (λ t. patterns t bounds) s e ≡ true → Goes s e bounds
+unfolding goes
+goes-so bounds s e h = record {
+  delivers = eqb-true (delivered s e) 0 (and-left a b (and-left (a && b) c h));
+  stops = λ ne. stop (eqb e 0) (ne-eqb e 0 ne) (and-right a b (and-left (a && b) c h));
+  goes = and-right (a && b) c h;
 }
   where
     a : Bool
@@ -137,34 +138,18 @@ patterns-go s bound bounds h e l = record {
     c : Bool
     c = patterns (decoderNext s e) bounds
 
-    here : a && b && c ≡ true
-    here =
-        every-at (λ e.
-        eqb (delivered s e) 0 && (eqb e 0 || settles (decoderNext s e) calm) && patterns (decoderNext s e) bounds)
-        bound h e l
-
     stop : (q : Bool) → q ≡ false → q || settles (decoderNext s e) calm ≡ true → settles (decoderNext s e) calm ≡ true
     stop true n k = let z : _≡_ {A = ℕ} 0 1 = cc in absurd (omega arith)
     stop false n k = k
+
+pub patterns-go : (s : List ℕ) (bound : ℕ) (bounds : List ℕ) → patterns s (bound ∷ bounds) ≡ true
+    → (e : ℕ) → e < bound → Goes s e bounds
+unfolding patterns
+patterns-go s bound bounds h e l = goes-so bounds s e (every-at (goes (λ t. patterns t bounds) s) bound h e l)
 
 -- of a first block that is wrong
 pub first-goes : (e : ℕ) → 0 < e → e < 8 → Goes quiet e (8 ∷ 8 ∷ roomOf e ∷ [])
 unfolding tested
 first-goes zero some l = absurd (omega arith)
-first-goes (suc i) some l = record {
-  delivers = eqb-true (delivered quiet (suc i)) 0 (and-left a b (and-left (a && b) c here));
-  stops = λ ne. and-right a b (and-left (a && b) c here);
-  goes = and-right (a && b) c here;
-}
-  where
-    a : Bool
-    a = eqb (delivered quiet (suc i)) 0
-
-    b : Bool
-    b = settles (decoderNext quiet (suc i)) calm
-
-    c : Bool
-    c = patterns (decoderNext quiet (suc i)) (8 ∷ 8 ∷ roomOf (suc i) ∷ [])
-
-    here : a && b && c ≡ true
-    here = every-at (λ i. tested (suc i)) 7 computed i (omega arith)
+first-goes (suc i) some l =
+    goes-so (8 ∷ 8 ∷ roomOf (suc i) ∷ []) quiet (suc i) (every-at (λ i. tested (suc i)) 7 computed i (omega arith))

@@ -22,8 +22,8 @@ use Rattle.iwadare.specs.Memory.{delay, fillOf}
 use Rattle.iwadare.specs.Refusals.{coderFault, decoderFault}
 use Rattle.iwadare.specs.Coder.{codedBlock, coderNext, codeAnswer, codeMemory}
 use Rattle.iwadare.specs.Decoder.{delivered, delivery, decoderNext, decodeAnswer, decodeMemory}
-use Rattle.iwadare.specs.Runs.{Sent, Taken, sentOf, takenOf, handed, sentBy, takenBy, noneSent, noneTaken}
-use Rattle.iwadare.specs.Runs.{sentAt, takenAt, IWADARE-REFUSED-SKIPPED}
+use Rattle.iwadare.specs.Runs.{Sent, Taken, sentOf, takenOf, handed, sentBy, takenBy, noneSent, noneTaken, sentAt}
+use Rattle.iwadare.specs.Runs.{takenAt, IWADARE-REFUSED-SKIPPED}
 use Rattle.iwadare.proofs.Decoder.{DecoderTaken, decoder-taken}
 use Rattle.iwadare.proofs.Words.{CoderStep, coder-step, DecoderStep, decoder-step}
 use Rattle.iwadare.specs.Taps.{infoSent, blockSent, blockTaken}

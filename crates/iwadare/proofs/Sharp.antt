@@ -18,8 +18,7 @@ use Rattle.iwadare.specs.Memory.{coderWords, decoderWords}
 use Rattle.iwadare.specs.Refusals.{stepFault, coderFault, decoderFault}
 use Rattle.iwadare.specs.Coder.{coderJoining, codedBlock, coderNext, codeAnswer, codeMemory}
 use Rattle.iwadare.specs.Decoder.{decoderJoining, rawOf, registerOf, flipsSymbol1, flipsSymbol0, matched}
-use Rattle.iwadare.specs.Decoder.{termsNext}
-use Rattle.iwadare.specs.Decoder.{decoderNext, delivered, delivery, decodeAnswer, decodeMemory}
+use Rattle.iwadare.specs.Decoder.{termsNext, decoderNext, delivered, delivery, decodeAnswer, decodeMemory}
 use Rattle.iwadare.specs.Runs.{Sent, Taken, sentBy, takenBy, sentAt, takenAt}
 use Rattle.iwadare.specs.Correction.{WrongBit, BitBursts, Corrected}
 use Rattle.iwadare.specs.Sharp.{IWADARE-LENGTH-SHARP, IWADARE-GAP-SHARP, IWADARE-GUARD-SHARP}

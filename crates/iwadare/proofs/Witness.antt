@@ -17,8 +17,7 @@ use Rattle.link.specs.Recovery.{Stretch}
 use Rattle.iwadare.specs.Refusals.{stepFault, coderFault, decoderFault}
 use Rattle.iwadare.specs.Coder.{coderJoining, codedBlock, coderNext, codeAnswer, codeMemory}
 use Rattle.iwadare.specs.Decoder.{decoderJoining, rawOf, registerOf, flipsSymbol1, flipsSymbol0, matched}
-use Rattle.iwadare.specs.Decoder.{termsNext}
-use Rattle.iwadare.specs.Decoder.{decoderNext, delivered, delivery, decodeAnswer, decodeMemory}
+use Rattle.iwadare.specs.Decoder.{termsNext, decoderNext, delivered, delivery, decodeAnswer, decodeMemory}
 use Rattle.iwadare.specs.Runs.{Sent, Taken, sentBy, takenBy}
 use Rattle.iwadare.specs.Witness.{coderMemory, decoderMemory, infos, received, faultsBy, IWADARE-WITNESS}
 use Rattle.iwadare.proofs.Computed.{agrees, lies, Ends, burst-so, covers, bursts-so, starts-right, right-so}

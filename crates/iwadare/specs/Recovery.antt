@@ -9,7 +9,7 @@
 --                       bursts keep to the rule
 --   IWADARE-RECOVERY    from any memories, after the guard, every delivery is right while bursts keep to the rule
 --   guardEnd            21
---   GuardEndAfter past  while all blocks are right, every delivery is past that place
+--   GuardEndAfter past  while all blocks are right, so is every delivery past that place
 --   IWADARE-GUARD-END   from place 22 on
 use mathlib.Core.Path.{_≡_}
 use mathlib.Core.List.{List}
