@@ -77,6 +77,10 @@ module _ (E : ℕ → List ℕ) (e : ℕ → ℕ) (next : (p : ℕ) → E (suc p
   on : (p : ℕ) → p < many → E (suc p) ≡ decoderNext (E p) 0
   on p h = next p ∙ ap (decoderNext (E p)) (right p h)
 
+  -- past the first 18
+  on-past : (d : ℕ) → 18 + suc d ≤ many → E (18 + suc d) ≡ decoderNext (E (18 + d)) 0
+  on-past d h = ap E (let q : 18 + suc d ≡ suc (18 + d) = omega arith in q) ∙ on (18 + d) (omega arith)
+
   sizes : (p : ℕ) → p ≤ many → length (E p) ≡ 21
   sizes zero h = size
   sizes (suc p) h = ap length (on p (omega arith)) ∙ decoder-step (E p) 0 (sizes p (omega arith)) .size
@@ -98,8 +102,7 @@ module _ (E : ℕ → List ℕ) (e : ℕ → ℕ) (next : (p : ℕ) → E (suc p
   pending-none zero h = let z = pending-falls 18 0 (omega arith) (omega arith) in omega arith
   pending-none (suc d) h =
       let z = pending-none d (omega arith) in
-      let half = ap pendingOf (ap E (let q : 18 + suc d ≡ suc (18 + d) = omega arith in q) ∙ on (18 + d) (omega arith))
-      ∙ pending-half (E (18 + d)) (sizes (18 + d) (omega arith)) in
+      let half = ap pendingOf (on-past d h) ∙ pending-half (E (18 + d)) (sizes (18 + d) (omega arith)) in
       omega arith
 
   terms-low : (p : ℕ) → p ≤ many → termsOf (E p) < 2 ^ 12
@@ -114,24 +117,24 @@ module _ (E : ℕ → List ℕ) (e : ℕ → ℕ) (next : (p : ℕ) → E (suc p
       subst (λ (j : ℕ). termsOf (E 18) < 2 ^ j) (let q : 12 ≡ k = omega arith in q) (terms-low 18 (omega arith))
   terms-fall (suc d) k l h =
       let z = terms-fall d (suc k) (omega arith) (omega arith) in
-      let half = ap termsOf (ap E (let q : 18 + suc d ≡ suc (18 + d) = omega arith in q) ∙ on (18 + d) (omega arith))
+      let half = ap termsOf (on-past d l)
       ∙ terms-half (E (18 + d)) (sizes (18 + d) (omega arith)) (pending-none d (omega arith))
       (terms-low (18 + d) (omega arith)) in
       omega arith
 
   -- flips or not: the youngest blocks are right ones, as far as no flip reaches
   tail-young : (p j : ℕ) → p ≤ many → 3 ≤ j → 18 ≤ p + j → Tail j (E p)
-  tail-young zero j h low many = λ i from to. absurd (omega arith)
-  tail-young (suc p) j h low many =
+  tail-young zero j h low reach = λ i from to. absurd (omega arith)
+  tail-young (suc p) j h low reach =
       subst (Tail j) (sym (on p (omega arith)))
       (tail-on (E p) (sizes p (omega arith)) j (inl low)
       (tail-young p (suc j) (omega arith) (omega arith) (omega arith)))
 
   -- and once no flip comes, all are
   tail-all : (d j : ℕ) → 18 + d ≤ many → 3 ≤ d + j → Tail j (E (18 + d))
-  tail-all zero j h many = tail-young 18 j (omega arith) (omega arith) (omega arith)
-  tail-all (suc d) j h many =
-      subst (Tail j) (sym (ap E (let q : 18 + suc d ≡ suc (18 + d) = omega arith in q) ∙ on (18 + d) (omega arith)))
+  tail-all zero j h reach = tail-young 18 j (omega arith) (omega arith) (omega arith)
+  tail-all (suc d) j h reach =
+      subst (Tail j) (sym (on-past d h))
       (tail-on (E (18 + d)) (sizes (18 + d) (omega arith)) j
       (inr (ap flipsSymbol1 (register-none (E (18 + d)) (sizes (18 + d) (omega arith)) (pending-none d (omega arith)))
       ∙ no-flip-symbol1 (termsOf (E (18 + d))) (terms-low (18 + d) (omega arith))))
