@@ -31,13 +31,16 @@ use Rattle.tables.proofs.Made.{made, is-made, not-made}
 use Rattle.tables.proofs.MadeWhole.{made-whole}
 use Rattle.link.specs.Memory.{started}
 use Rattle.link.specs.Refusals.{startFault, coderFault, decoderFault, leaves, callNumbers}
-use Rattle.link.specs.Start.{startMemory, lengthFault}
-use Rattle.link.specs.Coder.{codedBlock, coderNext, codeMemory}
-use Rattle.link.specs.Decoder.{decodeValues, decoderNext, decodeMemory}
+use Rattle.link.specs.Start.{lengthFault}
+use Rattle.link.specs.Coder.{codedBlock, coderNext}
+use Rattle.link.specs.Decoder.{decodeValues, decoderNext}
 use Rattle.link.proofs.Refusals.{refuses, takes, refused-numbers, taken-numbers}
+use Rattle.link.proofs.Starting.{start-memory}
+use Rattle.link.proofs.Runs.{coder-memory, decoder-memory}
 use Rattle.iwadare.specs.Refusals as refusals
 use Rattle.iwadare.specs.Coder as coder
 use Rattle.iwadare.specs.Decoder as decoder
+use Rattle.iwadare.proofs.Runs as stations
 use Rattle.export.specs.declared.reading.BurstReading.{BurstReading}
 use Rattle.export.specs.declared.written.BurstWritten.{BurstWritten}
 use Rattle.export.specs.Numbers.{tableOf, numbersOf, givenBack}
@@ -220,34 +223,32 @@ start-said fault next before r after number memory =
     (c .0, λ some. c .1 some .1, λ none. c .2 none .1)
 
 pub start-told : START-TOLD
-unfolding startMemory
 start-told t words before r after h =
-    start-said (startFault t words before) (started words) before r after (h .number) (h .memory)
+    start-said (startFault t words before) (started words) before r after (h .number)
+    (h .memory ∙ start-memory t words before)
 
 pub code-told : CODE-TOLD
-unfolding codeMemory
 code-told t before info r after h =
     call-told codedOf (λ x. x .refused) (λ ns. refl) (coderFault t before info) (codedBlock t before info ∷ [])
-    (coderNext t before info) before r after (h .answer) (h .memory)
+    (coderNext t before info) before r after (h .answer) (h .memory ∙ coder-memory t before info)
 
 pub decode-told : DECODE-TOLD
-unfolding decodeMemory
 decode-told t before received r after h =
     call-told decodedOf (λ x. x .refused) (λ ns. refl) (decoderFault t before received) (decodeValues t before received)
-    (decoderNext t before received) before r after (h .answer) (h .memory)
+    (decoderNext t before received) before r after (h .answer) (h .memory ∙ decoder-memory t before received)
 
 pub iwadare-start-told : IWADARE-START-TOLD
 iwadare-start-told words before r after h =
     start-said (lengthFault words before) (started words) before r after (h .number) (h .memory)
 
 pub iwadare-code-told : IWADARE-CODE-TOLD
-unfolding coder.codeMemory
 iwadare-code-told before info r after h =
     call-told codedOf (λ x. x .refused) (λ ns. refl) (refusals.coderFault before info)
-    (coder.codedBlock before info ∷ []) (coder.coderNext before info) before r after (h .answer) (h .memory)
+    (coder.codedBlock before info ∷ []) (coder.coderNext before info) before r after (h .answer)
+    (h .memory ∙ stations.coder-memory tt before info)
 
 pub iwadare-decode-told : IWADARE-DECODE-TOLD
-unfolding decoder.decodeMemory
 iwadare-decode-told before received r after h =
     call-told iwadareDecodedOf (λ x. x .refused) (λ ns. refl) (refusals.decoderFault before received)
-    (decoder.decodeValues before received) (decoder.decoderNext before received) before r after (h .answer) (h .memory)
+    (decoder.decodeValues before received) (decoder.decoderNext before received) before r after (h .answer)
+    (h .memory ∙ stations.decoder-memory tt before received)

@@ -1,16 +1,18 @@
 -- Demand 1, from the promises: a call that is refused, and one that is not. Assumes nothing.
 use mathlib.Core.Path.{_≡_, sym, _∙_}
-use mathlib.Core.Bool.{Bool, true, false, cond}
+use mathlib.Core.Bool.{Bool, true, false, cond, not}
 use mathlib.Core.List.{List, [], _∷_}
 use Prim.Native.Nat.{ℕ, _≤_}
 use native.Mathlib.Omega.{arith}
-use lib.Dec.{ltb}
+use lib.Dec.{ltb, eqb}
+use lib.ListN.{length}
 use Rattle.tables.proofs.Refusal.{first-range}
 use Rattle.link.specs.declared.start.StartAnswer.the-variants.{Started, Refused as StartRefused}
 use Rattle.link.specs.declared.code.CodeAnswer.the-variants.{Coded, Refused as CodeRefused}
 use Rattle.link.specs.Memory.{started}
 use Rattle.link.specs.Start.{lengthFault}
 use Rattle.link.proofs.Refusals.{takes}
+use Rattle.link.proofs.Starting.{length-fault}
 use Rattle.link.proofs.Calls.{refused-call}
 use Rattle.iwadare.specs.declared.decode.DecodeAnswer.{DecodeAnswer}
 use Rattle.iwadare.specs.declared.decode.DecodeAnswer.the-variants.{Delivery, NothingYet}
@@ -24,8 +26,11 @@ use Rattle.iwadare.proofs.Coder.{codes, coded-below}
 use Rattle.iwadare.proofs.Decoder.{decodes, delivered-below}
 
 start-range : (words : ℕ) (s : List ℕ) → (lengthFault words s ≡ 0 → ⊥) → lengthFault words s ≡ 13
-unfolding lengthFault
-start-range words s some = let r = first-range 13 (_ ∷ []) some in omega (arith, r)
+start-range words s some = go (not (eqb (length s) words)) (length-fault words s)
+  where
+    go : (b : Bool) → lengthFault words s ≡ cond b 13 0 → lengthFault words s ≡ 13
+    go true e = e
+    go false e = absurd (some e)
 
 step-range : (words : ℕ) (malformed : Bool) (bound : ℕ) (s : List ℕ) (b : ℕ)
     → (stepFault words malformed bound s b ≡ 0 → ⊥)

@@ -5,7 +5,7 @@
 --   CoderTaken, coder-taken   what the tests of a step that is taken say
 --   coded-below               a coded block is below 8
 --   joined                    the word w as it is computed, of coder and decoder
-use mathlib.Core.Path.{_≡_, refl, ap, _∙_}
+use mathlib.Core.Path.{_≡_, refl, sym, ap, _∙_}
 use mathlib.Core.Bool.{cond, not}
 use mathlib.Core.List.{List, [], _∷_}
 use Prim.Native.Nat.{ℕ, _<_}
@@ -21,6 +21,7 @@ use Rattle.link.specs.declared.code.CodeAnswer.{CodeAnswer}
 use Rattle.link.specs.declared.code.CodeAnswer.the-variants.{Coded, Refused}
 use Rattle.link.specs.Memory.{joining}
 use Rattle.link.specs.Coder.{codeNumbers}
+use Rattle.link.proofs.Memory.{joining-is}
 use Rattle.link.proofs.Refusals.{refuses, takes, call-numbers}
 use Rattle.iwadare.specs.Memory.{generators, coderWords, coderPending, pendingBound, delayedBound}
 use Rattle.iwadare.specs.Refusals.{coderMalformed, coderFault}
@@ -80,5 +81,5 @@ coded-below s b e = topped-lt 2 b (odd (coderJoining s b)) (coder-taken s b e .i
 -- of coder and decoder
 pub joined : (pending info image : ℕ) → image ≡ combination generators info
     → bitXor pending image ≡ joining generators pending info
-unfolding joining
-joined pending info image e = xor-code pending image ∙ ap (λ (i : ℕ). pending ⊕ i) e
+joined pending info image e =
+    xor-code pending image ∙ ap (λ (i : ℕ). pending ⊕ i) e ∙ sym (joining-is generators pending info)

@@ -12,6 +12,7 @@ use Rattle.span.specs.Combination.{combination}
 use Rattle.span.proofs.Word.{xor-lt, sel-lt}
 use Rattle.tables.proofs.Fit.{zeros-at}
 use Rattle.link.specs.Memory.{joining}
+use Rattle.link.proofs.Memory.{joining-is}
 use Rattle.link.proofs.Refusals.{none-or}
 use Rattle.link.proofs.Malformed.{none-above}
 use Rattle.link.proofs.Runs.{ran-keeps}
@@ -76,9 +77,9 @@ started-formed = (
 
 -- a pending word stays below 2^18
 joining-lt : (pending info : ℕ) → pending < 2 ^ 18 → joining generators pending info / 2 < 2 ^ 18
-unfolding joining
 joining-lt pending info h =
     let z = xor-lt 19 pending (combination generators info) (omega arith) (images info) in
+    let e = joining-is generators pending info in
     omega arith
 
 coder-kept : (s : List ℕ) (b : ℕ) → coderFault s b ≡ 0 → CoderFormed (coderNext s b)

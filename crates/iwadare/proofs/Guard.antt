@@ -13,12 +13,13 @@ use native.Mathlib.Decide.{ℕ-discrete}
 use native.Mathlib.Omega.{arith}
 use lib.ListN.{length, getD}
 use lib.Seq.{ext-getD}
-use Rattle.span.specs.Word.{_⊕_, odd, bit, sel}
-use Rattle.span.proofs.Word.{xor-zero-r}
+use Rattle.span.specs.Word.{_⊕_, odd, sel}
+use Rattle.span.proofs.Word.{xor-false-l, xor-zero-r, odd-digit, bit-none}
 use Rattle.span.proofs.Combination.{combination-zero}
 use Rattle.tables.proofs.Fit.{zeros-at}
 use Rattle.link.specs.Memory.{joining}
 use Rattle.link.specs.Step.{register}
+use Rattle.link.proofs.Memory.{joining-is}
 use Rattle.iwadare.specs.Memory.{generators, fillOf, pendingOf, termsOf, fillNext}
 use Rattle.iwadare.specs.Decoder.{decoderJoining, rawOf, registerOf, flipsSymbol1, flipsSymbol0, termsNext}
 use Rattle.iwadare.specs.Decoder.{decoderNext, delivered}
@@ -34,8 +35,8 @@ Tail j s = (i : ℕ) → j ≤ i → i < 18 → delayed s i ≡ 0
 -- ---- a right block
 
 joined-none : (pending : ℕ) → joining generators pending (0 % 2 ^ 2) ≡ pending
-unfolding joining
-joined-none pending = ap (λ (x : ℕ). pending ⊕ x) (combination-zero generators) ∙ xor-zero-r pending
+joined-none pending =
+    joining-is generators pending 0 ∙ ap (λ (x : ℕ). pending ⊕ x) (combination-zero generators) ∙ xor-zero-r pending
 
 module _ (s : List ℕ) (size : length s ≡ 21) where
   step : DecoderStep s 0 (decoderNext s 0)
@@ -46,10 +47,11 @@ module _ (s : List ℕ) (size : length s ≡ 21) where
 
   -- where the pending word is 0, so is the raw term
   register-none : pendingOf s ≡ 0 → registerOf s 0 ≡ termsOf s
-  unfolding registerOf rawOf decoderJoining xor odd bit
+  unfolding registerOf rawOf decoderJoining
   register-none z =
-      ap (λ (w : ℕ). register 13 (termsOf s) (xor (odd w) (bit 2 0))) (joined-none (pendingOf s) ∙ z)
-      ∙ add-zero (termsOf s)
+      ap₂ (λ (a b : Bool). register 13 (termsOf s) (xor a b))
+      (ap odd (joined-none (pendingOf s) ∙ z) ∙ odd-digit false) (bit-none 2 0 (omega arith))
+      ∙ ap (register 13 (termsOf s)) (xor-false-l false) ∙ add-zero (termsOf s)
 
   terms-half : pendingOf s ≡ 0 → termsOf s < 2 ^ 12 → termsOf (decoderNext s 0) ≡ termsOf s / 2
   terms-half z h =

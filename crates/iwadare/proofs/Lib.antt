@@ -5,7 +5,7 @@ pub mod Coder
 pub mod Decoder
 mod Calls
 mod Words
-mod Runs
+pub mod Runs
 mod Taps
 mod Formed
 mod Delivery

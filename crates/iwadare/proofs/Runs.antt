@@ -13,8 +13,9 @@ use native.Mathlib.Omega.{arith}
 use lib.Dec.{ltb, eqb}
 use lib.ListN.{length, getD}
 use Rattle.link.specs.declared.code.CodeAnswer.the-variants.{Coded, Refused as CodeRefused}
-use Rattle.link.specs.Refusals.{answered, leaves}
+use Rattle.link.specs.Refusals.{leaves}
 use Rattle.link.specs.Runs.{run, ran, placed}
+use Rattle.link.proofs.Refusals.{answered-is}
 use Rattle.link.proofs.Runs.{before, before-first, Told, Place, run-place, skipped}
 use Rattle.iwadare.specs.declared.decode.DecodeAnswer.{DecodeAnswer}
 use Rattle.iwadare.specs.declared.decode.DecodeAnswer.the-variants.{Delivery, NothingYet, Refused}
@@ -79,8 +80,9 @@ abbrev pub takenKept : None → List ℕ → ℕ → List Taken
 takenKept n s r = takenOf r (decodeAnswer s r)
 
 pub sent-told : Told (λ (n : None). coderFault) (λ n. coderNext) (λ n. codeMemory) coder-memory sentKept sentEntry
-unfolding codeAnswer answered
-sent-told n s b = go (eqb (coderFault s b) 0)
+unfolding codeAnswer
+sent-told n s b =
+    ap (sentOf b) (answered-is (coderFault s b) (Coded (codedBlock s b)) CodeRefused) ∙ go (eqb (coderFault s b) 0)
   where
     go : (q : Bool) → sentOf b (cond q (Coded (codedBlock s b)) (CodeRefused (coderFault s b)))
         ≡ cond q (sentEntry n s b ∷ []) []
@@ -89,8 +91,10 @@ sent-told n s b = go (eqb (coderFault s b) 0)
 
 pub taken-told : Told (λ (n : None). decoderFault) (λ n. decoderNext) (λ n. decodeMemory) decoder-memory
     takenKept takenEntry
-unfolding decodeAnswer answered delivery
-taken-told n s r = go (eqb (decoderFault s r) 0) (ltb (fillOf s) delay)
+unfolding decodeAnswer delivery
+taken-told n s r =
+    ap (takenOf r) (answered-is (decoderFault s r) (delivery s r) Refused)
+    ∙ go (eqb (decoderFault s r) 0) (ltb (fillOf s) delay)
   where
     go : (q d : Bool)
         → takenOf r (cond q (cond d NothingYet (Delivery (delivered s r))) (Refused (decoderFault s r)))

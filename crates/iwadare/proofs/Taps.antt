@@ -6,7 +6,7 @@
 use mathlib.Core.Path.{_≡_, refl, sym, ap, _∙_}
 use mathlib.Core.Bool.{Bool, false, xor}
 use mathlib.Core.List.{List, [], _∷_, _++_}
-use Prim.Native.Nat.{ℕ, zero, suc, _+_, _-_, _^_, _<_}
+use Prim.Native.Nat.{ℕ, zero, suc, _+_, _-_, _/_, _^_, _<_}
 use native.Mathlib.Omega.{arith}
 use lib.ListN.{length}
 use Rattle.span.specs.Word.{_⊕_, odd, bit}
@@ -17,6 +17,7 @@ use Rattle.link.specs.Memory.{started, joining}
 use Rattle.link.specs.Step.{parity}
 use Rattle.link.specs.Massey.{sumOver, ago, convolution}
 use Rattle.link.proofs.Step.{topped-bit, joined-half, joined-odd, coder-info, coder-half, coder-even}
+use Rattle.link.proofs.Memory.{joining-is}
 use Rattle.link.proofs.Convolution.{convolution-xor, ago-now, stream-convolution}
 use Rattle.iwadare.specs.Memory.{generators, coderWords, decoderWords, coderPending, pendingOf}
 use Rattle.iwadare.specs.Decoder.{decoderJoining, rawOf}
@@ -89,10 +90,13 @@ module _ (bs : List ℕ) where
 
   parity-sum : (b : ℕ) → b < length sent
       → odd (joining generators (words b) (infoSent sent b)) ≡ convolution 2 19 generators (infoSent sent) b
-  unfolding joining
-  parity-sum =
-      stream-convolution 2 19 generators (infoSent sent) words (length sent) (omega arith) images first
-      (λ t h. sends t (omega arith) .pending-on)
+  parity-sum b h =
+      ap odd (joining-is generators (words b) (infoSent sent b))
+      ∙ stream-convolution 2 19 generators (infoSent sent) words (length sent) (omega arith) images first
+      (λ t l.
+      sends t (omega arith) .pending-on
+      ∙ ap (λ (w : ℕ). w / 2) (joining-is generators (words t) (infoSent sent t)))
+      b h
 
   -- with the parity's row nothing is left of what is sent
   sent-none : (b : ℕ) → b < length sent → convolution 3 19 rows (blockSent sent) b ≡ false

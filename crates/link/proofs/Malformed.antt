@@ -1,23 +1,39 @@
 -- The condition of 14 taken apart: it does not apply exactly if turn and fill are within their bounds, and the words of
 -- the turn's stream below theirs. Assumes nothing.
 --
+--   above-none, above-or         the ones of words together, of no word and of one more
 --   some-none, none-above        no word is above a bound
 --   coder-fine, fine-coder       the coder's
 --   Fine, decoder-fine, fine-decoder   the decoder's
-use mathlib.Core.Path.{_≡_, refl, sym, subst}
-use mathlib.Core.Bool.{false, _||_}
+use mathlib.Core.Path.{_≡_, refl, sym, ap, subst, _∙_}
+use mathlib.Core.Bool.{Bool, false, _||_}
 use mathlib.Core.List.{List}
 use Prim.Native.Nat.{ℕ, zero, suc, _+_, _-_, _^_, _≤_, _<_}
+use native.Mathlib.Numerals.{add-one}
 use native.Mathlib.Decide.{ℕ-discrete}
 use native.Mathlib.Omega.{arith}
 use borrow.Author.Tests.{leb-false, ltb-false, lt-leb, le-ltb}
+use lib.Bits.{bitOr}
 use lib.Dec.{leb, ltb}
 use lib.ListN.{getD}
+use lib.Pow.{pow-pos}
+use Rattle.span.proofs.Masks.{or-above}
 use Rattle.tables.specs.declared.table.Table.{Table}
 use Rattle.link.specs.Memory.{turnOf, fillOf, delayOf, streamAt, pendingAt, pendingOf, syndromeOf, delayedOf}
 use Rattle.link.specs.Memory.{delayedBound}
 use Rattle.link.specs.Refusals.{someAbove, coderMalformed, decoderMalformed}
 use Rattle.link.proofs.Refusals.{or-none, none-or}
+
+pub above-none : (k : ℕ) (s : List ℕ) (from : ℕ) → leb (2 ^ k) 0 ≡ someAbove (2 ^ k) s from 0
+unfolding someAbove
+above-none k s from = let p = pow-pos k in lt-leb (2 ^ k) 0 (omega arith)
+
+pub above-or : (k seen : ℕ) (s : List ℕ) (from i : ℕ) → leb (2 ^ k) seen ≡ someAbove (2 ^ k) s from i
+    → leb (2 ^ k) (bitOr seen (getD s (from + i) 0)) ≡ someAbove (2 ^ k) s from (i + 1)
+unfolding someAbove
+above-or k seen s from i e =
+    let w = getD s (from + i) 0 in
+    or-above k seen w ∙ ap (λ (b : Bool). b || leb (2 ^ k) w) e ∙ ap (someAbove (2 ^ k) s from) (sym (add-one i))
 
 -- no word is above the bound, and the other way round
 pub some-none : (bound : ℕ) (s : List ℕ) (from i : ℕ) → someAbove bound s from i ≡ false → (j : ℕ) → j < i

@@ -6,6 +6,7 @@
 --   start-fault, step-fault  the chains of a start and of a step
 --   step-settled             the same once 12 and 13 are settled
 --   Passed, step-passed      what no refusal says
+--   answered-is              an answer, by its fault
 --   refuses, takes           answer and memory of a call that is refused, and of one that is not
 --   call-numbers, refused-numbers, taken-numbers   the numbers of both
 --   LentTaken, lent-taken    where no refusal applies, the lent rows are fifteen, and the table is that of them
@@ -100,6 +101,11 @@ pub ranges : (bs : List Bool) (most : ℕ) → 12 + length bs ≡ suc most → (
 ranges bs most e some = let r = first-range 12 bs some in (r .0, omega (arith, r .1, e))
 
 -- ---- answer and memory of a call
+
+pub answered-is : {X : Type 0} (fault : ℕ) (x : X) (refused : ℕ → X)
+    → answered fault x refused ≡ cond (eqb fault 0) x (refused fault)
+unfolding answered
+answered-is fault x refused = refl
 
 module _ {X : Type 0} (refused : ℕ → X) (fault : ℕ) (x : X) (next before : List ℕ) where
   pub refuses : (k : ℕ) → fault ≡ k → 0 < k

@@ -18,6 +18,11 @@ use Rattle.link.specs.Start.{startAnswer, startMemory, startNumbers, len
 use Rattle.tables.proofs.Refusal.{first-nil, first-cons}
 use Rattle.link.proofs.Refusals.{start-fault, refuses, takes, call-numbers}
 
+pub start-memory : (t : Table) (words : ℕ) (s : List ℕ)
+    → startMemory t words s ≡ leaves (startFault t words s) (started words) s
+unfolding startMemory
+start-memory t words s = refl
+
 pub start-refuses : (t : Table) (words : ℕ) (s : List ℕ) (k : ℕ) → startFault t words s ≡ k → 0 < k
     → (Refused k ≡ startAnswer t words s) × (s ≡ startMemory t words s)
 unfolding startAnswer startMemory

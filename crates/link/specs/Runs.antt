@@ -84,7 +84,8 @@ coderAfter = ran codeMemory
 abbrev pub decoderAfter : List ℕ → List Call → List ℕ
 decoderAfter = ran decodeMemory
 
-abbrev pub placed : {T X : Type 0} → (T → List ℕ → ℕ → ℕ) → (T → List ℕ → ℕ → X) → T → List ℕ → ℕ → List X
+abbrev pub placed : {T X : Type 0} → (T → List ℕ → ℕ → ℕ) → (T → List ℕ → ℕ → X)
+    → T → List ℕ → ℕ → List X
 placed fault entry t s b = cond (eqb (fault t s b) 0) (entry t s b ∷ []) []
 
 -- past the end of a list

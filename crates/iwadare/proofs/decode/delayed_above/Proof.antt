@@ -1,15 +1,12 @@
 -- `iwadare::decode::delayed_above`: the ones of the first i delayed blocks together are above the bound exactly if one
 -- of them is. Assumes nothing.
-use mathlib.Core.Path.{_≡_, refl, sym, ap, _∙_}
-use mathlib.Core.Bool.{Bool, _||_}
-use Prim.Native.Nat.{_+_, _-_, _≤_}
-use native.Mathlib.Numerals.{add-one}
+use mathlib.Core.Path.{_≡_, ap, _∙_}
+use Prim.Native.Nat.{_-_, _≤_}
 use native.Mathlib.Omega.{arith}
 use borrow.Author.Needs.{needs}
 use lib.Dec.{leb}
-use lib.ListN.{getD}
-use Rattle.span.proofs.Masks.{or-above}
 use Rattle.link.specs.Refusals.{someAbove}
+use Rattle.link.proofs.Malformed.{above-none, above-or}
 use Rattle.iwadare.proofs.decode.delayed_above.Statement.{statement}
 use Rattle.iwadare.proofs.decode.delayed_above.Tie as tie
 
@@ -20,8 +17,7 @@ abbrev μ-loop : tie.MeasureT-loop
 μ-loop state seen₀ i₀ seen i = 18 - i
 
 loop-holds : tie.Need-loop-holds Inv-loop μ-loop
-unfolding someAbove
-loop-holds c = (omega arith, refl)
+loop-holds c = (omega arith, above-none 2 (c .args .state .now) 3)
 
 add-seen : tie.Need-add-seen Inv-loop μ-loop
 add-seen c = search needs
@@ -39,15 +35,10 @@ loop-less : tie.Need-loop-less Inv-loop μ-loop
 loop-less c = search needs
 
 loop-again : tie.Need-loop-again Inv-loop μ-loop
-unfolding someAbove
 loop-again c =
     let l = c .before .before .loop in
     let s = c .before .before .before .args .state .now in
-    let w = getD s (3 + l .i) 0 in (
-      omega arith,
-      or-above 2 (l .seen) w ∙ ap (λ (b : Bool). b || leb 4 w) (l .inv .1)
-          ∙ ap (someAbove 4 s 3) (sym (add-one (l .i))),
-    )
+    (omega arith, above-or 2 (l .seen) s 3 (l .i) (l .inv .1))
 
 returns : tie.Need-returns Inv-loop μ-loop
 returns c =

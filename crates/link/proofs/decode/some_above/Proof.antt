@@ -1,17 +1,13 @@
 -- `link::decode::some_above`: the ones of the first i words together are above the bound exactly if one of them is.
 -- Assumes nothing.
-use mathlib.Core.Path.{_≡_, sym, ap, _∙_}
-use mathlib.Core.Bool.{Bool, _||_}
-use Prim.Native.Nat.{_+_, _-_, _^_, _≤_}
-use native.Mathlib.Numerals.{add-one}
+use mathlib.Core.Path.{_≡_, ap, _∙_}
+use Prim.Native.Nat.{_-_, _^_, _≤_}
 use native.Mathlib.Omega.{arith}
 use borrow.Author.Needs.{needs}
-use borrow.Author.Tests.{lt-leb}
 use lib.Dec.{leb}
-use lib.ListN.{getD}
-use lib.Pow.{pow-pos}
 use Rattle.link.specs.Refusals.{someAbove}
-use Rattle.span.proofs.Masks.{above-mask, or-above}
+use Rattle.span.proofs.Masks.{above-mask}
+use Rattle.link.proofs.Malformed.{above-none, above-or}
 use Rattle.link.proofs.decode.some_above.Statement.{statement}
 use Rattle.link.proofs.decode.some_above.Tie as tie
 
@@ -23,10 +19,9 @@ abbrev μ-loop : tie.MeasureT-loop
 μ-loop words from count width seen₀ i₀ seen i = count - i
 
 loop-holds : tie.Need-loop-holds Inv-loop μ-loop
-unfolding someAbove
 loop-holds c =
-    let p = pow-pos (c .before .args .width) in
-    (omega arith, lt-leb (2 ^ c .before .args .width) 0 (omega arith))
+    let a = c .before .args in
+    (omega arith, above-none (a .width) (a .words .now) (a .from))
 
 add-seen : tie.Need-add-seen Inv-loop μ-loop
 add-seen c = search needs
@@ -44,15 +39,10 @@ loop-less : tie.Need-loop-less Inv-loop μ-loop
 loop-less c = search needs
 
 loop-again : tie.Need-loop-again Inv-loop μ-loop
-unfolding someAbove
 loop-again c =
     let l = c .before .before .loop in
     let a = c .before .before .before .before .args in
-    let w = getD (a .words .now) (a .from + l .i) 0 in (
-      omega arith,
-      or-above (a .width) (l .seen) w ∙ ap (λ (b : Bool). b || leb (2 ^ a .width) w) (l .inv .1)
-          ∙ ap (someAbove (2 ^ a .width) (a .words .now) (a .from)) (sym (add-one (l .i))),
-    )
+    (omega arith, above-or (a .width) (l .seen) (a .words .now) (a .from) (l .i) (l .inv .1))
 
 mask-requires : tie.Need-mask-requires Inv-loop μ-loop
 mask-requires c κs = search needs
