@@ -5,8 +5,8 @@ use mathlib.Core.Path.{_≡_, refl, sym, ap, ap₂, _∙_, subst}
 use mathlib.Core.Bool.{Bool, true, false, xor, _&&_}
 use mathlib.Core.Logic.{_≢_}
 use Prim.Native.Nat.{ℕ, zero, suc, _+_, _-_, _*_, _/_, _%_, _^_, _≤_, _<_}
-use native.Mathlib.Nat.{add-zero, zero-mul, one-mul, mul-assoc, mul-mod-left, suc-mul, zero-mod, mod-mod, mod-lt}
-use native.Mathlib.Nat.{div-one, div-eq-of-lt, div-eq-of-lt-le}
+use native.Mathlib.Nat.{add-zero, add-comm, zero-mul, one-mul, mul-assoc, mul-mod-left, suc-mul, zero-mod, mod-mod}
+use native.Mathlib.Nat.{mod-lt, div-one, div-eq-of-lt, div-eq-of-lt-le}
 use native.Mathlib.Numerals.{add-one, one-add}
 use native.Mathlib.Omega.{arith}
 use borrow.Author.Tests.{eq-eqb, ne-eqb, eqb-true, eqb-false}
@@ -221,6 +221,19 @@ pub bit-none : (p x : ℕ) → x < 2 ^ p → bit p x ≡ false
 unfolding bit odd
 bit-none p x h = ap odd (div-eq-of-lt h)
 
+-- a word is its bits
+bits-none : (x : ℕ) → ((p : ℕ) → bit p x ≡ false) → x ≡ 0
+bits-none = bin-ind (λ (x : ℕ). ((p : ℕ) → bit p x ≡ false) → x ≡ 0) (λ h. refl) (λ x half h.
+    let z = half (λ p. sym (bit-suc p x) ∙ h (suc p)) in
+    let e : x % 2 ≡ 0 = odd-mod x ∙ ap digit (sym (bit-zero x) ∙ h 0) in
+    omega arith)
+
+pub bit-ext : (a b : ℕ) → ((p : ℕ) → bit p a ≡ bit p b) → a ≡ b
+bit-ext a b h =
+    xor-eq a b
+    (bits-none (a ⊕ b)
+    (λ p. bit-xor p a b ∙ ap (λ (s : Bool). xor s (bit p b)) (h p) ∙ xor-self-bool (bit p b)))
+
 -- the low bits of a word are its own
 bit-part : (j p x : ℕ) → bit p (x % 2 ^ (suc j + p)) ≡ bit p x
 unfolding bit
@@ -232,18 +245,26 @@ bit-part j p x =
 pub bit-low : (p n x : ℕ) → p < n → bit p (x % 2 ^ n) ≡ bit p x
 bit-low p n x h = subst (λ (k : ℕ). bit p (x % 2 ^ k) ≡ bit p x) (omega arith) (bit-part (n - suc p) p x)
 
+-- a word below 2^ν with a bit at place ν, and two of these
+topped-sel : (ν a : ℕ) (s : Bool) → a < 2 ^ ν → a + digit s * 2 ^ ν ≡ a ⊕ sel s (2 ^ ν)
+topped-sel ν a true h =
+    ap (λ (x : ℕ). a + x) (one-mul (2 ^ ν)) ∙ add-comm a (2 ^ ν) ∙ pow-add-xor ν a h ∙ xor-comm (2 ^ ν) a
+topped-sel ν a false h = ap (λ (x : ℕ). a + x) (zero-mul (2 ^ ν)) ∙ add-zero a ∙ sym (xor-zero-r a)
+
+pub topped-xor : (ν a b : ℕ) (s t : Bool) → a < 2 ^ ν → b < 2 ^ ν
+    → (a + digit s * 2 ^ ν) ⊕ (b + digit t * 2 ^ ν) ≡ a ⊕ b + digit (xor s t) * 2 ^ ν
+topped-xor ν a b s t h k =
+    ap₂ _⊕_ (topped-sel ν a s h) (topped-sel ν b t k) ∙ xor-swap a (sel s (2 ^ ν)) b (sel t (2 ^ ν))
+    ∙ ap (λ (x : ℕ). a ⊕ b ⊕ x) (sym (sel-xor s t (2 ^ ν))) ∙ sym (topped-sel ν (a ⊕ b) (xor s t) (xor-lt ν a b h k))
+
 -- one more bit of a word
 pub mod-top : (m x : ℕ) → x % 2 ^ suc m ≡ x % 2 ^ m ⊕ sel (bit m x) (2 ^ m)
 unfolding bit
 mod-top m x =
     ap (λ (k : ℕ). x % 2 ^ k) (sym (one-add m)) ∙ mod-pow-add x 1 m
-    ∙ ap (λ (d : ℕ). d * 2 ^ m + x % 2 ^ m) (odd-mod (x / 2 ^ m)) ∙ go (odd (x / 2 ^ m))
-  where
-    go : (s : Bool) → digit s * 2 ^ m + x % 2 ^ m ≡ x % 2 ^ m ⊕ sel s (2 ^ m)
-    go true =
-        ap (λ (y : ℕ). y + x % 2 ^ m) (one-mul (2 ^ m)) ∙ pow-add-xor m (x % 2 ^ m) (mod-lt x (pow-pos m))
-        ∙ xor-comm (2 ^ m) (x % 2 ^ m)
-    go false = ap (λ (y : ℕ). y + x % 2 ^ m) (zero-mul (2 ^ m)) ∙ omega arith ∙ sym (xor-zero-r (x % 2 ^ m))
+    ∙ ap (λ (d : ℕ). d * 2 ^ m + x % 2 ^ m) (odd-mod (x / 2 ^ m))
+    ∙ add-comm (digit (odd (x / 2 ^ m)) * 2 ^ m) (x % 2 ^ m)
+    ∙ topped-sel m (x % 2 ^ m) (odd (x / 2 ^ m)) (mod-lt x (pow-pos m))
 
 pub bit-pow : (p : ℕ) → bit p (2 ^ p) ≡ true
 unfolding bit odd
