@@ -2,18 +2,21 @@
 -- (t + 1) = (P t ⊕ image of x t) / 2. Bit 0 of P t ⊕ image of x t is then the convolution of the rows and the blocks.
 -- Assumes nothing.
 --
---   sum-ext, sum-false, sum-shift, sum-xor, sum-swap   laws of the exclusive or over an index range
+--   sum-ext, sum-false, sum-single, sum-shift, sum-xor, sum-swap   laws of the exclusive or over an index range
+--   convolution-ext       the convolution of blocks that are the same
 --   convolution-xor       the convolution is linear in the blocks
 --   combination-bit       a bit of an image, as a sum over the rows
+--   convolution-images    the convolution, by the images of the blocks
 --   ago-now               block 0 back is the block itself
 --   stream-convolution    the theorem
 --   stream-past           P t holds what the blocks before t add to the convolutions from t on
 use mathlib.Core.Path.{_≡_, refl, sym, ap, ap₂, _∙_}
 use mathlib.Core.Bool.{Bool, true, false, cond, xor, _&&_}
+use mathlib.Core.Logic.{_≢_}
 use mathlib.Core.List.{List, [], _∷_}
 use Prim.Native.Nat.{ℕ, zero, suc, _+_, _-_, _/_, _^_, _≤_, _<_}
-use native.Mathlib.Nat.{add-zero, div-one, mod-one}
-use native.Mathlib.Decide.{decLt}
+use native.Mathlib.Nat.{add-zero, zero-add, div-one, mod-one}
+use native.Mathlib.Decide.{decLt, ℕ-discrete}
 use native.Mathlib.Omega.{arith}
 use borrow.Author.Tests.{lt-ltb, le-ltb}
 use lib.Dec.{leb, leb·zero, leb·suc-zero, leb·suc-suc}
@@ -21,8 +24,8 @@ use lib.ListN.{length, getD}
 use lib.Pow.{pow-pos, pow-mono, shr-shr}
 use Rattle.span.specs.Word.{_⊕_, odd, bit, sel}
 use Rattle.span.specs.Combination.{combination}
-use Rattle.span.proofs.Word.{xor-false-l, xor-comm-bool, xor-swap-bool, xor-zero-l, xor-zero-r, xor-lt, bit-odd}
-use Rattle.span.proofs.Word.{bit-zero, bit-suc, bit-xor, bit-none, and-false}
+use Rattle.span.proofs.Word.{xor-false-l, xor-false-r, xor-comm-bool, xor-swap-bool, xor-zero-l, xor-zero-r, xor-lt}
+use Rattle.span.proofs.Word.{bit-odd, bit-zero, bit-suc, bit-xor, bit-none, and-false}
 use Rattle.span.proofs.Combination.{combination-zero, combination-append, combination-last, combination-low}
 use Rattle.link.specs.Massey.{sumOver, rowOf, symbol, ago, convolution, past, pastSum, HoldsPast}
 
@@ -32,15 +35,35 @@ and-xor : (a b c : Bool) → a && xor b c ≡ xor (a && b) (a && c)
 and-xor true b c = refl
 and-xor false b c = sym (xor-false-l false)
 
-sum-ext : (from count : ℕ) (f g : ℕ → Bool) → ((i : ℕ) → f i ≡ g i) → sumOver from count f ≡ sumOver from count g
+pub sum-ext : (from count : ℕ) (f g : ℕ → Bool) → ((i : ℕ) → f i ≡ g i) → sumOver from count f ≡ sumOver from count g
 unfolding sumOver
 sum-ext from zero f g h = refl
 sum-ext from (suc count) f g h = ap₂ xor (h from) (sum-ext (suc from) count f g h)
 
-sum-false : (from count : ℕ) (f : ℕ → Bool) → ((i : ℕ) → f i ≡ false) → sumOver from count f ≡ false
+pub sum-false : (from count : ℕ) (f : ℕ → Bool) → ((i : ℕ) → f i ≡ false) → sumOver from count f ≡ false
 unfolding sumOver
 sum-false from zero f h = refl
 sum-false from (suc count) f h = ap₂ xor (h from) (sum-false (suc from) count f h) ∙ xor-false-l false
+
+-- a sum of which all terms but that of i are false: where the range does not reach i, and where it does
+sum-other : (from count : ℕ) (f : ℕ → Bool) (i : ℕ) → i < from → ((k : ℕ) → k ≢ i → f k ≡ false)
+    → sumOver from count f ≡ false
+unfolding sumOver
+sum-other from zero f i l h = refl
+sum-other from (suc count) f i l h =
+    ap₂ xor (h from (λ e. omega arith)) (sum-other (suc from) count f i (omega arith) h) ∙ xor-false-l false
+
+pub sum-single : (from count : ℕ) (f : ℕ → Bool) (i : ℕ) → from ≤ i → i < from + count
+    → ((k : ℕ) → k ≢ i → f k ≡ false) → sumOver from count f ≡ f i
+unfolding sumOver
+sum-single from zero f i a b h = absurd (omega arith)
+sum-single from (suc count) f i a b h = go (ℕ-discrete from i) (λ l. sum-single (suc from) count f i l (omega arith) h)
+  where
+    go : Dec (from ≡ i) → (suc from ≤ i → sumOver (suc from) count f ≡ f i)
+        → xor (f from) (sumOver (suc from) count f) ≡ f i
+    go (yes e) rest =
+        ap₂ xor (ap f e) (sum-other (suc from) count f i (omega arith) h) ∙ xor-false-r (f i)
+    go (no e) rest = ap₂ xor (h from e) (rest (omega arith)) ∙ xor-false-l (f i)
 
 sum-shift : (from count : ℕ) (f : ℕ → Bool) → sumOver (suc from) count f ≡ sumOver from count (λ i. f (suc i))
 unfolding sumOver
@@ -68,6 +91,16 @@ sum-swap a (suc m) b n f =
     ∙ sym (sum-xor b n (f a) (λ k. sumOver (suc a) m (λ i. f i k)))
 
 -- ---- linear
+
+pub convolution-ext : (n N : ℕ) (rows : List ℕ) (x y : ℕ → ℕ) (b : ℕ) → ((i : ℕ) → x i ≡ y i)
+    → convolution n N rows x b ≡ convolution n N rows y b
+unfolding convolution
+convolution-ext n N rows x y b h =
+    sum-ext 1 n (λ j. sumOver 0 N (λ k. bit k (rowOf rows j) && symbol j (ago x b k)))
+    (λ j. sumOver 0 N (λ k. bit k (rowOf rows j) && symbol j (ago y b k)))
+    (λ j. sum-ext 0 N (λ k. bit k (rowOf rows j) && symbol j (ago x b k))
+    (λ k. bit k (rowOf rows j) && symbol j (ago y b k))
+    (λ k. ap (λ (z : ℕ). bit k (rowOf rows j) && symbol j (cond (leb k b) z 0)) (h (b - k))))
 
 ago-xor : (x y : ℕ → ℕ) (b k : ℕ) → ago (λ i. x i ⊕ y i) b k ≡ ago x b k ⊕ ago y b k
 ago-xor x y b k = go (leb k b)
@@ -104,7 +137,7 @@ combination-cons w ws c =
     (combination-last [] w c ∙ ap₂ (λ (z : ℕ) (s : Bool). z ⊕ sel s w) (combination-none c) (bit-zero c)
     ∙ xor-zero-l (sel (odd c) w))
 
-bit-nothing : (k : ℕ) → bit k 0 ≡ false
+pub bit-nothing : (k : ℕ) → bit k 0 ≡ false
 bit-nothing k = bit-none k 0 (pow-pos k)
 
 bit-sel : (k : ℕ) (s : Bool) (w : ℕ) → bit k (sel s w) ≡ bit k w && s
@@ -138,6 +171,14 @@ combination-bit n rows k c h =
     ∙ sum-ext 0 n (λ i. bit k (getD rows i 0) && bit i c) (λ i. bit k (rowOf rows (suc i)) && symbol (suc i) c)
     (λ i. ap (λ (p : ℕ). bit k (getD rows p 0) && bit p c) (let e : i ≡ suc i - 1 = omega arith in e))
     ∙ sym (sum-shift 0 n (λ j. bit k (rowOf rows j) && symbol j c))
+
+pub convolution-images : (n N : ℕ) (rows : List ℕ) (x : ℕ → ℕ) (b : ℕ) → length rows ≤ n
+    → convolution n N rows x b ≡ sumOver 0 N (λ k. bit k (combination rows (ago x b k)))
+unfolding convolution
+convolution-images n N rows x b size =
+    sum-swap 1 n 0 N (λ j k. bit k (rowOf rows j) && symbol j (ago x b k))
+    ∙ sum-ext 0 N (λ k. sumOver 1 n (λ j. bit k (rowOf rows j) && symbol j (ago x b k)))
+    (λ k. bit k (combination rows (ago x b k))) (λ k. sym (combination-bit n rows k (ago x b k) size))
 
 -- ---- the pending word
 
@@ -208,14 +249,11 @@ module _ (n N : ℕ) (rows : List ℕ) (x P : ℕ → ℕ) (count : ℕ) (size :
       ∙ sym (sum-swap 1 n 1 (N - 1) (λ j i. bit (k + i) (rowOf rows j) && symbol j (ago x t i)))
 
   pub stream-convolution : (t : ℕ) → t < count → odd (P t ⊕ combination rows (x t)) ≡ convolution n N rows x t
-  unfolding convolution
   stream-convolution t h =
       sym (bit-zero (P t ⊕ combination rows (x t))) ∙ joined-bit t 0 N (omega arith) h (λ K f. pending-bit t 0 K f h)
-      ∙ sum-ext 0 N (λ k. bit (0 + k) (combination rows (ago x t k)))
-      (λ k. sumOver 1 n (λ j. bit k (rowOf rows j) && symbol j (ago x t k)))
-      (λ k. ap (λ (p : ℕ). bit p (combination rows (ago x t k))) (let e : 0 + k ≡ k = omega arith in e)
-      ∙ combination-bit n rows k (ago x t k) size)
-      ∙ sym (sum-swap 1 n 0 N (λ j k. bit k (rowOf rows j) && symbol j (ago x t k)))
+      ∙ sum-ext 0 N (put t 0) (λ k. bit k (combination rows (ago x t k)))
+      (λ k. ap (λ (p : ℕ). bit p (combination rows (ago x t k))) (zero-add k))
+      ∙ sym (convolution-images n N rows x t size)
 
 -- The blocks before block t alone. Their pending words are P up to block t; then nothing joins, and each is the one
 -- before it halved.

@@ -3,10 +3,11 @@
 --
 --   coder-pending, coder-parity, coder-zero   a stream of the coder: the pending word, the parity, and the sum over all
 --                                             symbols
---   decoder-pending, decoder-raw, decoder-register   a stream of the decoder: the pending word, the raw term, and the
---                                                    register
+--   decoder-pending, decoder-parities, decoder-raw, decoder-register   a stream of the decoder: the pending word, the
+--                                     raw term by the parities and by the blocks, and the register
 --   decoder-delivers                  what a decoder delivers, from any memory
 --   parity, syndromes, syndrome-errors, registers, pendings, pendings-received, deliveries   the theorems
+--   parities                          the raw terms as the paper forms them
 use mathlib.Core.Path.{_≡_, sym, ap, ap₂, _∙_, subst}
 use mathlib.Core.Bool.{Bool, false, cond, xor}
 use mathlib.Core.Logic.{_⊎_, inl, inr}
@@ -29,11 +30,11 @@ use Rattle.link.specs.declared.decode.DecodeAnswer.{DecodeAnswer}
 use Rattle.link.specs.declared.decode.DecodeAnswer.the-variants.{Delivery}
 use Rattle.link.specs.Memory.{joining, started, coderWords, turnOf, decoderWords, pendingAt, fillOf, delayOf}
 use Rattle.link.specs.Memory.{pendingOf}
-use Rattle.link.specs.Step.{information, errorOf, keptOf, markOf}
+use Rattle.link.specs.Step.{information, parity as received, errorOf, keptOf, markOf}
 use Rattle.link.specs.Refusals.{coderFault, decoderFault}
 use Rattle.link.specs.Coder.{coderNext, codeMemory}
 use Rattle.link.specs.Decoder.{decoderNext, decodeMemory}
-use Rattle.link.specs.Runs.{Call, sentBy, takenBy, takenAt, placed}
+use Rattle.link.specs.Runs.{Call, DecoderTables, sentBy, takenBy, takenAt, placed}
 use Rattle.link.specs.Massey.{convolution, HoldsPast, stream, infoSent, blockSent, blockTaken, rawAt, registerAt}
 use Rattle.link.specs.Massey.{foundAt, PARITY, SYNDROME, SYNDROME-ERRORS, REGISTER, PENDING, PENDING-RECEIVED}
 use Rattle.link.specs.Massey.{DELIVERY, WAITING}
@@ -161,6 +162,18 @@ module _ {n N m : ℕ} {infos : List ℕ} {S : ℕ → List ℕ} {R : ℕ → �
       (λ c. combination-lt N infos c (l .decodes (r + b * m) inside .fits .below)) joins-start
       (λ k h. joins-on k (omega arith)) b (omega arith)
 
+  -- the parity formed by coding what was received as information, and the parity received
+  pub decoder-parities : length infos ≤ n - 1
+      → stream m r raw b
+      ≡ xor (convolution (n - 1) N infos (stream m r (λ p. R p % 2 ^ (n - 1))) b) (bit (n - 1) (stream m r R b))
+  unfolding joining
+  decoder-parities size =
+      judged b (omega arith) .raw-is
+      ∙ ap (λ (s : Bool). xor s (bit (n - 1) (stream m r R b)))
+      (stream-convolution (n - 1) N infos (stream m r (λ p. R p % 2 ^ (n - 1))) joins (suc b) size
+      (λ c. combination-lt N infos c (l .decodes (r + b * m) inside .fits .below)) joins-start
+      (λ k h. joins-on k (omega arith)) b (omega arith))
+
   pub decoder-raw : length infos ≡ n - 1 → stream m r raw b ≡ convolution n N (infos ++ (1 ∷ [])) (stream m r R) b
   decoder-raw size =
       let f = l .decodes (r + b * m) inside .fits in
@@ -266,6 +279,20 @@ syndromes t ds room tables r b low inside =
     (foundAt (started (decoderWords t)) ds) (verdict t (started (decoderWords t)) ds tables)
     (decoder-zeros t ds) r b low
     inside (info-size t room)
+
+-- 000, II.B: "the parity sequence formed by encoding the received information sequences", and the received one
+pub parities : (t : Table) (ds : List Call) →
+    let memory = started (decoderWords t) in
+    let block = blockTaken (takenBy memory ds) in
+    DecoderTables t memory ds → (r b : ℕ) → r < t .depth → r + b * t .depth < length (takenBy memory ds)
+    → stream (t .depth) r (rawAt memory ds) b
+    ≡ xor (convolution (t .symbols - 1) (t .span) (infoRows t)
+    (stream (t .depth) r (λ p. information (t .symbols) (block p))) b)
+    (received (t .symbols) (stream (t .depth) r block b))
+parities t ds tables r b low inside =
+    let s = started (decoderWords t) in
+    decoder-parities (decoded t s ds tables) (rawAt s ds) (registerAt s ds) (foundAt s ds) (verdict t s ds tables)
+    (decoder-zeros t ds) r b low inside (simp length-take (omega arith))
 
 pub syndrome-errors : SYNDROME-ERRORS
 syndrome-errors t cs ds room coder decoder enough r b low inside =

@@ -3,6 +3,7 @@
 --
 --   before, before-first     the memory before the call that is taken at a place, and at the first
 --   Told                     what is kept of a call is one entry, or nothing of a refusal
+--   run-taken                a run whose first call is taken
 --   Place, run-place         what stands at a place
 --   ran-keeps                what every call keeps, a run keeps
 --   run-append               a run over two lists
@@ -32,7 +33,7 @@ use Rattle.link.specs.Runs.{REFUSED-SKIPPED}
 -- a call's fault and the memory after it where that is 0: what every call leaves
 module _ {T : Type 0} (fault : T → List ℕ → ℕ → ℕ) (next memory : T → List ℕ → ℕ → List ℕ)
     (is-memory : (t : T) (s : List ℕ) (b : ℕ) → memory t s b ≡ leaves (fault t s b) (next t s b) s) where
-  memory-taken : (t : T) (s : List ℕ) (b : ℕ) → fault t s b ≡ 0 → memory t s b ≡ next t s b
+  pub memory-taken : (t : T) (s : List ℕ) (b : ℕ) → fault t s b ≡ 0 → memory t s b ≡ next t s b
   unfolding leaves
   memory-taken t s b e = is-memory t s b ∙ rw (eq-eqb (fault t s b) 0 e)
 
@@ -75,7 +76,7 @@ module _ {T : Type 0} (fault : T → List ℕ → ℕ → ℕ) (next memory : T 
 
   module _ {X : Type 0} (kept : T → List ℕ → ℕ → List X) (entry : T → List ℕ → ℕ → X) (told : Told kept entry)
       (s : List ℕ) (c : CallOf T) (cs : List (CallOf T)) where
-    run-taken : fault (c .table) s (c .block) ≡ 0
+    pub run-taken : fault (c .table) s (c .block) ≡ 0
         → run memory kept s (c ∷ cs) ≡ entry (c .table) s (c .block) ∷ run memory kept (next (c .table) s (c .block)) cs
     unfolding run
     run-taken e =
