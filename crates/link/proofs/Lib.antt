@@ -44,6 +44,11 @@ mod Guard
 pub mod Batches
 mod Clean
 mod Computed
+mod Taken
+mod Sums
+mod Spread
+mod Impulse
+mod Reach
 mod Examples
 mod Sharp
 mod Witness

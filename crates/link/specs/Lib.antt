@@ -20,5 +20,7 @@ pub mod Clean
 pub mod Computed
 pub mod Sharp
 pub mod Witness
+pub mod Sums
+pub mod Reach
 pub mod Examples
 pub mod Main
