@@ -174,8 +174,8 @@ uint64_t burst_start_decoder(const uint64_t table[18], uint64_t *words, size_t c
  *
  * Test signals may be added. With one table, from started memories and where no step is refused, the coded blocks of
  * the exclusive or of two equally long messages are the exclusive or of theirs, block by block. Changing symbol j of
- * one block, its bit j - 1, changes 1 + (ones in row j) coded bits, if at least m * (N - 1) blocks follow it: that bit,
- * and the parity k * m blocks later for each bit k of row j that is 1.
+ * one information block, its bit j - 1, changes exactly 1 + (ones in row j) coded bits, if at least m * (N - 1) blocks
+ * follow it and no step is refused: that bit, and the parity k * m blocks later for each bit k of row j that is 1.
  *
  * Refused, 12 to 15, it writes no word. The table is only read, and its suitability is not tested.
  */
@@ -205,9 +205,9 @@ struct burst_coded burst_code(const uint64_t table[18], uint64_t *words, size_t 
  * received is a wrong one: any block below 2^n, such as 0, is handed in for it. One that is left out, or refused,
  * shifts all later ones by a place.
  *
- * Of equally long lists of received blocks, from started memories, the terms of the syndrome add as coded blocks do;
- * what is delivered may not be added. With n = 2, N = 4, m = 1 and row 10 the blocks 2, 2, 0, 0 and 2, 0, 0, 2 deliver
- * 0 each, and their exclusive or, 0, 2, 0, 2, delivers 1.
+ * What is delivered may not be added. With n = 2, N = 4, m = 1 and row 10 the blocks 2, 2, 0, 0 and 2, 0, 0, 2 deliver
+ * 0 each, and their exclusive or, 0, 2, 0, 2, delivers 1. The terms of the syndrome, which no call returns, do add: of
+ * equally long lists with one table, from started memories and where no step is refused.
  *
  * Refused, 12 to 15, it writes no word. The table is only read, and its suitability is not tested.
  */

@@ -9,6 +9,7 @@
 --   convolution-images    the convolution, by the images of the blocks
 --   ago-now               block 0 back is the block itself
 --   stream-convolution    the theorem
+--   stream-differ         two streams that begin with the same word
 --   stream-past           P t holds what the blocks before t add to the convolutions from t on
 use mathlib.Core.Path.{_≡_, refl, sym, ap, ap₂, _∙_}
 use mathlib.Core.Bool.{Bool, true, false, cond, xor, _&&_}
@@ -24,9 +25,11 @@ use lib.ListN.{length, getD}
 use lib.Pow.{pow-pos, pow-mono, shr-shr}
 use Rattle.span.specs.Word.{_⊕_, odd, bit, sel}
 use Rattle.span.specs.Combination.{combination}
-use Rattle.span.proofs.Word.{xor-false-l, xor-false-r, xor-comm-bool, xor-swap-bool, xor-zero-l, xor-zero-r, xor-lt}
-use Rattle.span.proofs.Word.{bit-odd, bit-zero, bit-suc, bit-xor, bit-none, and-false}
-use Rattle.span.proofs.Combination.{combination-zero, combination-append, combination-last, combination-low}
+use Rattle.span.proofs.Word.{xor-false-l, xor-false-r, xor-comm-bool, xor-swap-bool, xor-zero-l, xor-zero-r, xor-self}
+use Rattle.span.proofs.Word.{xor-swap, xor-lt, xor-half, odd-xor, bit-odd, bit-zero, bit-suc, bit-xor, bit-none}
+use Rattle.span.proofs.Word.{and-false}
+use Rattle.span.proofs.Combination.{combination-zero, combination-xor, combination-append, combination-last}
+use Rattle.span.proofs.Combination.{combination-low}
 use Rattle.link.specs.Massey.{sumOver, rowOf, symbol, ago, convolution, past, pastSum, HoldsPast}
 
 -- ---- exclusive or of two, and over a range
@@ -254,6 +257,29 @@ module _ (n N : ℕ) (rows : List ℕ) (x P : ℕ → ℕ) (count : ℕ) (size :
       ∙ sum-ext 0 N (put t 0) (λ k. bit k (combination rows (ago x t k)))
       (λ k. ap (λ (p : ℕ). bit p (combination rows (ago x t k))) (zero-add k))
       ∙ sym (convolution-images n N rows x t size)
+
+-- Two streams that begin with the same pending word: their parities differ by the convolution of what their blocks
+-- differ by.
+module _ (n N : ℕ) (rows : List ℕ) (x y P Q : ℕ → ℕ) (count : ℕ) (size : length rows ≤ n)
+    (image-lt : (c : ℕ) → combination rows c < 2 ^ N) (first : P 0 ≡ Q 0)
+    (next : (t : ℕ) → suc t < count → P (suc t) ≡ (P t ⊕ combination rows (x t)) / 2)
+    (next′ : (t : ℕ) → suc t < count → Q (suc t) ≡ (Q t ⊕ combination rows (y t)) / 2) where
+  both : (t : ℕ) → P t ⊕ combination rows (x t) ⊕ (Q t ⊕ combination rows (y t))
+      ≡ P t ⊕ Q t ⊕ combination rows (x t ⊕ y t)
+  both t =
+      xor-swap (P t) (combination rows (x t)) (Q t) (combination rows (y t))
+      ∙ ap (λ (z : ℕ). P t ⊕ Q t ⊕ z) (sym (combination-xor rows (x t) (y t)))
+
+  pub stream-differ : (t : ℕ) → t < count
+      → xor (odd (P t ⊕ combination rows (x t))) (odd (Q t ⊕ combination rows (y t)))
+      ≡ convolution n N rows (λ i. x i ⊕ y i) t
+  stream-differ t h =
+      sym (odd-xor (P t ⊕ combination rows (x t)) (Q t ⊕ combination rows (y t))) ∙ ap odd (both t)
+      ∙ stream-convolution n N rows (λ i. x i ⊕ y i) (λ i. P i ⊕ Q i) count size image-lt
+      (ap (λ (z : ℕ). z ⊕ Q 0) first ∙ xor-self (Q 0))
+      (λ k l. ap₂ _⊕_ (next k l) (next′ k l)
+      ∙ sym (xor-half (P k ⊕ combination rows (x k)) (Q k ⊕ combination rows (y k)))
+      ∙ ap (λ (z : ℕ). z / 2) (both k)) t h
 
 -- The blocks before block t alone. Their pending words are P up to block t; then nothing joins, and each is the one
 -- before it halved.

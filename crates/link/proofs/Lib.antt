@@ -37,6 +37,7 @@ mod Seen
 mod Going
 mod CodeWords
 mod Massey
+mod Differences
 pub mod Bursts
 mod Fade
 mod Recovery

@@ -7,8 +7,9 @@ use Rattle.link.proofs.Recovery.{recovery, recovery-short-guard}
 use Rattle.link.proofs.Guard.{guard-end}
 use Rattle.link.proofs.Clean.{clean, started-clean}
 use Rattle.link.proofs.Batches.{shorter, batch-run, recovery-batches, guard-end-batches}
+use Rattle.link.proofs.Taken.{none-refused}
 use Rattle.link.proofs.Sums.{coded-forms-add, raw-terms-add, deliveries-need-not-add}
-use Rattle.link.proofs.Reach.{one-bit-reach}
+use Rattle.link.proofs.Reach.{impulse-response, one-bit-reach}
 
 pub link : LINK
 link = record {
@@ -28,8 +29,10 @@ link = record {
   batch-run = batch-run;
   recovery-batches = recovery-batches;
   guard-end-batches = guard-end-batches;
+  none-refused = none-refused;
   coded-forms-add = coded-forms-add;
   raw-terms-add = raw-terms-add;
   deliveries-need-not-add = deliveries-need-not-add;
+  impulse-response = impulse-response;
   one-bit-reach = one-bit-reach;
 }

@@ -65,169 +65,180 @@ all-size n N m infos f h = let z = f .n-from in simp length-append (omega arith)
 -- ---- a stream of the coder
 
 module _ {n N m : ℕ} {infos : List ℕ} {M : ℕ → List ℕ} {B C : ℕ → ℕ} {count : ℕ} (l : CoderRun n N m infos M B C count)
-    (zeros : (i : ℕ) → getD (M 0) i 0 ≡ 0) (r b : ℕ) (low : r < m) (inside : r + b * m < count) where
-  abbrev pending : ℕ → ℕ
+    (r b : ℕ) (low : r < m) (inside : r + b * m < count) where
+  abbrev pub pending : ℕ → ℕ
   pending k = pendingAt (M (r + k * m)) (turnOf (M (r + k * m)))
 
-  step : (k : ℕ) → k ≤ b → CoderStep n N m infos (M (r + k * m)) (B (r + k * m)) (C (r + k * m)) (M (suc (r + k * m)))
+  pub step : (k : ℕ) → k ≤ b
+      → CoderStep n N m infos (M (r + k * m)) (B (r + k * m)) (C (r + k * m)) (M (suc (r + k * m)))
   step k h = l .codes (r + k * m) (place-earlier m r b k count inside h)
 
-  pending-start : pending 0 ≡ 0
-  pending-start =
+  pub pending-begin : pending 0 ≡ pendingAt (M 0) ((turnOf (M 0) + r) % m)
+  pending-begin =
       let z = place-earlier m r b 0 count inside (omega arith) in
-      let p = place-first m r in
-      ap (λ (q : ℕ). pendingAt (M q) (turnOf (M q))) p ∙ coder-first l r low (omega arith)
-      ∙ zeros (1 + (turnOf (M 0) + r) % m)
+      ap (λ (q : ℕ). pendingAt (M q) (turnOf (M q))) (place-first m r) ∙ coder-first l r low (omega arith)
 
-  pending-on : (k : ℕ) → k < b → pending (suc k) ≡ joining infos (pending k) (B (r + k * m)) / 2
+  pub pending-on : (k : ℕ) → k < b → pending (suc k) ≡ joining infos (pending k) (B (r + k * m)) / 2
   pending-on k h =
       let z = place-earlier m r b (suc k) count inside h in
       let p = place-next m r k in
       ap (λ (q : ℕ). pendingAt (M q) (turnOf (M q))) p ∙ coder-again l (r + k * m) (omega arith)
 
-  parity-sum : length infos ≤ n - 1
-      → odd (joining infos (pending b) (B (r + b * m))) ≡ convolution (n - 1) N infos (stream m r B) b
-  unfolding joining
-  parity-sum size =
-      stream-convolution (n - 1) N infos (stream m r B) pending (suc b) size
-      (λ c. combination-lt N infos c (step b (omega arith) .fits .below)) pending-start
-      (λ k h. pending-on k (omega arith)) b (omega arith)
-
-  pub coder-pending : length infos ≤ n - 1 → HoldsPast (n - 1) N infos (stream m r B) b (pending b)
-  unfolding joining
-  coder-pending size =
-      stream-past (n - 1) N infos (stream m r B) pending (suc b) size
-      (λ c. combination-lt N infos c (step b (omega arith) .fits .below)) pending-start
-      (λ k h. pending-on k (omega arith)) b (omega arith)
-
-  pub coder-parity : length infos ≤ n - 1
-      → (bit (n - 1) (stream m r C b) ≡ convolution (n - 1) N infos (stream m r B) b)
-      × (stream m r C b % 2 ^ (n - 1) ≡ stream m r B b)
-  coder-parity size =
+  pub coder-bit : bit (n - 1) (stream m r C b) ≡ odd (joining infos (pending b) (B (r + b * m)))
+  coder-bit =
       let s = step b (omega arith) in
-      let p = odd (joining infos (pending b) (B (r + b * m))) in (
-        ap (bit (n - 1)) (s .coded) ∙ topped-bit (n - 1) (B (r + b * m)) p (s .info-lt) ∙ parity-sum size,
-        ap (λ (x : ℕ). x % 2 ^ (n - 1)) (s .coded) ∙ topped-low (n - 1) (B (r + b * m)) p (s .info-lt),
-      )
+      ap (bit (n - 1)) (s .coded)
+      ∙ topped-bit (n - 1) (B (r + b * m)) (odd (joining infos (pending b) (B (r + b * m)))) (s .info-lt)
 
-  -- with the parity's row nothing is left of what is sent
-  pub coder-zero : length infos ≡ n - 1 → convolution n N (infos ++ (1 ∷ [])) (stream m r C) b ≡ false
-  coder-zero size =
-      let s = step b (omega arith) in
-      let f = s .fits in
-      sym (stream-convolution n N (infos ++ (1 ∷ [])) (stream m r C) pending (suc b) (all-size n N m infos f size)
-      (all-images n N m infos f) pending-start
-      (λ k h.
-      let q = step k (omega arith) in
-      pending-on k (omega arith)
-      ∙ sym (coder-half infos (n - 1) size (pending k) 0 (B (r + k * m)) (C (r + k * m)) 0 (q .info-lt) (q .coded)))
-      b (omega arith))
-      ∙ coder-even infos (n - 1) size (pending b) 0 (B (r + b * m)) (C (r + b * m)) 0 (s .info-lt) (s .coded)
+  module _ (zeros : (i : ℕ) → getD (M 0) i 0 ≡ 0) where
+    pending-start : pending 0 ≡ 0
+    pending-start = pending-begin ∙ zeros (1 + (turnOf (M 0) + r) % m)
+
+    parity-sum : length infos ≤ n - 1
+        → odd (joining infos (pending b) (B (r + b * m))) ≡ convolution (n - 1) N infos (stream m r B) b
+    unfolding joining
+    parity-sum size =
+        stream-convolution (n - 1) N infos (stream m r B) pending (suc b) size
+        (λ c. combination-lt N infos c (step b (omega arith) .fits .below)) pending-start
+        (λ k h. pending-on k (omega arith)) b (omega arith)
+
+    pub coder-pending : length infos ≤ n - 1 → HoldsPast (n - 1) N infos (stream m r B) b (pending b)
+    unfolding joining
+    coder-pending size =
+        stream-past (n - 1) N infos (stream m r B) pending (suc b) size
+        (λ c. combination-lt N infos c (step b (omega arith) .fits .below)) pending-start
+        (λ k h. pending-on k (omega arith)) b (omega arith)
+
+    pub coder-parity : length infos ≤ n - 1
+        → (bit (n - 1) (stream m r C b) ≡ convolution (n - 1) N infos (stream m r B) b)
+        × (stream m r C b % 2 ^ (n - 1) ≡ stream m r B b)
+    coder-parity size =
+        let s = step b (omega arith) in
+        let p = odd (joining infos (pending b) (B (r + b * m))) in (
+          coder-bit ∙ parity-sum size,
+          ap (λ (x : ℕ). x % 2 ^ (n - 1)) (s .coded) ∙ topped-low (n - 1) (B (r + b * m)) p (s .info-lt),
+        )
+
+    -- with the parity's row nothing is left of what is sent
+    pub coder-zero : length infos ≡ n - 1 → convolution n N (infos ++ (1 ∷ [])) (stream m r C) b ≡ false
+    coder-zero size =
+        let s = step b (omega arith) in
+        let f = s .fits in
+        sym (stream-convolution n N (infos ++ (1 ∷ [])) (stream m r C) pending (suc b) (all-size n N m infos f size)
+        (all-images n N m infos f) pending-start
+        (λ k h.
+        let q = step k (omega arith) in
+        pending-on k (omega arith)
+        ∙ sym (coder-half infos (n - 1) size (pending k) 0 (B (r + k * m)) (C (r + k * m)) 0 (q .info-lt) (q .coded)))
+        b (omega arith))
+        ∙ coder-even infos (n - 1) size (pending b) 0 (B (r + b * m)) (C (r + b * m)) 0 (s .info-lt) (s .coded)
 
 -- ---- a stream of the decoder
 
 module _ {n N m : ℕ} {infos : List ℕ} {S : ℕ → List ℕ} {R : ℕ → ℕ} {A : ℕ → DecodeAnswer} {count : ℕ}
-    (l : DecoderRun n N m infos S R A count)
-    (raw : ℕ → Bool) (register : ℕ → ℕ) (error : ℕ → Least)
-    (judges : (p : ℕ) → p < count → Verdict n N infos (S p) (R p) (raw p) (register p) (error p))
-    (zeros : (i : ℕ) → getD (S 0) i 0 ≡ 0) (r b : ℕ) (low : r < m) (inside : r + b * m < count) where
-  abbrev joins : ℕ → ℕ
+    (l : DecoderRun n N m infos S R A count) (r b : ℕ) (low : r < m) (inside : r + b * m < count) where
+  abbrev pub joins : ℕ → ℕ
   joins k = pendingIn N (S (r + k * m))
 
   abbrev syndrome : ℕ → ℕ
   syndrome k = syndromeIn N (S (r + k * m))
 
-  judged : (k : ℕ) → k ≤ b
-      → Verdict n N infos (S (r + k * m)) (R (r + k * m)) (raw (r + k * m)) (register (r + k * m)) (error (r + k * m))
-  judged k h = judges (r + k * m) (place-earlier m r b k count inside h)
-
-  joins-start : joins 0 ≡ 0
-  joins-start =
+  pub joins-begin : joins 0 ≡ getD (S 0) (streamIn N ((turnOf (S 0) + r) % m)) 0
+  joins-begin =
       let z = place-earlier m r b 0 count inside (omega arith) in
-      let p = place-first m r in
-      ap (λ (q : ℕ). pendingIn N (S q)) p ∙ pending-first l r low (omega arith)
-      ∙ zeros (streamIn N ((turnOf (S 0) + r) % m))
+      ap (λ (q : ℕ). pendingIn N (S q)) (place-first m r) ∙ pending-first l r low (omega arith)
 
-  joins-on : (k : ℕ) → k < b → joins (suc k) ≡ joining infos (joins k) (R (r + k * m) % 2 ^ (n - 1)) / 2
+  pub joins-on : (k : ℕ) → k < b → joins (suc k) ≡ joining infos (joins k) (R (r + k * m) % 2 ^ (n - 1)) / 2
   joins-on k h =
       let z = place-earlier m r b (suc k) count inside h in
       let p = place-next m r k in
       ap (λ (q : ℕ). pendingIn N (S q)) p ∙ pending-again l (r + k * m) (omega arith)
 
-  pub decoder-pending : length infos ≤ n - 1
-      → HoldsPast (n - 1) N infos (stream m r (λ p. R p % 2 ^ (n - 1))) b (joins b)
-  unfolding joining
-  decoder-pending size =
-      stream-past (n - 1) N infos (stream m r (λ p. R p % 2 ^ (n - 1))) joins (suc b) size
-      (λ c. combination-lt N infos c (l .decodes (r + b * m) inside .fits .below)) joins-start
-      (λ k h. joins-on k (omega arith)) b (omega arith)
+  module _ (raw : ℕ → Bool) (register : ℕ → ℕ) (error : ℕ → Least)
+      (judges : (p : ℕ) → p < count → Verdict n N infos (S p) (R p) (raw p) (register p) (error p))
+      (zeros : (i : ℕ) → getD (S 0) i 0 ≡ 0) where
+    judged : (k : ℕ) → k ≤ b
+        → Verdict n N infos (S (r + k * m)) (R (r + k * m)) (raw (r + k * m)) (register (r + k * m)) (error (r + k * m))
+    judged k h = judges (r + k * m) (place-earlier m r b k count inside h)
 
-  -- the parity formed by coding what was received as information, and the parity received
-  pub decoder-parities : length infos ≤ n - 1
-      → stream m r raw b
-      ≡ xor (convolution (n - 1) N infos (stream m r (λ p. R p % 2 ^ (n - 1))) b) (bit (n - 1) (stream m r R b))
-  unfolding joining
-  decoder-parities size =
-      judged b (omega arith) .raw-is
-      ∙ ap (λ (s : Bool). xor s (bit (n - 1) (stream m r R b)))
-      (stream-convolution (n - 1) N infos (stream m r (λ p. R p % 2 ^ (n - 1))) joins (suc b) size
-      (λ c. combination-lt N infos c (l .decodes (r + b * m) inside .fits .below)) joins-start
-      (λ k h. joins-on k (omega arith)) b (omega arith))
+    joins-start : joins 0 ≡ 0
+    joins-start = joins-begin ∙ zeros (streamIn N ((turnOf (S 0) + r) % m))
 
-  pub decoder-raw : length infos ≡ n - 1 → stream m r raw b ≡ convolution n N (infos ++ (1 ∷ [])) (stream m r R) b
-  decoder-raw size =
-      let f = l .decodes (r + b * m) inside .fits in
-      judged b (omega arith) .raw-is ∙ sym (joined-odd infos (n - 1) size (joins b) (R (r + b * m)))
-      ∙ stream-convolution n N (infos ++ (1 ∷ [])) (stream m r R) joins (suc b) (all-size n N m infos f size)
-      (all-images n N m infos f) joins-start
-      (λ k h. joins-on k (omega arith) ∙ sym (joined-half infos (n - 1) size (joins k) (R (r + k * m)))) b (omega arith)
+    pub decoder-pending : length infos ≤ n - 1
+        → HoldsPast (n - 1) N infos (stream m r (λ p. R p % 2 ^ (n - 1))) b (joins b)
+    unfolding joining
+    decoder-pending size =
+        stream-past (n - 1) N infos (stream m r (λ p. R p % 2 ^ (n - 1))) joins (suc b) size
+        (λ c. combination-lt N infos c (l .decodes (r + b * m) inside .fits .below)) joins-start
+        (λ k h. joins-on k (omega arith)) b (omega arith)
 
-  syndrome-start : syndrome 0 ≡ 0
-  syndrome-start =
-      let z = place-earlier m r b 0 count inside (omega arith) in
-      let p = place-first m r in
-      ap (λ (q : ℕ). syndromeIn N (S q)) p ∙ syndrome-first l r low (omega arith)
-      ∙ zeros (streamIn N ((turnOf (S 0) + r) % m) + 1)
+    -- the parity formed by coding what was received as information, and the parity received
+    pub decoder-parities : length infos ≤ n - 1
+        → stream m r raw b
+        ≡ xor (convolution (n - 1) N infos (stream m r (λ p. R p % 2 ^ (n - 1))) b) (bit (n - 1) (stream m r R b))
+    unfolding joining
+    decoder-parities size =
+        judged b (omega arith) .raw-is
+        ∙ ap (λ (s : Bool). xor s (bit (n - 1) (stream m r R b)))
+        (stream-convolution (n - 1) N infos (stream m r (λ p. R p % 2 ^ (n - 1))) joins (suc b) size
+        (λ c. combination-lt N infos c (l .decodes (r + b * m) inside .fits .below)) joins-start
+        (λ k h. joins-on k (omega arith)) b (omega arith))
 
-  syndrome-on : (k : ℕ) → k < b → syndrome (suc k) ≡ keptOf (stream m r error k) (stream m r register k)
-  syndrome-on k h =
-      let z = place-earlier m r b (suc k) count inside h in
-      let p = place-next m r k in
-      let v = judged k (omega arith) in
-      ap (λ (q : ℕ). syndromeIn N (S q)) p ∙ syndrome-again l (r + k * m) (omega arith)
-      ∙ sym (ap₂ keptOf (v .found-is) (v .register-is))
+    pub decoder-raw : length infos ≡ n - 1 → stream m r raw b ≡ convolution n N (infos ++ (1 ∷ [])) (stream m r R) b
+    decoder-raw size =
+        let f = l .decodes (r + b * m) inside .fits in
+        judged b (omega arith) .raw-is ∙ sym (joined-odd infos (n - 1) size (joins b) (R (r + b * m)))
+        ∙ stream-convolution n N (infos ++ (1 ∷ [])) (stream m r R) joins (suc b) (all-size n N m infos f size)
+        (all-images n N m infos f) joins-start
+        (λ k h. joins-on k (omega arith) ∙ sym (joined-half infos (n - 1) size (joins k) (R (r + k * m)))) b
+        (omega arith)
 
-  register-joins : (k : ℕ) → k ≤ b → stream m r register k ≡ syndrome k + digit (stream m r raw k) * 2 ^ (N - 1)
-  register-joins k h =
-      let v = judged k h in
-      v .register-is ∙ ap (λ (s : Bool). syndrome k + digit s * 2 ^ (N - 1)) (sym (v .raw-is))
+    syndrome-start : syndrome 0 ≡ 0
+    syndrome-start =
+        let z = place-earlier m r b 0 count inside (omega arith) in
+        let p = place-first m r in
+        ap (λ (q : ℕ). syndromeIn N (S q)) p ∙ syndrome-first l r low (omega arith)
+        ∙ zeros (streamIn N ((turnOf (S 0) + r) % m) + 1)
 
-  cleared : (c : ℕ) → c ≤ b → (c ≡ 0) ⊎ ((e : ℕ) × (stream m r error (c - 1) ≡ Found e)) → syndrome c ≡ 0
-  cleared zero h z = syndrome-start
-  cleared (suc c) h (inl z) = absurd (omega arith)
-  cleared (suc c) h (inr (e, is)) =
-      syndrome-on c h
-      ∙ ap (λ (f : Least). keptOf f (stream m r register c))
-      (ap (stream m r error) (let p : c ≡ suc c - 1 = omega arith in p) ∙ is)
+    syndrome-on : (k : ℕ) → k < b → syndrome (suc k) ≡ keptOf (stream m r error k) (stream m r register k)
+    syndrome-on k h =
+        let z = place-earlier m r b (suc k) count inside h in
+        let p = place-next m r k in
+        let v = judged k (omega arith) in
+        ap (λ (q : ℕ). syndromeIn N (S q)) p ∙ syndrome-again l (r + k * m) (omega arith)
+        ∙ sym (ap₂ keptOf (v .found-is) (v .register-is))
 
-  pub decoder-register : (c : ℕ) → c ≤ b → (c ≡ 0) ⊎ ((e : ℕ) × (stream m r error (c - 1) ≡ Found e))
-      → ((d : ℕ) → c ≤ d → d < b → stream m r error d ≡ Missing)
-      → (stream m r register b < 2 ^ N)
-      × ((k : ℕ) → k < N
-      → bit (N - 1 - k) (stream m r register b) ≡ cond (leb (c + k) b) (stream m r raw (b - k)) false)
-  decoder-register c from clear none =
-      let N-from = l .decodes (r + b * m) inside .fits .N-from in
-      let w = N - 1 in
-      let halves : (d : ℕ) → c ≤ d → d < b → syndrome (suc d) ≡ stream m r register d / 2 =
-      (λ d f h. syndrome-on d h ∙ ap (λ (f : Least). keptOf f (stream m r register d)) (none d f h)) in (
-        subst (λ (k : ℕ). stream m r register b < 2 ^ k) (let e : suc (N - 1) ≡ N = omega arith in e)
-            (register-lt w syndrome (stream m r register) (stream m r raw) c b (cleared c from clear)
-            (λ d f h. register-joins d h) halves from),
-        λ k h.
-            register-bit w syndrome (stream m r register) (stream m r raw) c b (cleared c from clear)
-            (λ d f h. register-joins d h) halves from (w - k) k
-            (omega arith),
-      )
+    register-joins : (k : ℕ) → k ≤ b → stream m r register k ≡ syndrome k + digit (stream m r raw k) * 2 ^ (N - 1)
+    register-joins k h =
+        let v = judged k h in
+        v .register-is ∙ ap (λ (s : Bool). syndrome k + digit s * 2 ^ (N - 1)) (sym (v .raw-is))
+
+    cleared : (c : ℕ) → c ≤ b → (c ≡ 0) ⊎ ((e : ℕ) × (stream m r error (c - 1) ≡ Found e)) → syndrome c ≡ 0
+    cleared zero h z = syndrome-start
+    cleared (suc c) h (inl z) = absurd (omega arith)
+    cleared (suc c) h (inr (e, is)) =
+        syndrome-on c h
+        ∙ ap (λ (f : Least). keptOf f (stream m r register c))
+        (ap (stream m r error) (let p : c ≡ suc c - 1 = omega arith in p) ∙ is)
+
+    pub decoder-register : (c : ℕ) → c ≤ b → (c ≡ 0) ⊎ ((e : ℕ) × (stream m r error (c - 1) ≡ Found e))
+        → ((d : ℕ) → c ≤ d → d < b → stream m r error d ≡ Missing)
+        → (stream m r register b < 2 ^ N)
+        × ((k : ℕ) → k < N
+        → bit (N - 1 - k) (stream m r register b) ≡ cond (leb (c + k) b) (stream m r raw (b - k)) false)
+    decoder-register c from clear none =
+        let N-from = l .decodes (r + b * m) inside .fits .N-from in
+        let w = N - 1 in
+        let halves : (d : ℕ) → c ≤ d → d < b → syndrome (suc d) ≡ stream m r register d / 2 =
+        (λ d f h. syndrome-on d h ∙ ap (λ (f : Least). keptOf f (stream m r register d)) (none d f h)) in (
+          subst (λ (k : ℕ). stream m r register b < 2 ^ k) (let e : suc (N - 1) ≡ N = omega arith in e)
+              (register-lt w syndrome (stream m r register) (stream m r raw) c b (cleared c from clear)
+              (λ d f h. register-joins d h) halves from),
+          λ k h.
+              register-bit w syndrome (stream m r register) (stream m r raw) c b (cleared c from clear)
+              (λ d f h. register-joins d h) halves from (w - k) k
+              (omega arith),
+        )
 
 -- ---- what is delivered
 
@@ -269,16 +280,14 @@ decoder-zeros t ds i =
 
 pub parity : PARITY
 parity t cs tables r b low inside =
-    coder-parity (coded t (started (coderWords t)) cs tables) (coder-zeros t cs) r b low inside
+    coder-parity (coded t (started (coderWords t)) cs tables) r b low inside (coder-zeros t cs)
     (simp length-take (omega arith))
 
 pub syndromes : SYNDROME
 syndromes t ds room tables r b low inside =
-    decoder-raw (decoded t (started (decoderWords t)) ds tables) (rawAt (started (decoderWords t)) ds)
-    (registerAt (started (decoderWords t)) ds)
-    (foundAt (started (decoderWords t)) ds) (verdict t (started (decoderWords t)) ds tables)
-    (decoder-zeros t ds) r b low
-    inside (info-size t room)
+    let s = started (decoderWords t) in
+    decoder-raw (decoded t s ds tables) r b low inside (rawAt s ds) (registerAt s ds) (foundAt s ds)
+    (verdict t s ds tables) (decoder-zeros t ds) (info-size t room)
 
 -- 000, II.B: "the parity sequence formed by encoding the received information sequences", and the received one
 pub parities : (t : Table) (ds : List Call) →
@@ -291,8 +300,8 @@ pub parities : (t : Table) (ds : List Call) →
     (received (t .symbols) (stream (t .depth) r block b))
 parities t ds tables r b low inside =
     let s = started (decoderWords t) in
-    decoder-parities (decoded t s ds tables) (rawAt s ds) (registerAt s ds) (foundAt s ds) (verdict t s ds tables)
-    (decoder-zeros t ds) r b low inside (simp length-take (omega arith))
+    decoder-parities (decoded t s ds tables) r b low inside (rawAt s ds) (registerAt s ds) (foundAt s ds)
+    (verdict t s ds tables) (decoder-zeros t ds) (simp length-take (omega arith))
 
 pub syndrome-errors : SYNDROME-ERRORS
 syndrome-errors t cs ds room coder decoder enough r b low inside =
@@ -302,16 +311,14 @@ syndrome-errors t cs ds room coder decoder enough r b low inside =
     syndromes t ds room decoder r b low inside
     ∙ sym (convolution-xor (t .symbols) (t .span) (rowsOf t) received sent b
     ∙ ap (xor (all received b))
-    (coder-zero (coded t (started (coderWords t)) cs coder) (coder-zeros t cs) r b low (omega arith) (info-size t room))
+    (coder-zero (coded t (started (coderWords t)) cs coder) r b low (omega arith) (coder-zeros t cs) (info-size t room))
     ∙ xor-false-r (all received b))
 
 pub registers : REGISTER
 registers t ds tables r b c low inside =
-    decoder-register (decoded t (started (decoderWords t)) ds tables) (rawAt (started (decoderWords t)) ds)
-    (registerAt (started (decoderWords t)) ds)
-    (foundAt (started (decoderWords t)) ds) (verdict t (started (decoderWords t)) ds tables)
-    (decoder-zeros t ds) r b low
-    inside c
+    let s = started (decoderWords t) in
+    decoder-register (decoded t s ds tables) r b low inside (rawAt s ds) (registerAt s ds) (foundAt s ds)
+    (verdict t s ds tables) (decoder-zeros t ds) c
 
 pub pendings : PENDING
 pendings t cs tables r b low inside =
@@ -320,7 +327,7 @@ pendings t cs tables r b low inside =
     subst (HoldsPast (t .symbols - 1) (t .span) (infoRows t) info b)
     (sym (sent-place s cs (r + b * t .depth) inside .is (placed coderFault (λ t s b. pendingAt s (turnOf s)))
     (λ t s b. pendingAt s (turnOf s)) (coder-placed (λ t s b. pendingAt s (turnOf s))) 0))
-    (coder-pending (coded t s cs tables) (coder-zeros t cs) r b low inside (simp length-take (omega arith)))
+    (coder-pending (coded t s cs tables) r b low inside (coder-zeros t cs) (simp length-take (omega arith)))
 
 pub pendings-received : PENDING-RECEIVED
 pendings-received t ds tables r b low inside =
@@ -331,9 +338,8 @@ pendings-received t ds tables r b low inside =
     (sym (taken-place s ds p inside .is (placed decoderFault (λ t s r. pendingOf t s (turnOf s)))
     (λ t s r. pendingOf t s (turnOf s)) (decoder-placed (λ t s r. pendingOf t s (turnOf s))) 0
     ∙ ap (λ (N : ℕ). pendingIn N (decoderBefore s ds p)) (taken-table t s ds tables p inside .span)))
-    (decoder-pending (decoded t s ds tables) (rawAt s ds) (registerAt s ds) (foundAt s ds) (verdict t s ds tables)
-    (decoder-zeros t ds) r b low inside
-    (simp length-take (omega arith)))
+    (decoder-pending (decoded t s ds tables) r b low inside (rawAt s ds) (registerAt s ds) (foundAt s ds)
+    (verdict t s ds tables) (decoder-zeros t ds) (simp length-take (omega arith)))
 
 pub deliveries : DELIVERY
 deliveries t s ds tables p late inside =

@@ -2,43 +2,40 @@
 -- symbol alone, since coded forms add. Assumes nothing.
 --
 --   changed-symbol     the block with one symbol changed
---   impulse-response, one-bit-reach, one-bit-reach-sharp   the theorems
+--   impulse-response, bits-changed, one-bit-reach, one-bit-reach-sharp   the theorems
 use mathlib.Core.Path.{_≡_, refl, sym, ap, ap₂, _∙_, subst}
 use mathlib.Core.Bool.{Bool, xor}
 use mathlib.Core.List.{List, [], _∷_, _++_, map, zipWith, sum}
-use Prim.Native.Nat.{ℕ, zero, suc, _+_, _-_, _*_, _^_, _≤_, _<_}
-use native.Mathlib.Nat.{zero-add, add-comm, suc-mul, mul-comm}
+use Prim.Native.Nat.{ℕ, zero, suc, _+_, _-_, _*_, _/_, _%_, _^_, _≤_, _<_}
+use native.Mathlib.Nat.{zero-add, add-comm, mul-comm, mod-eq-of-lt, le-div-iff-mul-le}
 use native.Mathlib.Decide.{decLt, ℕ-discrete}
 use native.Mathlib.Omega.{arith}
 use borrow.Author.Tests.{eq-eqb, ne-eqb}
 use lib.Count.{ones, ones-ones}
 use lib.Dec.{eqb}
 use lib.ListN.{length, getD, length-append, List·getD-append}
-use lib.Pow.{pow-lt}
+use lib.Pow.{pow-mono, pow-lt}
 use lib.Seq.{getD-append-add}
-use Rattle.span.specs.Word.{_⊕_, odd, bit, sel, digit}
-use Rattle.span.specs.Combination.{Below, combination}
+use Rattle.span.specs.Word.{_⊕_, bit, sel, digit}
+use Rattle.span.specs.Combination.{Below}
 use Rattle.span.proofs.Word.{xor-zero-l, xor-zero-r, xor-twice, xor-lt, sel-lt, bit-xor, bit-pow, bit-pow-other}
 use Rattle.span.proofs.Word.{bit-ext}
 use Rattle.tables.specs.declared.table.Table.{Table}
 use Rattle.tables.specs.Table.{sizesFit, rowsFit, fit, infoRows}
-use Rattle.tables.specs.Refusal.{firstOf}
 use Rattle.tables.proofs.Fit.{fit-facts}
-use Rattle.link.specs.Memory.{delayOf, joining}
-use Rattle.link.specs.Refusals.{answered, leaves, stepFault, coderFault}
-use Rattle.link.specs.Coder.{coderJoining, codedBlock, coderNext, codeAnswer, codeMemory}
-use Rattle.link.specs.Runs.{run}
+use Rattle.link.specs.Memory.{started, coderWords, delayOf}
 use Rattle.link.specs.Massey.{rowOf, symbol}
 use Rattle.link.specs.Computed.{Z}
-use Rattle.link.specs.Sums.{codedForm}
-use Rattle.link.specs.Reach.{CHANGED-SYMBOL, distance, response, Changes, IMPULSE-RESPONSE, ONE-BIT-REACH}
-use Rattle.link.specs.Reach.{ONE-BIT-REACH-SHARP}
+use Rattle.link.specs.Sums.{codedFrom, codedForm}
+use Rattle.link.specs.Reach.{CHANGED-SYMBOL, OneSymbol, response, IMPULSE-RESPONSE, distance, BITS-CHANGED}
+use Rattle.link.specs.Reach.{ONE-BIT-REACH, ONE-BIT-REACH-SHARP}
 use Rattle.link.proofs.Taken.{none-refused}
-use Rattle.link.proofs.Sums.{zip-size, blocks-at, blocks-below, codedAt, coded-ext, coded-at, coded-forms-add}
+use Rattle.link.proofs.Sums.{zip-size, blocks-at, blocks-below, codedAt, coded-ext, coded-at, coded-forms-differ}
 use Rattle.link.proofs.OneTable.{from-one}
+use Rattle.link.proofs.Formed.{started-formed}
 use Rattle.link.proofs.Computed.{each-at}
 use Rattle.link.proofs.Spread.{total, total-ext, total-none, total-first, total-split, total-add, total-list}
-use Rattle.link.proofs.Spread.{ones-pow, ones-topped, spread, spread-total}
+use Rattle.link.proofs.Spread.{ones-pow, ones-topped, spread, spread-cut}
 use Rattle.link.proofs.Impulse.{impulse, row-lt, parity-before, parity-after}
 
 -- ---- one symbol changed
@@ -71,7 +68,7 @@ eqb-add a d = go (ℕ-discrete d 0)
     go (yes e) = eq-eqb (a + d) a (omega arith) ∙ sym (eq-eqb d 0 e)
     go (no e) = ne-eqb (a + d) a (λ z. e (omega arith)) ∙ sym (ne-eqb d 0 e)
 
-module _ (t : Table) (before after : List ℕ) (x y j : ℕ) (c : Changes t before after x y j) where
+module _ (t : Table) (s before after : List ℕ) (x y j : ℕ) (c : OneSymbol t s before after x y j) where
   abbrev xs : List ℕ
   xs = before ++ (x ∷ after)
 
@@ -125,7 +122,7 @@ module _ (t : Table) (before after : List ℕ) (x y j : ℕ) (c : Changes t befo
       rw (changed-at i)
       (xor-lt (t .symbols - 1) (getD xs i 0) (alone i) (c .below i (omega arith)) (unit-lt (eqb i (length before))))
 
-  -- their exclusive or is the impulse, and the exclusive or of their coded forms its coded form
+  -- their exclusive or is the impulse, and the exclusive or of what is coded its coded form
   abbrev both : List ℕ
   both = zipWith _⊕_ xs ys
 
@@ -136,8 +133,8 @@ module _ (t : Table) (before after : List ℕ) (x y j : ℕ) (c : Changes t befo
   both-below : Below (t .symbols - 1) both
   both-below = blocks-below (t .symbols - 1) xs ys same-size (c .below) y-below
 
-  coded-both : zipWith _⊕_ (codedForm t xs) (codedForm t ys) ≡ codedForm t both
-  coded-both = sym (coded-forms-add t (c .fits) xs ys same-size (c .below) y-below)
+  coded-both : zipWith _⊕_ (codedFrom t s xs) (codedFrom t s ys) ≡ codedForm t both
+  coded-both = coded-forms-differ t s (c .fits) (c .formed) xs ys same-size (c .below) y-below
 
   coded-alone : (p : ℕ) → p < length xs → getD (codedForm t both) p 0 ≡ codedAt t alone p
   coded-alone p h =
@@ -159,30 +156,33 @@ module _ (t : Table) (before after : List ℕ) (x y j : ℕ) (c : Changes t befo
       ∙ ap₂ (λ (s q : Bool). sel s (2 ^ (j - 1)) + digit q * 2 ^ (t .symbols - 1))
       (eqb-add (length before) d) (parity-after t (c .fits) j (length before) d)
 
-  was-size : length (codedForm t xs) ≡ length xs
-  was-size = none-refused t xs (c .fits) .2 (c .below)
+  was-size : length (codedFrom t s xs) ≡ length xs
+  was-size = none-refused t s xs (c .fits) .0 (c .formed) .1 (c .below)
 
-  is-size : length (codedForm t ys) ≡ length ys
-  is-size = none-refused t ys (c .fits) .2 y-below
+  is-size : length (codedFrom t s ys) ≡ length ys
+  is-size = none-refused t s ys (c .fits) .0 (c .formed) .1 y-below
 
-  differ : (p : ℕ) → getD (codedForm t ys) p 0 ≡ getD (codedForm t xs) p 0 ⊕ getD (codedForm t both) p 0
+  both-size : length (codedForm t both) ≡ length before + suc (length after)
+  both-size =
+      none-refused t (started (coderWords t)) both (c .fits) .0 (started-formed t (c .fits) .0) .1 both-below
+      ∙ zip-size _⊕_ xs ys same-size ∙ x-size
+
+  differ : (p : ℕ) → getD (codedFrom t s ys) p 0 ≡ getD (codedFrom t s xs) p 0 ⊕ getD (codedForm t both) p 0
   differ p =
-      sym (xor-twice (getD (codedForm t xs) p 0) (getD (codedForm t ys) p 0))
-      ∙ ap (λ (z : ℕ). getD (codedForm t xs) p 0 ⊕ z)
-      (sym (blocks-at (codedForm t xs) (codedForm t ys) (was-size ∙ same-size ∙ sym is-size) p)
+      sym (xor-twice (getD (codedFrom t s xs) p 0) (getD (codedFrom t s ys) p 0))
+      ∙ ap (λ (z : ℕ). getD (codedFrom t s xs) p 0 ⊕ z)
+      (sym (blocks-at (codedFrom t s xs) (codedFrom t s ys) (was-size ∙ same-size ∙ sym is-size) p)
       ∙ ap (λ (l : List ℕ). getD l p 0) coded-both)
 
   -- ---- how many bits
 
-  m-some : 0 < t .depth
-  m-some = fit-facts t (c .fits) .m-from
+  abbrev row : ℕ
+  row = rowOf (infoRows t) j
 
   response-ones : (d : ℕ)
-      → ones (response t j d) ≡ digit (spread (t .depth) (rowOf (infoRows t) j) d)
-      + ones (sel (eqb d 0) (2 ^ (j - 1)))
+      → ones (response t j d) ≡ digit (spread (t .depth) row d) + ones (sel (eqb d 0) (2 ^ (j - 1)))
   response-ones d =
-      ones-topped (t .symbols - 1) (sel (eqb d 0) (2 ^ (j - 1))) (spread (t .depth) (rowOf (infoRows t) j) d)
-      (unit-lt (eqb d 0))
+      ones-topped (t .symbols - 1) (sel (eqb d 0) (2 ^ (j - 1))) (spread (t .depth) row d) (unit-lt (eqb d 0))
 
   unit-total : (count : ℕ) → total (suc count) (λ d. ones (sel (eqb d 0) (2 ^ (j - 1)))) ≡ 1
   unit-total count =
@@ -190,75 +190,79 @@ module _ (t : Table) (before after : List ℕ) (x y j : ℕ) (c : Changes t befo
       (λ d h. ap (λ (s : Bool). ones (sel s (2 ^ (j - 1)))) (ne-eqb (suc d) 0 (λ z. omega arith)) ∙ ones-ones 0)
       ∙ ap (λ (s : Bool). ones (sel s (2 ^ (j - 1)))) (eq-eqb 0 0 refl) ∙ ones-pow (j - 1)
 
-  response-total : delayOf t ≤ length after
-      → total (suc (length after)) (λ d. ones (response t j d)) ≡ 1 + ones (rowOf (infoRows t) j)
-  response-total many =
-      let a = suc (length after) in
-      let row = rowOf (infoRows t) j in
-      let N-from = fit-facts t (c .fits) .N-from in
-      let over : t .span * t .depth ≡ delayOf t + t .depth =
-      ap (λ (k : ℕ). k * t .depth) (let e : t .span ≡ suc (t .span - 1) = omega arith in e)
-      ∙ suc-mul (t .span - 1) (t .depth) ∙ ap (λ (k : ℕ). k + t .depth) (mul-comm (t .span - 1) (t .depth)) in
-      total-ext a (λ d. ones (response t j d))
+  response-total : total (suc (length after)) (λ d. ones (response t j d))
+      ≡ 1 + ones (row % 2 ^ suc (length after / t .depth))
+  response-total =
+      let count = suc (length after) in
+      total-ext count (λ d. ones (response t j d))
       (λ d. digit (spread (t .depth) row d) + ones (sel (eqb d 0) (2 ^ (j - 1)))) (λ d h. response-ones d)
-      ∙ total-add a (λ d. digit (spread (t .depth) row d)) (λ d. ones (sel (eqb d 0) (2 ^ (j - 1))))
-      ∙ ap₂ _+_
-      (spread-total (t .depth) m-some (t .span) row a (row-lt t (c .fits) j (length before)) (omega arith))
-      (unit-total (length after))
-      ∙ add-comm (ones row) 1
+      ∙ total-add count (λ d. digit (spread (t .depth) row d)) (λ d. ones (sel (eqb d 0) (2 ^ (j - 1))))
+      ∙ ap₂ _+_ (spread-cut (t .depth) (fit-facts t (c .fits) .m-from) row (length after)) (unit-total (length after))
+      ∙ add-comm (ones (row % 2 ^ suc (length after / t .depth))) 1
 
-  reach : delayOf t ≤ length after
-      → distance (codedForm t xs) (codedForm t ys) ≡ 1 + ones (rowOf (infoRows t) j)
-  reach many =
+  changed-bits : distance (codedFrom t s xs) (codedFrom t s ys) ≡ 1 + ones (row % 2 ^ suc (length after / t .depth))
+  changed-bits =
       let at = length before in
-      let size = zip-size _⊕_ xs ys same-size in
-      let coded = codedForm t both in
-      let coded-size : length coded ≡ at + suc (length after) =
-      none-refused t both (c .fits) .2 both-below ∙ size ∙ x-size in
+      let code = codedForm t both in
       ap (λ (l : List ℕ). sum _+_ zero (map ones l)) coded-both
-      ∙ total-list ones coded
-      ∙ ap (λ (k : ℕ). total k (λ p. ones (getD coded p 0))) coded-size
-      ∙ total-split at (suc (length after)) (λ p. ones (getD coded p 0))
+      ∙ total-list ones code
+      ∙ ap (λ (k : ℕ). total k (λ p. ones (getD code p 0))) both-size
+      ∙ total-split at (suc (length after)) (λ p. ones (getD code p 0))
       ∙ ap₂ _+_
-      (total-none at (λ p. ones (getD coded p 0)) (λ p h. ap ones (alone-before p h) ∙ ones-ones 0))
-      (total-ext (suc (length after)) (λ d. ones (getD coded (at + d) 0)) (λ d. ones (response t j d))
+      (total-none at (λ p. ones (getD code p 0)) (λ p h. ap ones (alone-before p h) ∙ ones-ones 0))
+      (total-ext (suc (length after)) (λ d. ones (getD code (at + d) 0)) (λ d. ones (response t j d))
       (λ d h. ap ones (alone-after d (omega arith)))
-      ∙ response-total many)
-      ∙ zero-add (1 + ones (rowOf (infoRows t) j))
+      ∙ response-total)
+      ∙ zero-add (1 + ones (row % 2 ^ suc (length after / t .depth)))
+
+  -- where so many blocks follow, all of the row counts
+  whole-row : delayOf t ≤ length after → row % 2 ^ suc (length after / t .depth) ≡ row
+  whole-row many =
+      let f = fit-facts t (c .fits) in
+      let from = f .N-from in
+      let last : t .span - 1 ≤ length after / t .depth =
+      le-div-iff-mul-le (f .m-from) .1 (let e = mul-comm (t .span - 1) (t .depth) in omega arith) in
+      let most : t .span ≤ suc (length after / t .depth) = omega arith in
+      let low = row-lt t (c .fits) j (length before) in
+      let all = pow-mono most in
+      mod-eq-of-lt (omega arith)
 
 pub impulse-response : IMPULSE-RESPONSE
-impulse-response t before after x y j c =
-    let was = codedForm t (before ++ (x ∷ after)) in (
+impulse-response t s before after x y j c =
+    let was = codedFrom t s (before ++ (x ∷ after)) in (
       λ p h.
-          differ t before after x y j c p ∙ ap (λ (z : ℕ). getD was p 0 ⊕ z) (alone-before t before after x y j c p h)
-          ∙ xor-zero-r (getD was p 0),
+          differ t s before after x y j c p
+          ∙ ap (λ (z : ℕ). getD was p 0 ⊕ z) (alone-before t s before after x y j c p h) ∙ xor-zero-r (getD was p 0),
       λ d h.
-          differ t before after x y j c (length before + d)
-          ∙ ap (λ (z : ℕ). getD was (length before + d) 0 ⊕ z) (alone-after t before after x y j c d h),
+          differ t s before after x y j c (length before + d)
+          ∙ ap (λ (z : ℕ). getD was (length before + d) 0 ⊕ z) (alone-after t s before after x y j c d h),
     )
 
+pub bits-changed : BITS-CHANGED
+bits-changed = changed-bits
+
 pub one-bit-reach : ONE-BIT-REACH
-one-bit-reach = reach
+one-bit-reach t s before after x y j c many =
+    changed-bits t s before after x y j c ∙ ap (λ (z : ℕ). 1 + ones z) (whole-row t s before after x y j c many)
 
 -- ---- how far the number goes
 
-z-changes : Changes (Z 1) [] (0 ∷ 0 ∷ []) 0 1 1
+z-changed : OneSymbol (Z 1) (started 2) [] (0 ∷ 0 ∷ []) 0 1 1
 unfolding fit sizesFit rowsFit
-z-changes = record {
+z-changed = record {
   fits = refl;
+  formed = started-formed (Z 1) refl .0;
   below = each-at (λ i. getD (0 ∷ 0 ∷ 0 ∷ []) i 0 < 2) 3 (omega arith, (omega arith, (omega arith, tt)));
   from = omega arith;
   to = omega arith;
   changed = changed-symbol 1 0 1 (omega arith) .1 (sym (xor-zero-l 1));
 }
 
-z-reach : distance (codedForm (Z 1) (0 ∷ 0 ∷ 0 ∷ [])) (codedForm (Z 1) (1 ∷ 0 ∷ 0 ∷ [])) ≡ 2
-unfolding sum zipWith ones run coderFault stepFault firstOf fit sizesFit rowsFit coderJoining codedBlock coderNext
-    codeAnswer codeMemory answered leaves joining combination odd xor _⊕_
-z-reach = refl
-
+-- row 10 has two ones, and one of them below bit 3
 pub one-bit-reach-sharp : ONE-BIT-REACH-SHARP
 unfolding ones
 one-bit-reach-sharp law =
-    let z : _≡_ {A = ℕ} 2 3 = sym z-reach ∙ law (Z 1) [] (0 ∷ 0 ∷ []) 0 1 1 z-changes (omega arith) in
+    let z : _≡_ {A = ℕ} 2 3 =
+    sym (bits-changed (Z 1) (started 2) [] (0 ∷ 0 ∷ []) 0 1 1 z-changed)
+    ∙ law (Z 1) (started 2) [] (0 ∷ 0 ∷ []) 0 1 1 z-changed (omega arith) in
     omega arith

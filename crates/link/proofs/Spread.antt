@@ -1,15 +1,15 @@
--- The ones of a word, spread to every m-th place, are as many as in the word. Assumes nothing.
+-- The ones of a word, spread to every m-th place: how many there are up to a place. Assumes nothing.
 --
 --   total              the sum of numbers over the places below a bound; and its laws
 --   ones-pow, ones-topped   the ones of a power of 2, and of a number with a bit above it
 --   spread m row d     bit d / m of the word, if m divides d
---   spread-total       their count
+--   spread-cut         their count
 use mathlib.Core.Path.{_≡_, refl, sym, ap, ap₂, _∙_}
 use mathlib.Core.Bool.{Bool, true, false, _&&_}
 use mathlib.Core.List.{List, [], _∷_, map, sum}
 use Prim.Native.Nat.{ℕ, zero, suc, _+_, _-_, _*_, _/_, _%_, _^_, _≤_, _<_}
 use native.Mathlib.Nat.{add-zero, zero-add, suc-add, add-comm, suc-mul, zero-mod, zero-div, mod-eq-of-lt, add-mod-left}
-use native.Mathlib.Nat.{add-div-left}
+use native.Mathlib.Nat.{add-div-left, mod-lt, mod-add-div', le-div-iff-mul-le}
 use native.Mathlib.Numerals.{add-one}
 use native.Mathlib.Decide.{decLt}
 use native.Mathlib.Omega.{arith}
@@ -20,7 +20,7 @@ use lib.Dec.{eqb}
 use lib.ListN.{length, getD}
 use lib.Pow.{pow-pos}
 use Rattle.span.specs.Word.{bit, digit}
-use Rattle.span.proofs.Word.{odd-mod, bit-zero, bit-suc, and-false}
+use Rattle.span.proofs.Word.{odd-mod, bit-zero, bit-suc, bit-low, and-false}
 use Rattle.link.proofs.Convolution.{bit-nothing}
 
 -- ---- sums of numbers
@@ -106,7 +106,7 @@ module _ (m : ℕ) (some : 0 < m) where
       ∙ ap digit (ap₂ (λ (r q : ℕ). eqb r 0 && bit q row) (zero-mod m) (zero-div m) ∙ bit-zero row)
       ∙ sym (odd-mod row)
 
-  pub spread-total : (K row count : ℕ) → row < 2 ^ K → K * m < count + m
+  spread-total : (K row count : ℕ) → row < 2 ^ K → K * m < count + m
       → total count (λ d. digit (spread m row d)) ≡ ones row
   spread-total zero row count low many =
       let none = lt-one low in
@@ -136,3 +136,16 @@ module _ (m : ℕ) (some : 0 < m) where
           (λ d l. ap digit (spread-next row d)) ∙ rest c (omega arith) in
           ap (λ (k : ℕ). total k (λ d. digit (spread m row d))) whole
           ∙ total-split m c (λ d. digit (spread m row d)) ∙ ap₂ _+_ first more ∙ sym (ones-step row)
+
+  -- up to place a, those of the bits that have come by then
+  pub spread-cut : (row a : ℕ) → total (suc a) (λ d. digit (spread m row d)) ≡ ones (row % 2 ^ suc (a / m))
+  spread-cut row a =
+      let part = row % 2 ^ suc (a / m) in
+      let last = mod-add-div' a m in
+      let over = suc-mul (a / m) m in
+      total-ext (suc a) (λ d. digit (spread m row d)) (λ d. digit (spread m part d))
+      (λ d h.
+      let whole = mod-add-div' d m in
+      let in-time : d / m ≤ a / m = le-div-iff-mul-le some .1 (omega arith) in
+      ap (λ (s : Bool). digit (eqb (d % m) 0 && s)) (sym (bit-low (d / m) (suc (a / m)) row (omega arith))))
+      ∙ spread-total (suc (a / m)) part (suc a) (mod-lt row (pow-pos (suc (a / m)))) (omega arith)

@@ -1,5 +1,5 @@
--- Runs of one fit table from a started memory on: no step is refused exactly if each block is below the bound of 15.
--- Assumes nothing.
+-- Runs of one fit table from a well-formed memory on: no step is refused exactly if each block is below the bound of
+-- 15. Assumes nothing.
 --
 --   none-refused        the theorem
 --   OneEach             a run has one entry of each block, of the same table
@@ -16,7 +16,7 @@ use Rattle.span.specs.Combination.{Below}
 use Rattle.span.proofs.Combination.{below-tail}
 use Rattle.tables.specs.declared.table.Table.{Table}
 use Rattle.tables.specs.Table.{fit, SameTable}
-use Rattle.link.specs.Memory.{started, coderWords, decoderWords}
+use Rattle.link.specs.Memory.{coderWords, decoderWords}
 use Rattle.link.specs.Refusals.{coderMalformed, decoderMalformed, coderFault, decoderFault, leaves}
 use Rattle.link.specs.Coder.{coderNext, codeAnswer, codeMemory}
 use Rattle.link.specs.Decoder.{decoderNext, decodeAnswer, decodeMemory}
@@ -24,11 +24,11 @@ use Rattle.link.specs.Runs.{Sent, Taken, run, sentOf, takenOf, sentBy, t
 use Rattle.link.specs.Formed.{CoderFormed, DecoderFormed}
 use Rattle.link.specs.Massey.{rawEntry}
 use Rattle.link.specs.Computed.{calls, answersBy}
-use Rattle.link.specs.Sums.{rawTerms, NoneRefused, NONE-REFUSED}
+use Rattle.link.specs.Sums.{rawFrom, NoneRefused, NONE-REFUSED}
 use Rattle.link.proofs.Refusals.{step-settled, step-passed}
 use Rattle.link.proofs.Runs.{Told, run-taken, memory-taken, coder-memory, decoder-memory, sentEntry, takenEntry}
 use Rattle.link.proofs.Runs.{sent-told, taken-told, decoder-placed}
-use Rattle.link.proofs.Formed.{formed-exactly, started-formed, formed-kept}
+use Rattle.link.proofs.Formed.{formed-exactly, formed-kept}
 use Rattle.link.proofs.OneTable.{from-one}
 
 -- the entries xs of a run, each with a table and a block, are those of the blocks bs with the table t
@@ -146,50 +146,49 @@ module _ (t : Table) (fits : fit t ≡ true) where
       → DecoderFormed t (decoderNext t s r)
   decoder-keeps s r = formed-kept t t (same-table t t refl) s r .1
 
-  pub sent-each : (bs : List ℕ) → Below (t .symbols - 1) bs
-      → OneEach (λ (x : Sent). x .table) (λ (x : Sent). x .info) noneSent t bs
-      (sentBy (started (coderWords t)) (calls t bs))
+  pub sent-each : (s : List ℕ) → CoderFormed t s → (bs : List ℕ) → Below (t .symbols - 1) bs
+      → OneEach (λ (x : Sent). x .table) (λ (x : Sent). x .info) noneSent t bs (sentBy s (calls t bs))
   sent-each =
       one-each coderFault coderNext codeMemory coder-memory t (t .symbols - 1) (CoderFormed t) coder-takes coder-keeps
       (λ t s b. sentOf t b (codeAnswer t s b)) sentEntry sent-told noneSent (λ (x : Sent). x .table)
-      (λ (x : Sent). x .info) (λ s b. refl) (λ s b. refl) refl (started (coderWords t)) (started-formed t fits .0)
+      (λ (x : Sent). x .info) (λ s b. refl) (λ s b. refl) refl
 
-  pub taken-each : (rs : List ℕ) → Below (t .symbols) rs
-      → OneEach (λ (x : Taken). x .table) (λ (x : Taken). x .block) noneTaken t rs
-      (takenBy (started (decoderWords t)) (calls t rs))
+  pub taken-each : (s : List ℕ) → DecoderFormed t s → (rs : List ℕ) → Below (t .symbols) rs
+      → OneEach (λ (x : Taken). x .table) (λ (x : Taken). x .block) noneTaken t rs (takenBy s (calls t rs))
   taken-each =
       one-each decoderFault decoderNext decodeMemory decoder-memory t (t .symbols) (DecoderFormed t) decoder-takes
       decoder-keeps (λ t s r. takenOf t r (decodeAnswer t s r)) takenEntry taken-told noneTaken
-      (λ (x : Taken). x .table) (λ (x : Taken). x .block) (λ s r. refl) (λ s r. refl) refl (started (decoderWords t))
-      (started-formed t fits .1)
+      (λ (x : Taken). x .table) (λ (x : Taken). x .block) (λ s r. refl) (λ s r. refl) refl
 
-  raw-size : (rs : List ℕ) → Below (t .symbols) rs → length (rawTerms t rs) ≡ length rs
-  raw-size rs below =
+  raw-size : (s : List ℕ) → DecoderFormed t s → (rs : List ℕ) → Below (t .symbols) rs
+      → length (rawFrom t s rs) ≡ length rs
+  raw-size s f rs below =
       whole decoderFault decoderNext decodeMemory decoder-memory t (t .symbols) (DecoderFormed t) decoder-takes
       decoder-keeps (placed decoderFault rawEntry) rawEntry (decoder-placed rawEntry) false (λ x r. Unit {0})
-      (λ s r. tt) (started (decoderWords t)) (started-formed t fits .1) rs below .0
+      (λ s r. tt) s f rs below .0
 
 pub none-refused : NONE-REFUSED
 unfolding coderFault decoderFault
-none-refused t bs fits = (
-  (
-    all-taken coderFault coderNext codeMemory coder-memory t (t .symbols - 1) (CoderFormed t) (coder-takes t fits)
-        (coder-keeps t fits) (started (coderWords t)) (started-formed t fits .0) bs,
-    all-below coderFault coderNext codeMemory coder-memory t (t .symbols - 1) (CoderFormed t) (coder-takes t fits)
-        (coder-keeps t fits)
-        (λ s b e. step-passed t (coderWords t) (coderMalformed t s) (2 ^ (t .symbols - 1)) s b e .block)
-        (started (coderWords t)) bs,
+none-refused t s bs fits = (
+  λ f. (
+    (
+      all-taken coderFault coderNext codeMemory coder-memory t (t .symbols - 1) (CoderFormed t) (coder-takes t fits)
+          (coder-keeps t fits) s f bs,
+      all-below coderFault coderNext codeMemory coder-memory t (t .symbols - 1) (CoderFormed t) (coder-takes t fits)
+          (coder-keeps t fits)
+          (λ s b e. step-passed t (coderWords t) (coderMalformed t s) (2 ^ (t .symbols - 1)) s b e .block) s bs,
+    ),
+    λ below.
+        length-map (sentBy s (calls t bs)) (λ (x : Sent). x .block) ∙ sent-each t fits s f bs below .size,
   ),
-  (
-    all-taken decoderFault decoderNext decodeMemory decoder-memory t (t .symbols) (DecoderFormed t)
-        (decoder-takes t fits) (decoder-keeps t fits) (started (decoderWords t)) (started-formed t fits .1) bs,
-    all-below decoderFault decoderNext decodeMemory decoder-memory t (t .symbols) (DecoderFormed t)
-        (decoder-takes t fits) (decoder-keeps t fits)
-        (λ s r e. step-passed t (decoderWords t) (decoderMalformed t s) (2 ^ t .symbols) s r e .block)
-        (started (decoderWords t)) bs,
+  λ f. (
+    (
+      all-taken decoderFault decoderNext decodeMemory decoder-memory t (t .symbols) (DecoderFormed t)
+          (decoder-takes t fits) (decoder-keeps t fits) s f bs,
+      all-below decoderFault decoderNext decodeMemory decoder-memory t (t .symbols) (DecoderFormed t)
+          (decoder-takes t fits) (decoder-keeps t fits)
+          (λ s r e. step-passed t (decoderWords t) (decoderMalformed t s) (2 ^ t .symbols) s r e .block) s bs,
+    ),
+    raw-size t fits s f bs,
   ),
-  λ below.
-      length-map (sentBy (started (coderWords t)) (calls t bs)) (λ (x : Sent). x .block)
-      ∙ sent-each t fits bs below .size,
-  raw-size t fits bs,
 )

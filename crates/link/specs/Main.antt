@@ -10,8 +10,8 @@ use Rattle.link.specs.Recovery.{RECOVERY, RECOVERY-SHORT-GUARD}
 use Rattle.link.specs.Guard.{GUARD-END}
 use Rattle.link.specs.Clean.{CLEAN, STARTED-CLEAN}
 use Rattle.link.specs.Batches.{SHORTER, BATCH-RUN, RECOVERY-BATCHES, GUARD-END-BATCHES}
-use Rattle.link.specs.Sums.{CODED-FORMS-ADD, RAW-TERMS-ADD, DELIVERIES-NEED-NOT-ADD}
-use Rattle.link.specs.Reach.{ONE-BIT-REACH}
+use Rattle.link.specs.Sums.{NONE-REFUSED, CODED-FORMS-ADD, RAW-TERMS-ADD, DELIVERIES-NEED-NOT-ADD}
+use Rattle.link.specs.Reach.{IMPULSE-RESPONSE, ONE-BIT-REACH}
 
 pub record Link : Type 0 where
   -- demand 1: a refused call leaves every lent word as it was, and where no reason applies a call is not refused
@@ -36,11 +36,13 @@ pub record Link : Type 0 where
   pub batch-run : BATCH-RUN
   pub recovery-batches : RECOVERY-BATCHES
   pub guard-end-batches : GUARD-END-BATCHES
-  -- sums of messages (02, CR 7): coded forms add, and raw terms; deliveries need not; and how many coded bits one bit
-  -- changes
+  -- sums of messages (02, CR 7): where no step is refused; coded forms add, and raw terms; deliveries need not; which
+  -- coded bits one bit changes, and how many
+  pub none-refused : NONE-REFUSED
   pub coded-forms-add : CODED-FORMS-ADD
   pub raw-terms-add : RAW-TERMS-ADD
   pub deliveries-need-not-add : DELIVERIES-NEED-NOT-ADD
+  pub impulse-response : IMPULSE-RESPONSE
   pub one-bit-reach : ONE-BIT-REACH
 
 abbrev pub LINK : Type 0

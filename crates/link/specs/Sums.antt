@@ -1,16 +1,18 @@
--- Sums of messages (02, CR 7): "The calibration group adds test signals." What a started coder answers may be added,
--- and so may the raw terms of a started decoder; what it delivers may not.
+-- Sums of messages (02, CR 7): "The calibration group adds test signals." What a started coder answers adds, and so do
+-- the raw terms of a started decoder; what it delivers need not.
 --
---   codedForm t bs     the coded form of a message: the blocks that a started coder answers to the blocks bs
---   rawTerms t rs      the raw terms of a started decoder that is handed the blocks rs
---   answersTo t rs     what that decoder answers
---   infoOf a           the information that an answer delivers, if it does
---   deliveredBy t rs   the information that that decoder delivers
+--   codedFrom t s bs, rawFrom t s rs   the blocks that a coder answers to the blocks bs, and the raw terms of a decoder
+--                      that is handed the blocks rs, from the memory s on
+--   codedForm t bs     the coded form of a message: from a started memory on
+--   rawTerms t rs, answersTo t rs   the raw terms of a started decoder, and what it answers
+--   infoOf a, deliveredBy t rs   the information that an answer delivers, if it does, and what that decoder delivers
 --   NoneRefused fault memory s cs   no call of the list is refused, from the memory s on
---   NONE-REFUSED       where that is, from a started memory on; and then each block has a coded block, and a raw term
+--   NONE-REFUSED       where that is, from a well-formed memory on; then each block has a coded block, and a raw term
 --   Adds bits plus form   the law, of sequences of blocks of so many bits
 --   CODED-FORMS-ADD, RAW-TERMS-ADD   the law of coded forms and of raw terms
 --   DELIVERIES-NEED-NOT-ADD   its failure of deliveries
+--   Differ bits plus from form   the law of other forms than those from a start
+--   CODED-FORMS-DIFFER, RAW-TERMS-DIFFER   that law, from any well-formed memory on
 use mathlib.Core.Path.{_≡_}
 use mathlib.Core.Bool.{Bool, true, xor}
 use mathlib.Core.Logic.{_↔_}
@@ -29,17 +31,24 @@ use Rattle.link.specs.Refusals.{coderFault, decoderFault}
 use Rattle.link.specs.Coder.{codeMemory}
 use Rattle.link.specs.Decoder.{decodeAnswer, decodeMemory}
 use Rattle.link.specs.Runs.{Call, run, sentBy, placed}
+use Rattle.link.specs.Formed.{CoderFormed, DecoderFormed}
 use Rattle.link.specs.Massey.{rawEntry}
 use Rattle.link.specs.Computed.{Z, calls, answersBy, sentBlocks, delivers}
 
--- ---- what a run from a started memory gives, of "one table"
+-- ---- what the calls of a list of blocks give, with "one table"
 
-abbrev pub codedForm : Table → List ℕ → List ℕ
-codedForm t bs = sentBlocks (sentBy (started (coderWords t)) (calls t bs))
+abbrev pub codedFrom : Table → List ℕ → List ℕ → List ℕ
+codedFrom t s bs = sentBlocks (sentBy s (calls t bs))
 
 -- 01, a decoding step, line 1
+abbrev pub rawFrom : Table → List ℕ → List ℕ → List Bool
+rawFrom t s rs = run decodeMemory (placed decoderFault rawEntry) s (calls t rs)
+
+abbrev pub codedForm : Table → List ℕ → List ℕ
+codedForm t bs = codedFrom t (started (coderWords t)) bs
+
 abbrev pub rawTerms : Table → List ℕ → List Bool
-rawTerms t rs = run decodeMemory (placed decoderFault rawEntry) (started (decoderWords t)) (calls t rs)
+rawTerms t rs = rawFrom t (started (decoderWords t)) rs
 
 abbrev pub answersTo : Table → List ℕ → List DecodeAnswer
 answersTo t rs = answersBy decodeAnswer decodeMemory (started (decoderWords t)) (calls t rs)
@@ -57,19 +66,22 @@ deliveredBy t rs = flatMap infoOf (answersTo t rs)
 abbrev pub NoneRefused : (Table → List ℕ → ℕ → ℕ) → (Table → List ℕ → ℕ → List ℕ) → List ℕ → List Call → Type 0
 NoneRefused fault memory s cs = answersBy fault memory s cs ≡ replicate (length cs) 0
 
--- With a fit table and a started memory that is where each block is below 2^(n−1), and a received one below 2^n (01,
--- 15), and nowhere else.
+-- With a fit table and a well-formed memory, a started one among them, that is where each block is below 2^(n−1), and a
+-- received one below 2^n (01, 15), and nowhere else.
 abbrev pub NONE-REFUSED : Type 0
 NONE-REFUSED =
-    (t : Table) (bs : List ℕ) → fit t ≡ true
-    → (Below (t .symbols - 1) bs ↔ NoneRefused coderFault codeMemory (started (coderWords t)) (calls t bs))
-    × (Below (t .symbols) bs ↔ NoneRefused decoderFault decodeMemory (started (decoderWords t)) (calls t bs))
-    × (Below (t .symbols - 1) bs → length (codedForm t bs) ≡ length bs)
-    × (Below (t .symbols) bs → length (rawTerms t bs) ≡ length bs)
+    (t : Table) (s bs : List ℕ) → fit t ≡ true
+    → (CoderFormed t s
+    → (Below (t .symbols - 1) bs ↔ NoneRefused coderFault codeMemory s (calls t bs))
+    × (Below (t .symbols - 1) bs → length (codedFrom t s bs) ≡ length bs))
+    × (DecoderFormed t s
+    → (Below (t .symbols) bs ↔ NoneRefused decoderFault decodeMemory s (calls t bs))
+    × (Below (t .symbols) bs → length (rawFrom t s bs) ≡ length bs))
 
 -- ---- the law
 
--- the form "of the exclusive or of two equally long block sequences is the exclusive or of their" forms
+-- The form "of the exclusive or of two equally long block sequences is the exclusive or of their" forms. It is as long
+-- as they are, so that no step of the sum is refused.
 abbrev pub Adds : {X : Type 0} → ℕ → (X → X → X) → (List ℕ → List X) → Type 0
 Adds bits plus form =
     (xs ys : List ℕ) → length xs ≡ length ys → Below bits xs → Below bits ys
@@ -93,3 +105,21 @@ DELIVERIES-NEED-NOT-ADD =
     × (answersTo (Z 1) (zipWith _⊕_ (2 ∷ 2 ∷ 0 ∷ 0 ∷ []) (2 ∷ 0 ∷ 0 ∷ 2 ∷ []))
     ≡ NothingYet ∷ NothingYet ∷ NothingYet ∷ delivers 1 (Corrected 1) ∷ [])
     × (Adds (Z 1 .symbols) _⊕_ (deliveredBy (Z 1)) → ⊥)
+
+-- ---- two messages on one well-formed memory, started or not
+
+-- the exclusive or of what they lead to is the form of their exclusive or
+abbrev pub Differ : {X : Type 0} → ℕ → (X → X → X) → (List ℕ → List X) → (List ℕ → List X) → Type 0
+Differ bits plus from form =
+    (xs ys : List ℕ) → length xs ≡ length ys → Below bits xs → Below bits ys
+    → zipWith plus (from xs) (from ys) ≡ form (zipWith _⊕_ xs ys)
+
+abbrev pub CODED-FORMS-DIFFER : Type 0
+CODED-FORMS-DIFFER =
+    (t : Table) (s : List ℕ) → fit t ≡ true → CoderFormed t s
+    → Differ (t .symbols - 1) _⊕_ (codedFrom t s) (codedForm t)
+
+abbrev pub RAW-TERMS-DIFFER : Type 0
+RAW-TERMS-DIFFER =
+    (t : Table) (s : List ℕ) → fit t ≡ true → DecoderFormed t s
+    → Differ (t .symbols) xor (rawFrom t s) (rawTerms t)
