@@ -605,7 +605,7 @@ fn block_count(draw: &mut Draw, delay: u64) -> u64 {
 }
 
 /// What a started coder sends, with no, few or many blocks damaged.
-fn received_blocks(draw: &mut Draw, table: &Table, count: u64) -> Vec<u16> {
+pub fn received_blocks(draw: &mut Draw, table: &Table, count: u64) -> Vec<u16> {
     let damaged = draw.pick(&[u64::MAX, 200, 20, 2]); // one block in so many
     let mut coder = vec![0; table.coder_words()];
     let mut blocks = Vec::new();

@@ -198,16 +198,17 @@ pub enum Step {
     Decode(u16, Decoded),
 }
 
+/// Steps one after another, most often one.
 #[derive(Debug)]
 pub struct StepCase {
     pub table: Table,
     pub memory: Vec<u64>,
-    pub step: Step,
+    pub steps: Vec<Step>,
     pub after: Vec<u64>,
 }
 
 fn step(table: &Table, memory: &[u64], step: Step, after: &[u64]) -> StepCase {
-    StepCase { table: table.clone(), memory: memory.to_vec(), step, after: after.to_vec() }
+    StepCase { table: table.clone(), memory: memory.to_vec(), steps: vec![step], after: after.to_vec() }
 }
 
 /// A coder's step that is taken, with the coded block.
@@ -315,5 +316,54 @@ pub fn step_cases() -> [StepCase; 37] {
         // 15: a block of 2^n, information of 2^(n−1)
         no_decode(&z1, &[0; 7], 4, 15),
         no_code(&z1, &[0, 0], 2, 15),
+    ]
+}
+
+// ---- Sums ----
+
+/// Steps from the start.
+fn run(table: &Table, steps: Vec<Step>, after: &[u64]) -> StepCase {
+    StepCase { table: table.clone(), memory: vec![0; after.len()], steps, after: after.to_vec() }
+}
+
+/// A message and its coded form, by block, of a started coder.
+fn codes_message(table: &Table, blocks: &[(u16, u64)], after: &[u64]) -> StepCase {
+    let step = |&(info, block): &(u16, u64)| Step::Code(info, Coded { refused: 0, block });
+    run(table, blocks.iter().map(step).collect(), after)
+}
+
+/// Four blocks that a started decoder of Z takes, the last of which delivers these values.
+fn z_delivers(received: [u16; 4], last: [u64; 3], after: &[u64]) -> StepCase {
+    let answers = [NOTHING_YET, NOTHING_YET, NOTHING_YET, last];
+    let step = |(received, [info, mark, error]): (u16, [u64; 3])| {
+        Step::Decode(received, Decoded { refused: 0, info, mark, error })
+    };
+    run(&z(1), received.into_iter().zip(answers).map(step).collect(), after)
+}
+
+/// Two lists of received blocks whose deliveries on Z do not add.
+pub const Z_LISTS: [[u16; 4]; 2] = [[2, 2, 0, 0], [2, 0, 0, 2]];
+
+/// Two lists that a decoder of Z takes and their sum; two messages that a coder of Z takes and theirs, which is T10's;
+/// and a message of one bit in two streams, with just as many blocks after it as it reaches, and with one fewer.
+pub fn sum_cases() -> [StepCase; 8] {
+    let (z1, z2) = (z(1), z(2));
+    [
+        // No block has information: nothing is pending, the raw term is the received parity, and delayed blocks are 0.
+        // The register is the syndrome word, plus 8 if the term is 1; images are 0, 10, 1 and 11, of e = 0 to 3.
+        //   2 2 0 0: register 8, word 4; 12, word 6; 6, word 3; then 3, doubtful as bit 0 is 1, word 1: delivers 0
+        //   2 0 0 2: register 8, word 4;  4, word 2; 2, word 1; then 9, doubtful as bit 0 is 1, word 4: delivers 0
+        //   0 2 0 2: register 0, word 0;  8, word 4; 4, word 2; then 10, the image of 1, word 0: delivers 0 ^ 1
+        // So the terms 1 1 0 0 and 1 0 0 1 add to 0 1 0 1; but 0 and 0 are delivered, and of the sum 1.
+        z_delivers(Z_LISTS[0], [0, 4, 0], &[0, 3, 0, 1, 0, 0, 0]),
+        z_delivers(Z_LISTS[1], [0, 4, 0], &[0, 3, 0, 4, 0, 0, 0]),
+        z_delivers([0, 2, 0, 2], [1, 3, 1], &[0, 3, 0, 0, 0, 0, 0]),
+        // row 10 has bits 1 and 3: one bit of information is in the parities 1 and 3 blocks later
+        codes_message(&z1, &[(1, 1), (0, 2), (0, 0), (0, 2), (0, 0)], &[0, 0]),
+        codes_message(&z1, &[(0, 0), (1, 1), (0, 2), (0, 0), (0, 2)], &[0, 0]),
+        codes_message(&z1, &[(1, 1), (1, 3), (0, 2), (0, 2), (0, 2)], &[0, 0]),
+        // in two streams 2 and 6 blocks later, and 5 blocks later the last is still pending
+        codes_message(&z2, &[(1, 1), (0, 0), (0, 2), (0, 0), (0, 0), (0, 0), (0, 2)], &[1, 0, 0]),
+        codes_message(&z2, &[(1, 1), (0, 0), (0, 2), (0, 0), (0, 0), (0, 0)], &[0, 1, 0]),
     ]
 }

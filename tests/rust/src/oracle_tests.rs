@@ -1,7 +1,7 @@
 //! The plain implementation tested by itself: the scope's examples, its own two or three ways, and fades.
 
 use crate::cases::*;
-use crate::examples::{first_triples, z};
+use crate::examples::{first_triples, sum_cases, z, Step, StepCase};
 use crate::oracle::*;
 
 fn bytes_of(table: &Table) -> Vec<u8> {
@@ -383,6 +383,35 @@ fn parity_is_the_definition_s() {
             let block = info | parity_by_definition(&table, stream) << (table.n - 1);
             assert_eq!(code(&table, &mut words, info), Ok(block));
         }
+    }
+}
+
+fn blocks_of(case: &StepCase) -> Vec<u16> {
+    case.steps.iter().map(|&(Step::Code(block, _) | Step::Decode(block, _))| block).collect()
+}
+
+#[test]
+fn sums_as_listed() {
+    let cases = sum_cases();
+    for three in [&cases[..3], &cases[3..6]] {
+        let [one, other, sum] = [0, 1, 2].map(|at| blocks_of(&three[at]));
+        let added: Vec<u16> = one.iter().zip(&other).map(|(one, other)| one ^ other).collect();
+        assert_eq!(added, sum);
+    }
+    for StepCase { table, mut memory, steps, after } in cases {
+        for step in steps {
+            match step {
+                Step::Code(info, due) => {
+                    assert_eq!(code(&table, &mut memory, u64::from(info)), Ok(due.block));
+                }
+                Step::Decode(received, due) => {
+                    let answer = decode(&table, &mut memory, u64::from(received)).expect("well-formed");
+                    let values = answer.map(|Delivered { info, mark }| [info, mark.number(), mark.error()]);
+                    assert_eq!(values.unwrap_or_default(), [due.info, due.mark, due.error]);
+                }
+            }
+        }
+        assert_eq!(memory, after);
     }
 }
 

@@ -2,7 +2,8 @@
 //! cases.
 
 use burst_compare::cases::*;
-use burst_compare::examples::{read_cases, step_cases, write_cases, z, ReadCase, Says, Step, StepCase};
+use burst_compare::examples::{read_cases, step_cases, sum_cases, write_cases, z};
+use burst_compare::examples::{ReadCase, Says, Step, StepCase};
 use burst_compare::iwadare_cases::station_cases;
 use burst_compare::oracle::{self, Delivered, ReadRefusal, Table, Triple, MARKS};
 use burst_compare::{linked, program, Coded, Decoded, Numbers, Reading};
@@ -14,6 +15,7 @@ mod batches;
 mod clashes;
 mod images;
 mod iwadare;
+mod sums;
 mod writing;
 
 const SEED: u64 = 0x9E37_79B9_7F4A_7C15;
@@ -33,6 +35,7 @@ struct Tally {
     writing: writing::Count,
     clashes: clashes::Count,
     iwadare: iwadare::Count,
+    sums: sums::Count,
     mismatches: u64,
     shown: Vec<String>,
 }
@@ -949,8 +952,12 @@ fn everything_reached(tally: &mut Tally, _: &mut Draw) {
     writing::everything_reached(tally);
     clashes::everything_reached(tally);
     iwadare::everything_reached(tally);
-    let calls = tally.calls - tally.batches.batches - tally.iwadare.calls();
-    tally.check(calls >= LEAST_CALLS, || format!("only {calls} calls compared, batches and stations apart"));
+    sums::everything_reached(tally);
+    let apart = tally.batches.batches + tally.iwadare.calls() + tally.sums.calls;
+    let calls = tally.calls - apart;
+    tally.check(calls >= LEAST_CALLS, || {
+        format!("only {calls} calls compared, batches, stations and sums apart")
+    });
 }
 
 // ---- Listed cases ----
@@ -970,19 +977,21 @@ fn check_reading(tally: &mut Tally, ReadCase { bytes, says }: &ReadCase) {
     check_answers(tally, due, plain_read(bytes), linked::read(bytes));
 }
 
-/// Holds both answers to the case, and every word of both memories.
-fn check_step(tally: &mut Tally, StepCase { table, memory, step, after }: &StepCase) {
+/// Holds both answers to the case, step by step, and then every word of both memories.
+fn check_steps(tally: &mut Tally, StepCase { table, memory, steps, after }: &StepCase) {
     let mut twin = Twin::new(memory.clone());
-    match *step {
-        Step::Code(info, due) => {
-            let plain = plain_coded(oracle::code(table, twin.plain(), u64::from(info)));
-            let linked = linked::code(&table.numbers(), twin.linked(), info);
-            check_answers(tally, due, plain, linked);
-        }
-        Step::Decode(received, due) => {
-            let plain = plain_decoded(oracle::decode(table, twin.plain(), u64::from(received)));
-            let linked = linked::decode(&table.numbers(), twin.linked(), received);
-            check_answers(tally, due, plain, linked);
+    for step in steps {
+        match *step {
+            Step::Code(info, due) => {
+                let plain = plain_coded(oracle::code(table, twin.plain(), u64::from(info)));
+                let linked = linked::code(&table.numbers(), twin.linked(), info);
+                check_answers(tally, due, plain, linked);
+            }
+            Step::Decode(received, due) => {
+                let plain = plain_decoded(oracle::decode(table, twin.plain(), u64::from(received)));
+                let linked = linked::decode(&table.numbers(), twin.linked(), received);
+                check_answers(tally, due, plain, linked);
+            }
         }
     }
     tally.check(twin.plain == *after, || format!("plain memory: {:?}", twin.plain));
@@ -991,7 +1000,7 @@ fn check_step(tally: &mut Tally, StepCase { table, memory, step, after }: &StepC
 
 type Group = (&'static str, fn(&mut Tally, &mut Draw));
 
-const GROUPS: [Group; 60] = [
+const GROUPS: [Group; 64] = [
     ("examples of tables", examples_of_tables),
     ("examples of steps", examples_of_steps),
     ("bytes of every refusal and place", bytes_of_every_refusal),
@@ -1051,6 +1060,10 @@ const GROUPS: [Group; 60] = [
     ("stations: after 30 blocks", iwadare::recoveries),
     ("stations: after 29 blocks", iwadare::shorter_guard_fails),
     ("stations: the end of the guard", iwadare::end_of_the_guard),
+    ("sums: coded forms", sums::coded_forms),
+    ("sums: raw terms", sums::raw_terms),
+    ("sums: deliveries of Z", sums::deliveries_of_z),
+    ("sums: reach of one bit", sums::reach),
     ("everything reached", everything_reached),
 ];
 
@@ -1098,15 +1111,17 @@ fn run_cases<C: Debug>(tally: &mut Tally, name: &str, cases: &[C], check: fn(&mu
 fn main() {
     let mut tally = Tally::default();
     let (read_cases, write_cases, step_cases) = (read_cases(), write_cases(), step_cases());
-    let station_cases = station_cases();
+    let (sum_cases, station_cases) = (sum_cases(), station_cases());
     let mut passed = run_cases(&mut tally, "listed table bytes", &read_cases, check_reading)
         + run_cases(&mut tally, "listed writes", &write_cases, writing::check_case)
-        + run_cases(&mut tally, "listed steps", &step_cases, check_step)
+        + run_cases(&mut tally, "listed steps", &step_cases, check_steps)
+        + run_cases(&mut tally, "listed sums", &sum_cases, check_steps)
         + run_cases(&mut tally, "listed steps of stations", &station_cases, iwadare::check_case);
     for (index, &group) in GROUPS.iter().enumerate() {
         passed += usize::from(run_group(&mut tally, index, group));
     }
-    let cases = read_cases.len() + write_cases.len() + step_cases.len() + station_cases.len();
+    let cases = read_cases.len() + write_cases.len() + step_cases.len();
+    let cases = cases + sum_cases.len() + station_cases.len();
     let failed = cases + GROUPS.len() - passed;
     println!("{} calls compared", tally.calls);
     println!("refusals 1 to 15: {:?}", &tally.refusals[1..]);
@@ -1116,6 +1131,7 @@ fn main() {
     println!("{}", tally.writing);
     println!("{}", tally.clashes);
     println!("{}", tally.iwadare);
+    println!("{}", tally.sums);
     println!("{passed} passed, {failed} failed");
     std::process::exit(i32::from(failed > 0));
 }

@@ -108,7 +108,7 @@ impl Outcome {
 
 impl Side {
     /// A batch by the linked single calls: the count, and how it ended.
-    fn by_single_calls(
+    pub fn by_single_calls(
         &self,
         table: &Numbers,
         words: &mut [u64],
@@ -205,13 +205,13 @@ impl Side {
     }
 
     /// Blocks that refusal 15 meets nowhere.
-    fn fit_blocks(&self, draw: &mut Draw, table: &Table, count: usize) -> Vec<u16> {
+    pub fn fit_blocks(&self, draw: &mut Draw, table: &Table, count: usize) -> Vec<u16> {
         (0..count).map(|_| draw.bits((self.bits)(table.n)) as u16).collect()
     }
 }
 
 /// Lengths about 0, about m, about the delay, and any.
-fn any_length(draw: &mut Draw, table: &Table) -> usize {
+pub fn any_length(draw: &mut Draw, table: &Table) -> usize {
     let length = match draw.below(6) {
         0 => draw.below(4),
         1 => table.depth - 1 + draw.below(3),
@@ -338,7 +338,7 @@ pub fn every_length_and_room(tally: &mut Tally, draw: &mut Draw) {
 }
 
 /// Where a word of a stream stands, and how many bits it may have. A coder's stream has its pending word only.
-fn stream_word(side: &Side, table: &Table, stream: u64, within: u64) -> (usize, u64) {
+pub fn stream_word(side: &Side, table: &Table, stream: u64, within: u64) -> (usize, u64) {
     if side.name == CODER.name {
         return (1 + stream as usize, table.span - 1);
     }
