@@ -205,9 +205,10 @@ struct burst_coded burst_code(const uint64_t table[18], uint64_t *words, size_t 
  * received is a wrong one: any block below 2^n, such as 0, is handed in for it. One that is left out, or refused,
  * shifts all later ones by a place.
  *
- * What is delivered may not be added. With n = 2, N = 4, m = 1 and row 10 the blocks 2, 2, 0, 0 and 2, 0, 0, 2 deliver
- * 0 each, and their exclusive or, 0, 2, 0, 2, delivers 1. The terms of the syndrome, which no call returns, do add: of
- * equally long lists with one table, from started memories and where no step is refused.
+ * What is delivered may not be added, for it need not add. With n = 2, N = 4, m = 1 and row 10 the blocks 2, 2, 0, 0
+ * and 2, 0, 0, 2 deliver 0 each from a start, and their exclusive or, 0, 2, 0, 2, delivers 1. The terms of the
+ * syndrome, which no call returns, do add: of equally long lists with one table, from started memories and where no
+ * step is refused.
  *
  * Refused, 12 to 15, it writes no word. The table is only read, and its suitability is not tested.
  */

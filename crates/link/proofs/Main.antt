@@ -2,6 +2,7 @@
 use Rattle.link.specs.Main.{LINK}
 use Rattle.link.proofs.Calls.{refused-calls, taken-calls}
 use Rattle.link.proofs.Marks.{marks}
+use Rattle.link.proofs.Formed.{started-formed}
 use Rattle.link.proofs.Massey.{parity, syndrome-errors, deliveries, waiting}
 use Rattle.link.proofs.Recovery.{recovery, recovery-short-guard}
 use Rattle.link.proofs.Guard.{guard-end}
@@ -29,6 +30,7 @@ link = record {
   batch-run = batch-run;
   recovery-batches = recovery-batches;
   guard-end-batches = guard-end-batches;
+  started-formed = started-formed;
   none-refused = none-refused;
   coded-forms-add = coded-forms-add;
   raw-terms-add = raw-terms-add;

@@ -87,7 +87,7 @@ module _ (t : Table) (s before after : List ℕ) (x y j : ℕ) (c : OneSymbol t 
   -- from the block on
   changed-from : (d : ℕ) → getD (y ∷ after) d 0 ≡ getD (x ∷ after) d 0 ⊕ alone (length before + d)
   changed-from zero =
-      changed-symbol j x y (c .from) .0 (c .changed)
+      changed-symbol j x y (c .symbol-from) .0 (c .changed)
       ∙ ap (λ (s : Bool). x ⊕ sel s (2 ^ (j - 1))) (sym (eq-eqb (length before + 0) (length before) (omega arith)))
   changed-from (suc d) =
       sym (xor-zero-r (getD after d 0))
@@ -111,8 +111,8 @@ module _ (t : Table) (s before after : List ℕ) (x y j : ℕ) (c : OneSymbol t 
 
   unit-lt : (s : Bool) → sel s (2 ^ (j - 1)) < 2 ^ (t .symbols - 1)
   unit-lt s =
-      let from = c .from in
-      let to = c .to in
+      let from = c .symbol-from in
+      let to = c .symbol-to in
       let below : j - 1 < t .symbols - 1 = omega arith in
       sel-lt (t .symbols - 1) s (2 ^ (j - 1)) (pow-lt below)
 
@@ -253,8 +253,8 @@ z-changed = record {
   fits = refl;
   formed = started-formed (Z 1) refl .0;
   below = each-at (λ i. getD (0 ∷ 0 ∷ 0 ∷ []) i 0 < 2) 3 (omega arith, (omega arith, (omega arith, tt)));
-  from = omega arith;
-  to = omega arith;
+  symbol-from = omega arith;
+  symbol-to = omega arith;
   changed = changed-symbol 1 0 1 (omega arith) .1 (sym (xor-zero-l 1));
 }
 

@@ -32,7 +32,7 @@ use Rattle.link.specs.Runs.{Sent, sentBy, takenBy, noneSent}
 use Rattle.link.specs.Formed.{CoderFormed, DecoderFormed}
 use Rattle.link.specs.Massey.{convolution, stream, infoSent, blockSent, blockTaken, rawAt, registerAt, foundAt}
 use Rattle.link.specs.Computed.{calls, answersBy}
-use Rattle.link.specs.Sums.{codedFrom, rawFrom, codedForm, rawTerms, Differ, CODED-FORMS-ADD, RAW-TERMS-ADD}
+use Rattle.link.specs.Sums.{codedFrom, rawFrom, codedForm, rawTerms, Differences, CODED-FORMS-ADD, RAW-TERMS-ADD}
 use Rattle.link.specs.Sums.{DELIVERIES-NEED-NOT-ADD, CODED-FORMS-DIFFER, RAW-TERMS-DIFFER}
 use Rattle.link.proofs.Step.{topped-bit}
 use Rattle.link.proofs.Convolution.{convolution-ext}
@@ -82,7 +82,7 @@ module _ {X : Type 0} (plus : X → X → X) (d : X) (none : plus d d ≡ d) (bi
     (is : (bs : List ℕ) → Below bits bs → (p : ℕ) → p < length bs → getD (form bs) p d ≡ at (λ i. getD bs i 0) p)
     (both-is : (xs ys : List ℕ) → length xs ≡ length ys → Below bits xs → Below bits ys → (p : ℕ) → p < length xs
     → plus (getD (from xs) p d) (getD (from ys) p d) ≡ at (λ i. getD xs i 0 ⊕ getD ys i 0) p) where
-  differ : Differ bits plus from form
+  differ : Differences bits plus from form
   differ xs ys same f g =
       let both = zipWith _⊕_ xs ys in
       let below = blocks-below bits xs ys same f g in

@@ -5,6 +5,7 @@
 --   Link, LINK   the theorems
 use Rattle.link.specs.Calls.{REFUSED-CALLS, TAKEN-CALLS}
 use Rattle.link.specs.Marks.{MARKS}
+use Rattle.link.specs.Formed.{STARTED-FORMED}
 use Rattle.link.specs.Massey.{PARITY, SYNDROME-ERRORS, DELIVERY, WAITING}
 use Rattle.link.specs.Recovery.{RECOVERY, RECOVERY-SHORT-GUARD}
 use Rattle.link.specs.Guard.{GUARD-END}
@@ -36,8 +37,9 @@ pub record Link : Type 0 where
   pub batch-run : BATCH-RUN
   pub recovery-batches : RECOVERY-BATCHES
   pub guard-end-batches : GUARD-END-BATCHES
-  -- sums of messages (02, CR 7): where no step is refused; coded forms add, and raw terms; deliveries need not; which
-  -- coded bits one bit changes, and how many
+  -- sums of messages (02, CR 7): where no step is refused, and that started memories are among those that it is said
+  -- of; coded forms add, and raw terms; deliveries need not; which coded bits one bit changes, and how many
+  pub started-formed : STARTED-FORMED
   pub none-refused : NONE-REFUSED
   pub coded-forms-add : CODED-FORMS-ADD
   pub raw-terms-add : RAW-TERMS-ADD

@@ -3,7 +3,7 @@
 --
 --   Changed j x y    block y is block x with symbol j changed, and no other
 --   CHANGED-SYMBOL   which block that is
---   OneSymbol t s before after x y j   two messages, from one memory on, that differ in symbol j of one block
+--   OneSymbol t s before after x y j   two messages, from one memory on, that differ in symbol j of one block only
 --   response t j d   what changing symbol j of a block changes in the coded block d blocks later (the impulse response)
 --   IMPULSE-RESPONSE   which coded bits change
 --   distance xs ys   how many bits of two block sequences differ (their Hamming distance)
@@ -39,8 +39,8 @@ pub record OneSymbol (t : Table) (s before after : List ℕ) (x y j : ℕ) : Typ
   pub fits : fit t ≡ true
   pub formed : CoderFormed t s
   pub below : Below (t .symbols - 1) (before ++ (x ∷ after))
-  pub from : 1 ≤ j
-  pub to : j < t .symbols
+  pub symbol-from : 1 ≤ j
+  pub symbol-to : j < t .symbols
   pub changed : Changed j x y
 
 -- symbol j itself, and the parity k × m blocks later for each one k of row j (000, eq. 1 and III.A)
@@ -49,9 +49,10 @@ response t j d =
     sel (eqb d 0) (2 ^ (j - 1))
     + digit (eqb (d % t .depth) 0 && bit (d / t .depth) (rowOf (infoRows t) j)) * 2 ^ (t .symbols - 1)
 
--- 000, II.A: a generator "is the transform of the output sequence", the parity, "when the jth information sequence is
--- the "unit impulse" sequence 1, 0, 0, 0, ..". The coded blocks before the changed one stay, and the last that can
--- differ is that m × (N − 1) blocks after it, since row j has N bits.
+-- 000, II.A: a generator "is the transform of the output sequence", that of the parity, "when the jth information
+-- sequence is the "unit impulse" sequence 1, 0, 0, 0, ..". (The paper prints T^(j) for that output sequence; the parity
+-- is T^(b) in eq. 1.) The coded blocks before the changed one stay, and the last that can differ is that m × (N − 1)
+-- blocks after it, since row j has N bits.
 abbrev pub IMPULSE-RESPONSE : Type 0
 IMPULSE-RESPONSE =
     (t : Table) (s before after : List ℕ) (x y j : ℕ) → OneSymbol t s before after x y j →
@@ -83,6 +84,6 @@ abbrev pub ONE-BIT-REACH : Type 0
 ONE-BIT-REACH = ReachAfter delayOf
 
 -- On Z, whose row 10 has bits 1 and 3, m × (N − 1) is 3. With two blocks that follow two coded bits change, and not
--- three.
+-- three. (`BITS-CHANGED`: one block less is too few wherever row j has bit N − 1.)
 abbrev pub ONE-BIT-REACH-SHARP : Type 0
 ONE-BIT-REACH-SHARP = ReachAfter (λ t. delayOf t - 1) → ⊥

@@ -11,8 +11,8 @@
 --   Adds bits plus form   the law, of sequences of blocks of so many bits
 --   CODED-FORMS-ADD, RAW-TERMS-ADD   the law of coded forms and of raw terms
 --   DELIVERIES-NEED-NOT-ADD   its failure of deliveries
---   Differ bits plus from form   the law of other forms than those from a start
---   CODED-FORMS-DIFFER, RAW-TERMS-DIFFER   that law, from any well-formed memory on
+--   Differences bits plus from form   the exclusive or of what two messages lead to is the form of their exclusive or
+--   CODED-FORMS-DIFFER, RAW-TERMS-DIFFER   so it is of any well-formed memory, with the form from a start
 use mathlib.Core.Path.{_≡_}
 use mathlib.Core.Bool.{Bool, true, xor}
 use mathlib.Core.Logic.{_↔_}
@@ -80,8 +80,8 @@ NONE-REFUSED =
 
 -- ---- the law
 
--- The form "of the exclusive or of two equally long block sequences is the exclusive or of their" forms. It is as long
--- as they are, so that no step of the sum is refused.
+-- The form "of the exclusive or of two equally long block sequences is the exclusive or of their" forms. (Where no step
+-- of the two is refused, none of the sum is: the exclusive or of two blocks has no more bits than they.)
 abbrev pub Adds : {X : Type 0} → ℕ → (X → X → X) → (List ℕ → List X) → Type 0
 Adds bits plus form =
     (xs ys : List ℕ) → length xs ≡ length ys → Below bits xs → Below bits ys
@@ -108,18 +108,17 @@ DELIVERIES-NEED-NOT-ADD =
 
 -- ---- two messages on one well-formed memory, started or not
 
--- the exclusive or of what they lead to is the form of their exclusive or
-abbrev pub Differ : {X : Type 0} → ℕ → (X → X → X) → (List ℕ → List X) → (List ℕ → List X) → Type 0
-Differ bits plus from form =
+abbrev pub Differences : {X : Type 0} → ℕ → (X → X → X) → (List ℕ → List X) → (List ℕ → List X) → Type 0
+Differences bits plus from form =
     (xs ys : List ℕ) → length xs ≡ length ys → Below bits xs → Below bits ys
     → zipWith plus (from xs) (from ys) ≡ form (zipWith _⊕_ xs ys)
 
 abbrev pub CODED-FORMS-DIFFER : Type 0
 CODED-FORMS-DIFFER =
     (t : Table) (s : List ℕ) → fit t ≡ true → CoderFormed t s
-    → Differ (t .symbols - 1) _⊕_ (codedFrom t s) (codedForm t)
+    → Differences (t .symbols - 1) _⊕_ (codedFrom t s) (codedForm t)
 
 abbrev pub RAW-TERMS-DIFFER : Type 0
 RAW-TERMS-DIFFER =
     (t : Table) (s : List ℕ) → fit t ≡ true → DecoderFormed t s
-    → Differ (t .symbols) xor (rawFrom t s) (rawTerms t)
+    → Differences (t .symbols) xor (rawFrom t s) (rawTerms t)
