@@ -1,6 +1,7 @@
 -- Demand 2: the streams of runs from memories of zeros, as the sequences of `Convolution` and `Register`. Assumes
 -- nothing.
 --
+--   coded-bit                         the parity of a coded block
 --   coder-pending, coder-parity, coder-zero   a stream of the coder: the pending word, the parity, and the sum over all
 --                                             symbols
 --   decoder-pending, decoder-parities, decoder-raw, decoder-register   a stream of the decoder: the pending word, the
@@ -62,6 +63,14 @@ all-images n N m infos f c =
 all-size : (n N m : ℕ) (infos : List ℕ) → Fits n N m infos → length infos ≡ n - 1 → length (infos ++ (1 ∷ [])) ≤ n
 all-size n N m infos f h = let z = f .n-from in simp length-append (omega arith)
 
+-- ---- a coded block has its parity as bit n − 1
+
+pub coded-bit : {n N m : ℕ} {infos s : List ℕ} {b c : ℕ} {after : List ℕ} → CoderStep n N m infos s b c after
+    → bit (n - 1) c ≡ odd (joining infos (pendingAt s (turnOf s)) b)
+coded-bit {n} {infos = infos} {s} {b} step =
+    ap (bit (n - 1)) (step .coded)
+    ∙ topped-bit (n - 1) b (odd (joining infos (pendingAt s (turnOf s)) b)) (step .info-lt)
+
 -- ---- a stream of the coder
 
 module _ {n N m : ℕ} {infos : List ℕ} {M : ℕ → List ℕ} {B C : ℕ → ℕ} {count : ℕ} (l : CoderRun n N m infos M B C count)
@@ -85,10 +94,7 @@ module _ {n N m : ℕ} {infos : List ℕ} {M : ℕ → List ℕ} {B C : ℕ → 
       ap (λ (q : ℕ). pendingAt (M q) (turnOf (M q))) p ∙ coder-again l (r + k * m) (omega arith)
 
   pub coder-bit : bit (n - 1) (stream m r C b) ≡ odd (joining infos (pending b) (B (r + b * m)))
-  coder-bit =
-      let s = step b (omega arith) in
-      ap (bit (n - 1)) (s .coded)
-      ∙ topped-bit (n - 1) (B (r + b * m)) (odd (joining infos (pending b) (B (r + b * m)))) (s .info-lt)
+  coder-bit = coded-bit (step b (omega arith))
 
   module _ (zeros : (i : ℕ) → getD (M 0) i 0 ≡ 0) where
     pending-start : pending 0 ≡ 0

@@ -22,7 +22,7 @@ use Rattle.tables.specs.declared.table.Table.{Table}
 use Rattle.tables.specs.Table.{sizesFit, rowsFit, fit, infoRows}
 use Rattle.tables.specs.Refusal.{firstOf}
 use Rattle.tables.proofs.Fit.{fit-facts}
-use Rattle.link.specs.Memory.{joining, started, coderWords, decoderWords, turnOf, pendingAt}
+use Rattle.link.specs.Memory.{joining, started, coderWords, decoderWords}
 use Rattle.link.specs.Step.{information, parity as received}
 use Rattle.link.specs.Refusals.{answered, leaves, stepFault, someAbove, coderFault, decoderFault}
 use Rattle.link.specs.Coder.{coderNext, codeMemory}
@@ -34,13 +34,12 @@ use Rattle.link.specs.Massey.{convolution, stream, infoSent, blockSent, 
 use Rattle.link.specs.Computed.{calls, answersBy}
 use Rattle.link.specs.Sums.{codedFrom, rawFrom, codedForm, rawTerms, Differences, CODED-FORMS-ADD, RAW-TERMS-ADD}
 use Rattle.link.specs.Sums.{DELIVERIES-NEED-NOT-ADD, CODED-FORMS-DIFFER, RAW-TERMS-DIFFER}
-use Rattle.link.proofs.Step.{topped-bit}
 use Rattle.link.proofs.Convolution.{convolution-ext}
 use Rattle.link.proofs.Runs.{coderBefore, before-first, coder-memory, decoder-memory}
 use Rattle.link.proofs.Turn.{CoderRun}
 use Rattle.link.proofs.OneTable.{from-one, coded, decoded, verdict}
 use Rattle.link.proofs.Formed.{started-formed}
-use Rattle.link.proofs.Massey.{parity, parities}
+use Rattle.link.proofs.Massey.{coded-bit, parity, parities}
 use Rattle.link.proofs.Differences.{parities-differ, raws-differ}
 use Rattle.link.proofs.Taken.{none-refused, sent-each, taken-each}
 use Rattle.link.proofs.Computed.{each-at}
@@ -54,7 +53,7 @@ module _ {X : Type 0} (plus : X → X → X) where
   zip-size (x ∷ xs) [] e = absurd (omega arith)
   zip-size (x ∷ xs) (y ∷ ys) e = ap suc (zip-size xs ys (omega arith))
 
-  pub zip-at : (d : X) → plus d d ≡ d → (xs ys : List X) → length xs ≡ length ys → (p : ℕ)
+  zip-at : (d : X) → plus d d ≡ d → (xs ys : List X) → length xs ≡ length ys → (p : ℕ)
       → getD (zipWith plus xs ys) p d ≡ plus (getD xs p d) (getD ys p d)
   unfolding zipWith
   zip-at d none [] [] e p = sym none
@@ -147,18 +146,14 @@ module _ (t : Table) where
           (length sent)
       codes = coded t s (calls t bs) (sent-each t fits s f bs below .tables)
 
-      -- a coded block has its parity as bit n − 1
       coded-own : (p : ℕ) → p < length bs
           → getD (codedFrom t s bs) p 0 ≡ infoSent sent p + digit (bit (n - 1) (blockSent sent p)) * 2 ^ (n - 1)
       coded-own p h =
           let size = sent-each t fits s f bs below .size in
-          let M = coderBefore s (calls t bs) p in
-          let w = joining (infoRows t) (pendingAt M (turnOf M)) (infoSent sent p) in
           let step = codes .codes p (omega arith) in
           List·getD-map (λ (x : Sent). x .block) sent p noneSent
           ∙ ap (λ (k : ℕ). getD sent k noneSent .block) (sym (from-one p)) ∙ step .coded
-          ∙ ap (λ (q : Bool). infoSent sent p + digit q * 2 ^ (n - 1))
-          (sym (ap (bit (n - 1)) (step .coded) ∙ topped-bit (n - 1) (infoSent sent p) (odd w) (step .info-lt)))
+          ∙ ap (λ (q : Bool). infoSent sent p + digit q * 2 ^ (n - 1)) (sym (coded-bit step))
 
     -- from a started memory the parity is the sum
     pub coded-at : (bs : List ℕ) → Below (n - 1) bs → (p : ℕ) → p < length bs
