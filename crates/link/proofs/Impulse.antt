@@ -64,7 +64,7 @@ module _ (m : ℕ) (some : 0 < m) (at w p : ℕ) where
               ne-eqb (p % m + (p / m - k) * m) at z
               ∙ sym (ne-eqb p (at + k * m) (λ q. z (omega (arith, whole))))
 
-module _ (t : Table) (fits : fit t ≡ true) (j at : ℕ) where
+module _ (t : Table) (fits : fit t ≡ true) (j : ℕ) where
   abbrev m : ℕ
   m = t .depth
 
@@ -88,69 +88,70 @@ module _ (t : Table) (fits : fit t ≡ true) (j at : ℕ) where
   image-of true = combination-pow (infoRows t) (j - 1)
   image-of false = combination-zero (infoRows t)
 
-  -- the term of the block k × m places back
-  term : ℕ → ℕ → Bool
-  term p k = bit k (sel (eqb p (at + k * m)) row)
+  module _ (at : ℕ) where
+    -- the term of the block k × m places back
+    term : ℕ → ℕ → Bool
+    term p k = bit k (sel (eqb p (at + k * m)) row)
 
-  parity-terms : (p : ℕ) → parityAt t (impulse at unit) p ≡ sumOver 0 (t .span) (term p)
-  unfolding term
-  parity-terms p =
-      convolution-images (t .symbols - 1) (t .span) (infoRows t) (stream m (p % m) (impulse at unit)) (p / m)
-      (simp length-take (omega arith))
-      ∙ sum-ext 0 (t .span)
-      (λ k. bit k (combination (infoRows t) (ago (stream m (p % m) (impulse at unit)) (p / m) k))) (term p)
-      (λ k. ap (λ (x : ℕ). bit k (combination (infoRows t) x)) (ago-impulse m some at unit p k)
-      ∙ ap (bit k) (image-of (eqb p (at + k * m))))
+    parity-terms : (p : ℕ) → parityAt t (impulse at unit) p ≡ sumOver 0 (t .span) (term p)
+    unfolding term
+    parity-terms p =
+        convolution-images (t .symbols - 1) (t .span) (infoRows t) (stream m (p % m) (impulse at unit)) (p / m)
+        (simp length-take (omega arith))
+        ∙ sum-ext 0 (t .span)
+        (λ k. bit k (combination (infoRows t) (ago (stream m (p % m) (impulse at unit)) (p / m) k))) (term p)
+        (λ k. ap (λ (x : ℕ). bit k (combination (infoRows t) x)) (ago-impulse m some at unit p k)
+        ∙ ap (bit k) (image-of (eqb p (at + k * m))))
 
-  term-other : (p k : ℕ) → p ≢ at + k * m → term p k ≡ false
-  unfolding term
-  term-other p k h = ap (λ (s : Bool). bit k (sel s row)) (ne-eqb p (at + k * m) h) ∙ bit-nothing k
+    term-other : (p k : ℕ) → p ≢ at + k * m → term p k ≡ false
+    unfolding term
+    term-other p k h = ap (λ (s : Bool). bit k (sel s row)) (ne-eqb p (at + k * m) h) ∙ bit-nothing k
 
-  term-past : (p k : ℕ) → t .span ≤ k → term p k ≡ false
-  unfolding term
-  term-past p k h =
-      let low = sel-lt (t .span) (eqb p (at + k * m)) row row-lt in
-      let more = pow-mono h in
-      bit-none k (sel (eqb p (at + k * m)) row) (omega arith)
+    term-past : (p k : ℕ) → t .span ≤ k → term p k ≡ false
+    unfolding term
+    term-past p k h =
+        let low = sel-lt (t .span) (eqb p (at + k * m)) row row-lt in
+        let more = pow-mono h in
+        bit-none k (sel (eqb p (at + k * m)) row) (omega arith)
 
-  pub parity-before : (p : ℕ) → p < at → parityAt t (impulse at unit) p ≡ false
-  parity-before p h =
-      parity-terms p ∙ sum-false 0 (t .span) (term p) (λ k. term-other p k (λ e. omega arith))
+    pub parity-before : (p : ℕ) → p < at → parityAt t (impulse at unit) p ≡ false
+    parity-before p h =
+        parity-terms p ∙ sum-false 0 (t .span) (term p) (λ k. term-other p k (λ e. omega arith))
 
-  -- m divides the distance: one term is that of the impulse
-  terms-met : (d : ℕ) → d % m ≡ 0 → sumOver 0 (t .span) (term (at + d)) ≡ bit (d / m) row
-  unfolding term
-  terms-met d e = go (decLt (d / m) (t .span))
-    where
-      whole : d % m + d / m * m ≡ d
-      whole = mod-add-div' d m
+    -- m divides the distance: one term is that of the impulse
+    terms-met : (d : ℕ) → d % m ≡ 0 → sumOver 0 (t .span) (term (at + d)) ≡ bit (d / m) row
+    unfolding term
+    terms-met d e = go (decLt (d / m) (t .span))
+      where
+        whole : d % m + d / m * m ≡ d
+        whole = mod-add-div' d m
 
-      own : term (at + d) (d / m) ≡ bit (d / m) row
-      own =
-          ap (λ (s : Bool). bit (d / m) (sel s row)) (eq-eqb (at + d) (at + d / m * m) (omega (arith, whole)))
+        own : term (at + d) (d / m) ≡ bit (d / m) row
+        own =
+            ap (λ (s : Bool). bit (d / m) (sel s row)) (eq-eqb (at + d) (at + d / m * m) (omega (arith, whole)))
 
-      other : (k : ℕ) → k ≢ d / m → term (at + d) k ≡ false
-      other k h =
-          term-other (at + d) k (λ z. h (eq-of-mul-eq-mul-right m some k (d / m) (omega (arith, whole))))
+        other : (k : ℕ) → k ≢ d / m → term (at + d) k ≡ false
+        other k h =
+            term-other (at + d) k (λ z. h (eq-of-mul-eq-mul-right m some k (d / m) (omega (arith, whole))))
 
-      each : t .span ≤ d / m → (k : ℕ) → Dec (k ≡ d / m) → term (at + d) k ≡ false
-      each h k (yes z) = term-past (at + d) k (omega arith)
-      each h k (no z) = other k z
+        each : t .span ≤ d / m → (k : ℕ) → Dec (k ≡ d / m) → term (at + d) k ≡ false
+        each h k (yes z) = term-past (at + d) k (omega arith)
+        each h k (no z) = other k z
 
-      go : Dec (d / m < t .span) → sumOver 0 (t .span) (term (at + d)) ≡ bit (d / m) row
-      go (yes h) = sum-single 0 (t .span) (term (at + d)) (d / m) (omega arith) (omega arith) other ∙ own
-      go (no h) =
-          sum-false 0 (t .span) (term (at + d)) (λ k. each (omega arith) k (ℕ-discrete k (d / m)))
-          ∙ sym (sym own ∙ term-past (at + d) (d / m) (omega arith))
+        go : Dec (d / m < t .span) → sumOver 0 (t .span) (term (at + d)) ≡ bit (d / m) row
+        go (yes h) = sum-single 0 (t .span) (term (at + d)) (d / m) (omega arith) (omega arith) other ∙ own
+        go (no h) =
+            sum-false 0 (t .span) (term (at + d)) (λ k. each (omega arith) k (ℕ-discrete k (d / m)))
+            ∙ sym (sym own ∙ term-past (at + d) (d / m) (omega arith))
 
-  pub parity-after : (d : ℕ) → parityAt t (impulse at unit) (at + d) ≡ spread m row d
-  parity-after d = parity-terms (at + d) ∙ go (ℕ-discrete (d % m) 0)
-    where
-      go : Dec (d % m ≡ 0) → sumOver 0 (t .span) (term (at + d)) ≡ spread m row d
-      go (yes e) = terms-met d e ∙ sym (ap (λ (s : Bool). s && bit (d / m) row) (eq-eqb (d % m) 0 e))
-      go (no e) =
-          sum-false 0 (t .span) (term (at + d))
-          (λ k. term-other (at + d) k (λ z.
-          let is : d ≡ k * m = omega arith in
-          e (ap (λ (x : ℕ). x % m) is ∙ mul-mod-left k m)))
-          ∙ sym (ap (λ (s : Bool). s && bit (d / m) row) (ne-eqb (d % m) 0 e))
+    pub parity-after : (d : ℕ) → parityAt t (impulse at unit) (at + d) ≡ spread m row d
+    parity-after d = parity-terms (at + d) ∙ go (ℕ-discrete (d % m) 0)
+      where
+        go : Dec (d % m ≡ 0) → sumOver 0 (t .span) (term (at + d)) ≡ spread m row d
+        go (yes e) = terms-met d e ∙ sym (ap (λ (s : Bool). s && bit (d / m) row) (eq-eqb (d % m) 0 e))
+        go (no e) =
+            sum-false 0 (t .span) (term (at + d))
+            (λ k. term-other (at + d) k (λ z.
+            let is : d ≡ k * m = omega arith in
+            e (ap (λ (x : ℕ). x % m) is ∙ mul-mod-left k m)))
+            ∙ sym (ap (λ (s : Bool). s && bit (d / m) row) (ne-eqb (d % m) 0 e))

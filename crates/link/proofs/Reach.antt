@@ -134,7 +134,7 @@ module _ (t : Table) (s before after : List ℕ) (x y j : ℕ) (c : OneSymbol t 
   both-below = blocks-below (t .symbols - 1) xs ys same-size (c .below) y-below
 
   coded-both : zipWith _⊕_ (codedFrom t s xs) (codedFrom t s ys) ≡ codedForm t both
-  coded-both = coded-forms-differ t s (c .fits) (c .formed) xs ys same-size (c .below) y-below
+  coded-both = sym (coded-forms-differ t s (c .fits) (c .formed) xs ys same-size (c .below) y-below)
 
   coded-alone : (p : ℕ) → p < length xs → getD (codedForm t both) p 0 ≡ codedAt t alone p
   coded-alone p h =
@@ -223,7 +223,7 @@ module _ (t : Table) (s before after : List ℕ) (x y j : ℕ) (c : OneSymbol t 
       let last : t .span - 1 ≤ length after / t .depth =
       le-div-iff-mul-le (f .m-from) .1 (let e = mul-comm (t .span - 1) (t .depth) in omega arith) in
       let most : t .span ≤ suc (length after / t .depth) = omega arith in
-      let low = row-lt t (c .fits) j (length before) in
+      let low = row-lt t (c .fits) j in
       let all = pow-mono most in
       mod-eq-of-lt (omega arith)
 

@@ -2,7 +2,7 @@
 -- from a started memory a parity is that sum of the blocks. Assumes nothing.
 --
 --   zip-size, zip-at, blocks-at, blocks-below   two sequences, added place by place
---   differ                the law, of any form that is told so at each place
+--   adds                  the law, of any form that is told so at each place
 --   parityAt, codedAt     the sum of eq. 1, and the coded block, at a place of a run
 --   coded-ext, coded-at   its laws
 --   coded-forms-differ, raw-terms-differ, coded-forms-add, raw-terms-add, deliveries-need-not-add   the theorems
@@ -32,7 +32,7 @@ use Rattle.link.specs.Runs.{Sent, sentBy, takenBy, noneSent}
 use Rattle.link.specs.Formed.{CoderFormed, DecoderFormed}
 use Rattle.link.specs.Massey.{convolution, stream, infoSent, blockSent, blockTaken, rawAt, registerAt, foundAt}
 use Rattle.link.specs.Computed.{calls, answersBy}
-use Rattle.link.specs.Sums.{codedFrom, rawFrom, codedForm, rawTerms, Differences, CODED-FORMS-ADD, RAW-TERMS-ADD}
+use Rattle.link.specs.Sums.{codedFrom, rawFrom, codedForm, rawTerms, Adds, CODED-FORMS-ADD, RAW-TERMS-ADD}
 use Rattle.link.specs.Sums.{DELIVERIES-NEED-NOT-ADD, CODED-FORMS-DIFFER, RAW-TERMS-DIFFER}
 use Rattle.link.proofs.Convolution.{convolution-ext}
 use Rattle.link.proofs.Runs.{coderBefore, before-first, coder-memory, decoder-memory}
@@ -81,8 +81,8 @@ module _ {X : Type 0} (plus : X → X → X) (d : X) (none : plus d d ≡ d) (bi
     (is : (bs : List ℕ) → Below bits bs → (p : ℕ) → p < length bs → getD (form bs) p d ≡ at (λ i. getD bs i 0) p)
     (both-is : (xs ys : List ℕ) → length xs ≡ length ys → Below bits xs → Below bits ys → (p : ℕ) → p < length xs
     → plus (getD (from xs) p d) (getD (from ys) p d) ≡ at (λ i. getD xs i 0 ⊕ getD ys i 0) p) where
-  differ : Differences bits plus from form
-  differ xs ys same f g =
+  adds : Adds bits plus from form
+  adds xs ys same f g =
       let both = zipWith _⊕_ xs ys in
       let below = blocks-below bits xs ys same f g in
       let blocks = zip-size _⊕_ xs ys same in
@@ -90,11 +90,11 @@ module _ {X : Type 0} (plus : X → X → X) (d : X) (none : plus d d ≡ d) (bi
       let first = from-size xs f in
       let second = from-size ys g in
       let sums = zip-size plus (from xs) (from ys) (omega arith) in
-      ext-getD d (zipWith plus (from xs) (from ys)) (form both) (omega arith)
+      ext-getD d (form both) (zipWith plus (from xs) (from ys)) (omega arith)
       (λ p h.
-      zip-at plus d none (from xs) (from ys) (omega arith) p ∙ both-is xs ys same f g p (omega arith)
-      ∙ sym (is both below p (omega arith)
-      ∙ at-ext (λ i. getD both i 0) (λ i. getD xs i 0 ⊕ getD ys i 0) (blocks-at xs ys same) p))
+      is both below p (omega arith)
+      ∙ at-ext (λ i. getD both i 0) (λ i. getD xs i 0 ⊕ getD ys i 0) (blocks-at xs ys same) p
+      ∙ sym (zip-at plus d none (from xs) (from ys) (omega arith) p ∙ both-is xs ys same f g p (omega arith)))
 
 -- ---- what stands at a place
 
@@ -247,25 +247,23 @@ module _ (t : Table) where
 
 pub coded-forms-differ : CODED-FORMS-DIFFER
 coded-forms-differ t s fits f =
-    differ _⊕_ 0 (xor-zero-l 0) (t .symbols - 1) (codedFrom t s) (codedForm t) (codedAt t)
+    adds _⊕_ 0 (xor-zero-l 0) (t .symbols - 1) (codedFrom t s) (codedForm t) (codedAt t)
     (λ bs. none-refused t s bs fits .0 f .1)
     (λ bs. none-refused t (started (coderWords t)) bs fits .0 (started-formed t fits .0) .1) (coded-ext t)
     (coded-at t fits) (coded-both t fits s f)
 
 pub raw-terms-differ : RAW-TERMS-DIFFER
 raw-terms-differ t s fits f =
-    differ xor false (xor-false-l false) (t .symbols) (rawFrom t s) (rawTerms t) (rawOf t)
+    adds xor false (xor-false-l false) (t .symbols) (rawFrom t s) (rawTerms t) (rawOf t)
     (λ rs. none-refused t s rs fits .1 f .1)
     (λ rs. none-refused t (started (decoderWords t)) rs fits .1 (started-formed t fits .1) .1) (raw-ext t)
     (raw-at t fits) (raw-both t fits s f)
 
 pub coded-forms-add : CODED-FORMS-ADD
-coded-forms-add t fits xs ys same f g =
-    sym (coded-forms-differ t (started (coderWords t)) fits (started-formed t fits .0) xs ys same f g)
+coded-forms-add t fits = coded-forms-differ t (started (coderWords t)) fits (started-formed t fits .0)
 
 pub raw-terms-add : RAW-TERMS-ADD
-raw-terms-add t fits xs ys same f g =
-    sym (raw-terms-differ t (started (decoderWords t)) fits (started-formed t fits .1) xs ys same f g)
+raw-terms-add t fits = raw-terms-differ t (started (decoderWords t)) fits (started-formed t fits .1)
 
 -- ---- where it fails
 

@@ -38,8 +38,8 @@ pub record OneEach {X : Type 0} (tableOf : X → Table) (blockOf : X → ℕ) (d
   pub tables : (p : ℕ) → 1 ≤ p → p ≤ length xs → SameTable (tableOf (getD xs (p - 1) d)) t
   pub blocks : (p : ℕ) → blockOf (getD xs (suc p - 1) d) ≡ getD bs p 0
 
-same-table : (u t : Table) → u ≡ t → SameTable u t
-same-table u t e =
+equal-same : (u t : Table) → u ≡ t → SameTable u t
+equal-same u t e =
     subst (λ (v : Table). SameTable v t) (sym e) (record { symbols = refl; span = refl; depth = refl; rows = refl })
 
 -- ---- coder and decoder alike: on a well-formed memory a step is taken exactly if its block is below 2^bits, and the
@@ -117,7 +117,7 @@ module _ (fault : Table → List ℕ → ℕ → ℕ) (next memory : Table → L
           record {
             size = size;
             tables = λ p from to.
-                same-table (tableOf (getD xs (p - 1) d)) t (is-whole .1 (p - 1) (omega arith) .0);
+                equal-same (tableOf (getD xs (p - 1) d)) t (is-whole .1 (p - 1) (omega arith) .0);
             blocks = λ p.
                 ap (λ (k : ℕ). blockOf (getD xs k d)) (from-one p) ∙ block-at p (decLt p (length bs));
           }
@@ -140,11 +140,11 @@ module _ (t : Table) (fits : fit t ≡ true) where
       (lt-leb (2 ^ t .symbols) r h)
 
   coder-keeps : (s : List ℕ) (b : ℕ) → CoderFormed t s → coderFault t s b ≡ 0 → CoderFormed t (coderNext t s b)
-  coder-keeps s b = formed-kept t t (same-table t t refl) s b .0
+  coder-keeps s b = formed-kept t t (equal-same t t refl) s b .0
 
   decoder-keeps : (s : List ℕ) (r : ℕ) → DecoderFormed t s → decoderFault t s r ≡ 0
       → DecoderFormed t (decoderNext t s r)
-  decoder-keeps s r = formed-kept t t (same-table t t refl) s r .1
+  decoder-keeps s r = formed-kept t t (equal-same t t refl) s r .1
 
   pub sent-each : (s : List ℕ) → CoderFormed t s → (bs : List ℕ) → Below (t .symbols - 1) bs
       → OneEach (λ (x : Sent). x .table) (λ (x : Sent). x .info) noneSent t bs (sentBy s (calls t bs))

@@ -8,11 +8,10 @@
 --   infoOf a, deliveredBy t rs   the information that an answer delivers, if it does, and what that decoder delivers
 --   NoneRefused fault memory s cs   no call of the list is refused, from the memory s on
 --   NONE-REFUSED       where that is, from a well-formed memory on; then each block has a coded block, and a raw term
---   Adds bits plus form   the law, of sequences of blocks of so many bits
+--   Adds bits plus from form   the law, of sequences of blocks of so many bits
 --   CODED-FORMS-ADD, RAW-TERMS-ADD   the law of coded forms and of raw terms
 --   DELIVERIES-NEED-NOT-ADD   its failure of deliveries
---   Differences bits plus from form   the exclusive or of what two messages lead to is the form of their exclusive or
---   CODED-FORMS-DIFFER, RAW-TERMS-DIFFER   so it is of any well-formed memory, with the form from a start
+--   CODED-FORMS-DIFFER, RAW-TERMS-DIFFER   the law of two messages on any well-formed memory
 use mathlib.Core.Path.{_≡_}
 use mathlib.Core.Bool.{Bool, true, xor}
 use mathlib.Core.Logic.{_↔_}
@@ -80,21 +79,22 @@ NONE-REFUSED =
 
 -- ---- the law
 
--- The form "of the exclusive or of two equally long block sequences is the exclusive or of their" forms. (Where no step
--- of the two is refused, none of the sum is: the exclusive or of two blocks has no more bits than they.)
-abbrev pub Adds : {X : Type 0} → ℕ → (X → X → X) → (List ℕ → List X) → Type 0
-Adds bits plus form =
+-- The form "of the exclusive or of two equally long block sequences is the exclusive or of" what they come to: of their
+-- own forms, where `from` is `form`. (Where no step of the two is refused, none of the sum is: the exclusive or of two
+-- blocks has no more bits than they.)
+abbrev pub Adds : {X : Type 0} → ℕ → (X → X → X) → (List ℕ → List X) → (List ℕ → List X) → Type 0
+Adds bits plus from form =
     (xs ys : List ℕ) → length xs ≡ length ys → Below bits xs → Below bits ys
-    → form (zipWith _⊕_ xs ys) ≡ zipWith plus (form xs) (form ys)
+    → form (zipWith _⊕_ xs ys) ≡ zipWith plus (from xs) (from ys)
 
 -- "For one table and a started coder, where no step is refused, the coded form of the exclusive or of two equally long
 -- block sequences is the exclusive or of their coded forms." (000, II.A, "the linear sequential encoding network".)
 abbrev pub CODED-FORMS-ADD : Type 0
-CODED-FORMS-ADD = (t : Table) → fit t ≡ true → Adds (t .symbols - 1) _⊕_ (codedForm t)
+CODED-FORMS-ADD = (t : Table) → fit t ≡ true → Adds (t .symbols - 1) _⊕_ (codedForm t) (codedForm t)
 
 -- "Raw terms of a started decoder obey the same law": of whatever is received, coded or not
 abbrev pub RAW-TERMS-ADD : Type 0
-RAW-TERMS-ADD = (t : Table) → fit t ≡ true → Adds (t .symbols) xor (rawTerms t)
+RAW-TERMS-ADD = (t : Table) → fit t ≡ true → Adds (t .symbols) xor (rawTerms t) (rawTerms t)
 
 -- "delivered blocks needn't, as Z shows with 2, 2, 0, 0 and 2, 0, 0, 2": each delivers 0, and their exclusive or
 -- delivers 1. Its blocks are 0, 2, 0, 2, with the raw terms 0, 1, 0, 1 of a first block whose symbol 1 is wrong.
@@ -104,21 +104,17 @@ DELIVERIES-NEED-NOT-ADD =
     × (answersTo (Z 1) (2 ∷ 0 ∷ 0 ∷ 2 ∷ []) ≡ NothingYet ∷ NothingYet ∷ NothingYet ∷ delivers 0 Doubtful ∷ [])
     × (answersTo (Z 1) (zipWith _⊕_ (2 ∷ 2 ∷ 0 ∷ 0 ∷ []) (2 ∷ 0 ∷ 0 ∷ 2 ∷ []))
     ≡ NothingYet ∷ NothingYet ∷ NothingYet ∷ delivers 1 (Corrected 1) ∷ [])
-    × (Adds (Z 1 .symbols) _⊕_ (deliveredBy (Z 1)) → ⊥)
+    × (Adds (Z 1 .symbols) _⊕_ (deliveredBy (Z 1)) (deliveredBy (Z 1)) → ⊥)
 
 -- ---- two messages on one well-formed memory, started or not
 
-abbrev pub Differences : {X : Type 0} → ℕ → (X → X → X) → (List ℕ → List X) → (List ℕ → List X) → Type 0
-Differences bits plus from form =
-    (xs ys : List ℕ) → length xs ≡ length ys → Below bits xs → Below bits ys
-    → zipWith plus (from xs) (from ys) ≡ form (zipWith _⊕_ xs ys)
-
+-- what that memory held drops out: the exclusive or is the form, from a start, of theirs
 abbrev pub CODED-FORMS-DIFFER : Type 0
 CODED-FORMS-DIFFER =
     (t : Table) (s : List ℕ) → fit t ≡ true → CoderFormed t s
-    → Differences (t .symbols - 1) _⊕_ (codedFrom t s) (codedForm t)
+    → Adds (t .symbols - 1) _⊕_ (codedFrom t s) (codedForm t)
 
 abbrev pub RAW-TERMS-DIFFER : Type 0
 RAW-TERMS-DIFFER =
     (t : Table) (s : List ℕ) → fit t ≡ true → DecoderFormed t s
-    → Differences (t .symbols) xor (rawFrom t s) (rawTerms t)
+    → Adds (t .symbols) xor (rawFrom t s) (rawTerms t)
