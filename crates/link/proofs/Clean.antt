@@ -16,9 +16,9 @@ use Rattle.link.specs.Refusals.{coderFault, decoderFault}
 use Rattle.link.specs.Coder.{coderNext, codeMemory}
 use Rattle.link.specs.Decoder.{decoderNext, decodeMemory}
 use Rattle.link.specs.Runs.{Call, Sent, Taken, sentBy, takenBy}
-use Rattle.link.specs.Recovery.{Wrong, Bursts, Recovered, Running}
+use Rattle.link.specs.Recovery.{Wrong, Separated, Recovered, Running}
 use Rattle.link.specs.Massey.{blockSent, blockTaken}
-use Rattle.link.specs.Clean.{Clean, Undisturbed, CLEAN, STARTED-CLEAN}
+use Rattle.link.specs.Clean.{Clean, Undisturbed, CLEAN, CLEAN-SEPARATED, STARTED-CLEAN}
 use Rattle.link.proofs.Runs.{before-first, coder-memory, decoder-memory, coderBefore, decoderBefore}
 use Rattle.link.proofs.OneTable.{from-one}
 use Rattle.link.proofs.Bursts.{bursts-separated}
@@ -27,7 +27,7 @@ use Rattle.link.proofs.Recovery.{answer, separated, linked, recovered}
 
 module _ {t : Table} {coder decoder : List ℕ} {cs ds : List Call} (f : Running t coder decoder cs ds)
     (c : Clean t coder decoder)
-    (b : Bursts (Wrong (sentBy coder cs) (takenBy decoder ds)) (t .depth) (delayOf t)
+    (b : Separated (Wrong (sentBy coder cs) (takenBy decoder ds)) (t .depth) (delayOf t)
     (length (takenBy decoder ds))) where
   abbrev sent : List Sent
   sent = sentBy coder cs
@@ -55,7 +55,7 @@ module _ {t : Table} {coder decoder : List ℕ} {cs ds : List Call} (f : Running
       ∙ sym (ap (λ (s : List ℕ). pendingAt s ((turnOf s + d) % t .depth)) coder-first)
 
   apart : WrongApart (blockTaken taken) (blockSent sent) (t .depth) (delayOf t) (length taken)
-  apart = separated f (bursts-separated (Wrong sent taken) (t .depth) (delayOf t) (length taken) b)
+  apart = separated f b
 
   -- no block is asked to be right
   none : (p : ℕ) → p < 0 * t .depth → p < length taken → blockTaken taken p ≡ blockSent sent p
@@ -82,10 +82,16 @@ module _ {t : Table} {coder decoder : List ℕ} {cs ds : List Call} (f : Running
           (delivers-first (linked f) apart 0 none (clean-first (linked f) syndromes pendings) p h (omega arith) few
           (omega arith))))
 
-pub clean : CLEAN
-clean t coder decoder cs ds f c b zero from h = absurd (omega arith)
-clean t coder decoder cs ds f c b (suc p) from h =
+pub clean-separated : CLEAN-SEPARATED
+clean-separated t coder decoder cs ds f c b zero from h = absurd (omega arith)
+clean-separated t coder decoder cs ds f c b (suc p) from h =
     (λ late. past f c b p (omega arith) (omega arith), λ few. early f c b p (omega arith) (omega arith))
+
+pub clean : CLEAN
+clean t coder decoder cs ds f c b =
+    clean-separated t coder decoder cs ds f c
+    (bursts-separated (Wrong (sentBy coder cs) (takenBy decoder ds)) (t .depth) (delayOf t)
+    (length (takenBy decoder ds)) b)
 
 -- ---- started memories
 

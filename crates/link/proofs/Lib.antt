@@ -9,7 +9,7 @@ pub mod Coder
 mod Error
 mod Marks
 pub mod Decoder
-mod Room
+pub mod Room
 mod StepWords
 pub mod Entry
 pub mod Calls
@@ -17,7 +17,7 @@ pub mod Batch
 mod Reached
 mod Entries
 mod Suitable
-mod Origin
+pub mod Origin
 pub mod Step
 mod Sequence
 mod ParitySymbol
@@ -32,21 +32,21 @@ mod Delay
 mod Rows
 pub mod Runs
 mod OneTable
-mod Formed
+pub mod Formed
 mod Seen
 mod Going
 mod CodeWords
-mod Massey
+pub mod Massey
 mod Differences
 pub mod Bursts
 mod Fade
 mod Recovery
 mod Guard
 pub mod Batches
-mod Clean
+pub mod Clean
 mod Computed
-mod Taken
-mod Sums
+pub mod Taken
+pub mod Sums
 mod Spread
 mod Impulse
 mod Reach

@@ -22,12 +22,12 @@ use Rattle.tables.proofs.Parsed.{parse-room}
 use Rattle.tables.proofs.MadeWhole.{making-room}
 use Rattle.link.proofs.Suitable.{Corrects, suitable-corrects}
 
-record Known (t : Table) : Type 0 where
-  fits : fit t ≡ true
+pub record Known (t : Table) : Type 0 where
+  pub fits : fit t ≡ true
   room : length (t .rows) ≡ 15
   suits : Suitable (t .span) (rowsOf t)
 
-origin-known : (t : Table) → Origin t → Known t
+pub origin-known : (t : Table) → Origin t → Known t
 origin-known t (inl (bytes, accepted, same)) =
     let a = accepted-suitable bytes accepted in
     subst Known same (record { fits = a .1; room = parse-room bytes (reading bytes .table) (a .0); suits = a .2 })

@@ -4,7 +4,7 @@
 --   zip-size, zip-at, blocks-at, blocks-below   two sequences, added place by place
 --   adds                  the law, of any form that is told so at each place
 --   parityAt, codedAt     the sum of eq. 1, and the coded block, at a place of a run
---   coded-ext, coded-at   its laws
+--   coded-ext, coded-at, coded-form-below   its laws
 --   coded-forms-differ, raw-terms-differ, coded-forms-add, raw-terms-add, deliveries-need-not-add   the theorems
 use mathlib.Core.Path.{_≡_, refl, sym, ap, ap₂, _∙_, subst}
 use mathlib.Core.Bool.{Bool, true, false, xor}
@@ -18,6 +18,7 @@ use Rattle.span.specs.Word.{_⊕_, odd, bit, digit}
 use Rattle.span.specs.Combination.{Below, combination}
 use Rattle.span.specs.Relation.{leastFrom, leastCoefficients}
 use Rattle.span.proofs.Word.{xor-zero-l, xor-lt, xor-mod, bit-xor, xor-false-l, topped-xor}
+use Rattle.span.proofs.Masks.{topped-lt}
 use Rattle.tables.specs.declared.table.Table.{Table}
 use Rattle.tables.specs.Table.{sizesFit, rowsFit, fit, infoRows}
 use Rattle.tables.specs.Refusal.{firstOf}
@@ -170,6 +171,15 @@ module _ (t : Table) where
         (parity t (calls t bs) (each .tables) (p % m) (p / m) (turn p) (omega arith) .0) in
         coded-own s f bs below p h ∙ ap (λ (q : Bool). infoSent u p + digit q * 2 ^ (n - 1)) is
         ∙ coded-ext (infoSent u) (λ i. getD bs i 0) (each .blocks) p
+
+    pub coded-form-below : (bs : List ℕ) → Below (n - 1) bs → Below n (codedForm t bs)
+    coded-form-below bs below p h =
+        let size = none-refused t (started (coderWords t)) bs fits .0 (started-formed t fits .0) .1 below in
+        let from = fit-facts t fits .n-from in
+        let all : suc (n - 1) ≡ n = omega arith in
+        rw (coded-at bs below p (omega arith))
+        (subst (λ (k : ℕ). codedAt t (λ i. getD bs i 0) p < 2 ^ k) all
+        (topped-lt (n - 1) (getD bs p 0) (parityAt t (λ i. getD bs i 0) p) (below p (omega arith))))
 
     coded-both : (s : List ℕ) → CoderFormed t s → (xs ys : List ℕ) → length xs ≡ length ys → Below (n - 1) xs
         → Below (n - 1) ys → (p : ℕ) → p < length xs

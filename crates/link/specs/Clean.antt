@@ -6,7 +6,9 @@
 --                           stream by stream in turn
 --   Undisturbed t decoder taken p   the answer at a place too early for a block that was taken: a block of the first
 --                                   memory leaves as it was
+--   EachPlace               what is answered at each place
 --   CLEAN                   the theorem
+--   CLEAN-SEPARATED         the same without a choice of bursts
 --   STARTED-CLEAN           it applies to started memories
 use mathlib.Core.Path.{_≡_}
 use mathlib.Core.Bool.{true}
@@ -21,8 +23,8 @@ use Rattle.link.specs.declared.decode.Mark.the-variants.{Doubtful}
 use Rattle.link.specs.declared.decode.DecodeAnswer.the-variants.{Delivery, NothingYet}
 use Rattle.link.specs.Memory.{started, coderWords, turnOf, decoderWords, pendingAt, delayOf, pendingOf}
 use Rattle.link.specs.Memory.{syndromeOf, delayedOf}
-use Rattle.link.specs.Runs.{Call, Taken, sentBy, takenBy, takenAt}
-use Rattle.link.specs.Recovery.{BurstsWithin, Recovered, Running}
+use Rattle.link.specs.Runs.{Call, Sent, Taken, sentBy, takenBy, takenAt}
+use Rattle.link.specs.Recovery.{Wrong, BurstsWithin, Separated, Recovered, Running}
 
 -- The stream that has its turn d places on is stream turn + d mod m; the coder's turn need not be the decoder's. The
 -- delayed blocks may be any, and so may the fill.
@@ -48,13 +50,23 @@ Undisturbed t decoder taken p =
 
 -- For every place at which a block is taken: past m × (N − 1) the step delivers what was sent m × (N − 1) blocks back;
 -- up to there, a block that stood in the memory.
+abbrev pub EachPlace : Table → List ℕ → List Sent → List Taken → Type 0
+EachPlace t decoder sent taken =
+    (p : ℕ) → 1 ≤ p → p ≤ length taken
+    → (delayOf t < p → Recovered sent taken (delayOf t) p) × (p ≤ delayOf t → Undisturbed t decoder taken p)
+
 abbrev pub CLEAN : Type 0
 CLEAN =
     (t : Table) (coder decoder : List ℕ) (cs ds : List Call) → Running t coder decoder cs ds → Clean t coder decoder
     → BurstsWithin (t .depth) (delayOf t) (sentBy coder cs) (takenBy decoder ds)
-    → (p : ℕ) → 1 ≤ p → p ≤ length (takenBy decoder ds)
-    → (delayOf t < p → Recovered (sentBy coder cs) (takenBy decoder ds) (delayOf t) p)
-    × (p ≤ delayOf t → Undisturbed t decoder (takenBy decoder ds) p)
+    → EachPlace t decoder (sentBy coder cs) (takenBy decoder ds)
+
+-- Stronger: any two wrong places stand as two of one burst, or of two bursts, would.
+abbrev pub CLEAN-SEPARATED : Type 0
+CLEAN-SEPARATED =
+    (t : Table) (coder decoder : List ℕ) (cs ds : List Call) → Running t coder decoder cs ds → Clean t coder decoder
+    → Separated (Wrong (sentBy coder cs) (takenBy decoder ds)) (t .depth) (delayOf t) (length (takenBy decoder ds))
+    → EachPlace t decoder (sentBy coder cs) (takenBy decoder ds)
 
 -- "Starting sets every word to zero."
 abbrev pub STARTED-CLEAN : Type 0

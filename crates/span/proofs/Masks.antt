@@ -1,6 +1,7 @@
 -- Words of 64 bits as code has them: masks, and a bit at a place above others. Assumes nothing.
 --
 --   above-mask    a word is above the mask of k places exactly if it is 2^k or more
+--   masked-low    what the mask of k places keeps of a word is the word mod 2^k
 --   or-above      the ones of two words together are 2^k or more exactly if one of the words is
 --   bit-most      a bit at place k is at most 2^k
 --   bit-shifted   no bit is lost where it is shifted to a place of the word
@@ -12,7 +13,7 @@ use native.Mathlib.Nat.{zero-mul, one-mul, mod-eq-of-lt}
 use native.Mathlib.Decide.{decLt}
 use native.Mathlib.Omega.{arith}
 use borrow.Author.Tests.{lt-ltb, le-ltb, le-leb, lt-leb}
-use lib.Bits.{bitOr, or-lt, or-add-and, and-le-l, and-le-r}
+use lib.Bits.{bitAnd, bitOr, and-mask, or-lt, or-add-and, and-le-l, and-le-r}
 use lib.Dec.{leb, ltb}
 use lib.Pow.{pow-pos, pow-mono}
 use Rattle.span.specs.Word.{digit}
@@ -30,6 +31,11 @@ above-mask k r x h e = go (decLt r x)
     go : Dec (r < x) → ltb r x ≡ leb (2 ^ k) x
     go (yes l) = lt-ltb r x l ∙ sym (le-leb (2 ^ k) x (let z = most in omega arith))
     go (no l) = le-ltb r x (omega arith) ∙ sym (lt-leb (2 ^ k) x (let z = most in omega arith))
+
+pub masked-low : (k r x : ℕ) → k ≤ 64 → r ≡ 2 ^ min k 64 - 1 → bitAnd x r ≡ x % 2 ^ k
+masked-low k r x h e =
+    let all : min k 64 ≡ k = omega arith in
+    ap (bitAnd x) (e ∙ ap (λ (j : ℕ). 2 ^ j - 1) all) ∙ and-mask x k
 
 -- the ones of two words together
 pub or-above : (k a b : ℕ) → leb (2 ^ k) (bitOr a b) ≡ leb (2 ^ k) a || leb (2 ^ k) b

@@ -1,9 +1,8 @@
 -- `link::decode::information`: the block below its parity symbol. Assumes nothing.
-use mathlib.Core.Path.{_≡_, ap, _∙_}
-use Prim.Native.Nat.{ℕ, _-_, _^_, min}
+use Prim.Native.Nat.{_-_}
 use native.Mathlib.Omega.{arith}
 use borrow.Author.Needs.{needs}
-use lib.Bits.{bitAnd, and-mask}
+use Rattle.span.proofs.Masks.{masked-low}
 use Rattle.link.proofs.decode.information.Statement.{statement}
 use Rattle.link.proofs.decode.information.Tie as tie
 
@@ -14,10 +13,7 @@ mask-requires : tie.Need-mask-requires
 mask-requires c κs = search needs
 
 returns : tie.Need-returns
-returns c =
-    let a = c .before .args in
-    let all : min (a .n - 1) 64 ≡ a .n - 1 = omega arith in
-    ap (bitAnd (a .block)) (c .mask .ensures ∙ ap (λ (k : ℕ). 2 ^ k - 1) all) ∙ and-mask (a .block) (a .n - 1)
+returns c = let a = c .before .args in masked-low (a .n - 1) _ (a .block) (omega arith) (c .mask .ensures)
 
 pub information-spec : {M : Type 1} → statement M
 information-spec = tie.close (tie.spec sub-mask mask-requires returns)
