@@ -1,0 +1,30 @@
+-- The generator of a load. 02, CR 8: "Draws use Marsaglia's xorshift32 with shifts left 13, right 17, left 5". Its state
+-- is a number of 32 bits.
+--
+--   leftXor k x, rightXor k x   the exclusive or of x and x shifted by k places, in 32 bits
+--   nextState x                 the state after a draw
+--   drawn g                     what a draw of the generator g hands back
+--   NEVER-ZERO                  from a state that is not 0 no draw leads to 0
+use mathlib.Core.Logic.{_≢_}
+use Prim.Native.Nat.{ℕ, _/_, _^_, _<_}
+use Rattle.span.specs.Word.{_⊕_, shifted}
+use Rattle.load.specs.declared.generator.Generator.{Generator}
+use Rattle.load.specs.declared.generator.Draw.{Draw}
+
+abbrev pub leftXor : ℕ → ℕ → ℕ
+leftXor k x = x ⊕ shifted 32 k x
+
+abbrev pub rightXor : ℕ → ℕ → ℕ
+rightXor k x = x ⊕ (x / 2 ^ k)
+
+-- "shifts left 13, right 17, left 5", in this order
+unfoldable pub nextState : ℕ → ℕ
+nextState x = leftXor 5 (rightXor 17 (leftXor 13 x))
+
+-- "Each draw hands back the number and the generator as it now stands": the number is the new state
+abbrev pub drawn : Generator → Draw
+drawn g = record { number = nextState (g .state); next = record { state = nextState (g .state) } }
+
+-- why 17 refuses the seed 0 and no other: 0 draws 0 for ever, and what another seed draws is never 0
+abbrev pub NEVER-ZERO : Type 0
+NEVER-ZERO = (x : ℕ) → x < 2 ^ 32 → x ≢ 0 → (nextState x < 2 ^ 32) × (nextState x ≢ 0)
