@@ -1,7 +1,8 @@
 /*
- * The relay's burst codec for C99 and C++: tables, and a coder and a decoder, by the block and by the batch. Beside
- * them stand coder and decoder of the Iwadare-Massey stations, at the end: their code is fixed, so that they have no
- * table, and they have no batch. "The code", "Memory" and "Batches" below are of the codes with a table.
+ * The relay's burst codec for C99 and C++: tables, a coder and a decoder, by the block and by the batch, and a test
+ * load for them. Beside them stand coder and decoder of the Iwadare-Massey stations, at the end: their code is fixed,
+ * so that they have no table, and they have no batch and no load. "The code", "Memory" and "Batches" below are of the
+ * codes with a table.
  *
  * Link with libexport.a (make staticlib), which is for x86-64 Linux and needs memcpy, memmove and memset of the C
  * library. Nothing here keeps a state of its own, allocates, or calls back: a caller lends all memory, and a call writes
@@ -12,7 +13,7 @@
  * and has behind it as many elements as the number after it says, a length, a count or a room (18 for a table); what a
  * call writes overlaps nothing else that it is handed; and until it returns no other thread writes what it is handed,
  * nor reads what it writes. A block is a uint16_t: a number above 65,535 is cut to its low 16 bits by C before the call,
- * and so is not itself refused.
+ * and so is not itself refused. A seed, a uint32_t, is cut to its low 32 bits in the same way.
  *
  * The code. A block has n symbols (bits): n - 1 of information, symbol j with weight 2^(j-1), and above them the parity,
  * symbol n. N is the decoding span, m the depth: blocks are dealt in turn to m streams. n is 2 to 16, N is 2 to 64, m is
@@ -66,6 +67,8 @@
  *     15  a step: the block is 2^(n-1) or more (information) or 2^n or more (received)
  *   writing a table: 12, then 10 (with the same l, e0 and e1), then
  *     16  the lent bytes are fewer than 10n - 5
+ *   filling a test load: 12, then
+ *     17  the seed is 0
  *   the Iwadare-Massey stations, in this order
  *     13  the lent memory has not exactly the length that is asked for
  *     14  a step: a word is outside its bounds (never so once started, and then written by steps alone)
@@ -244,6 +247,26 @@ size_t burst_code_batch(const uint64_t table[18], uint64_t *words, size_t count,
  */
 size_t burst_decode_batch(const uint64_t table[18], uint64_t *words, size_t count, const uint16_t *received,
                           size_t length, uint32_t *entries, size_t room);
+
+/*
+ * Fills lent blocks, length of them, with the test load of a table and a seed: the all-zero message as it is received
+ * over a fading channel, the same wherever it is asked for. Zeros were sent, so that each block, below 2^n, is its own
+ * error block, 0 for a right one. The seed, n, N and m decide it, and the rows do not.
+ *
+ * Draws are those of Marsaglia's xorshift32. Its state is 32 bits, at the start the seed. A draw changes it three
+ * times, each time to the exclusive or of itself and itself shifted: left by 13, right by 17, left by 5, bits past the
+ * 32 dropped. The number drawn is the new state. With d a fresh draw each time, a round is the length of a burst,
+ * 1 + (d mod m), then an error d mod 2^n, perhaps 0, for each block of it, then a gap of m * (N - 1) + (d mod 16)
+ * zeros. The load is round after round, cut at length, so that a shorter one is the beginning of a longer one.
+ *
+ * With a table that was read or made, a started decoder that takes a load of it from the first block on refuses no
+ * step, and every block that it delivers has the information 0 and is not doubtful. The same errors may be added, by
+ * exclusive or, to the coded blocks of any message from a started coder, block by block from the first: then too such a
+ * decoder refuses no step, what it delivers is that message, and no block is doubtful.
+ *
+ * Returns 0; or 12 or 17, and then no block is written. The table is only read, and its suitability is not tested.
+ */
+uint64_t burst_load(const uint64_t table[18], uint32_t seed, uint16_t *blocks, size_t length);
 
 /*
  * The Iwadare-Massey stations. A block has three symbols, sent in this order: 0 and 1, the information, with weights 1

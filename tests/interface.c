@@ -1,6 +1,7 @@
 /*
  * The C interface, called: 01's examples T1 to T6, T8 for n = 5, and T9 to T12, and each refusal's number with what it leaves unwritten;
- * T10 to T12 by the batch too, and each way that a batch ends; T1 and T8 written; a run of the Iwadare-Massey stations.
+ * T10 to T12 by the batch too, and each way that a batch ends; T1 and T8 written; test loads; a run of the
+ * Iwadare-Massey stations.
  * Prints one line a call. What it prints is held to interface.stdout; that the functions do this on every input is proved.
  */
 #include <inttypes.h>
@@ -199,6 +200,49 @@ static void batches(const uint16_t t10[5], const uint16_t t11[4])
     batch("decode", burst_decode_batch, 7, zeros, 2, 2);
 }
 
+/* The blocks are two more than the length, and are printed all, those that were not written as a dash. */
+static void load(const char *what, uint32_t seed, size_t length)
+{
+    uint16_t blocks[33];
+    size_t i;
+    memset(blocks, 0xff, sizeof blocks);
+    printf("load of %s, seed %" PRIu32 ", length %d: %" PRIu64 "; blocks", what, seed, (int)length,
+           burst_load(table, seed, blocks, length));
+    for (i = 0; i < length + 2; i++) {
+        if (blocks[i] == UINT16_MAX) {
+            printf(" -");
+        } else {
+            printf(" %d", blocks[i]);
+        }
+    }
+    printf("\n");
+}
+
+/* A first seed and a last one, blocks of 16 bits, a load cut short; then the order of 12 and 17. */
+static void loads(void)
+{
+    burst_make(16, 64, table);
+    load("16 symbols", 1, 6);
+    burst_make(2, 3, table);
+    load("2 symbols", 1, 31);
+    load("2 symbols", 1, 17);
+    load("2 symbols", 1, 1);
+    load("2 symbols", 1, 0);
+    load("2 symbols", UINT32_MAX, 31);
+    load("2 symbols", 0, 3);
+    load("2 symbols", 0, 0);
+    table[4] = UINT64_MAX; /* row 2, which a table of two symbols has not */
+    load("2 symbols and a row more", 1, 17);
+    table[3] = 2;
+    load("an unsuitable table", 1, 17);
+    table[3] = 16;
+    load("a row of five bits", 1, 3);
+    load("a row of five bits", 0, 3);
+    load("a row of five bits", 0, 0);
+    table[0] = UINT64_MAX;
+    load("no such symbols", 1, 3);
+}
+
 typedef uint64_t start_call(uint64_t *words, size_t count);
 
 /* The words are one more than those lent. */
@@ -347,6 +391,7 @@ int main(void)
     table[3] = 16;
     decode(7, 0);
     batch("decode", burst_decode_batch, 7, t11, 4, 4);
+    loads();
     stations();
     return 0;
 }

@@ -37,6 +37,9 @@ use Rattle.link.specs.Decoder.{decodeValues, decoderNext}
 use Rattle.link.proofs.Refusals.{refuses, takes, refused-numbers, taken-numbers}
 use Rattle.link.proofs.Starting.{start-memory}
 use Rattle.link.proofs.Runs.{coder-memory, decoder-memory}
+use Rattle.load.specs.Load.{loadOf}
+use Rattle.load.specs.Filling.{loadFault}
+use Rattle.load.proofs.Filling.{load-blocks}
 use Rattle.iwadare.specs.Refusals as refusals
 use Rattle.iwadare.specs.Coder as coder
 use Rattle.iwadare.specs.Decoder as decoder
@@ -48,8 +51,8 @@ use Rattle.export.proofs.Numbers.{given-back, table-back}
 use Rattle.export.specs.Answers.{numberOf, readingOf, writtenOf, codedOf, decodedOf, iwadareDecodedOf}
 use Rattle.export.specs.Promises.{Reads}
 use Rattle.export.specs.Laws.{ReadTold, READ-TOLD, WriteTold, WRITE-TOLD, STORED-BACK, MADE-TOLD}
-use Rattle.export.specs.Laws.{START-TOLD, CODE-TOLD, DECODE-TOLD, IWADARE-START-TOLD, IWADARE-CODE-TOLD}
-use Rattle.export.specs.Laws.{IWADARE-DECODE-TOLD}
+use Rattle.export.specs.Laws.{START-TOLD, CODE-TOLD, DECODE-TOLD, LOAD-TOLD, IWADARE-START-TOLD}
+use Rattle.export.specs.Laws.{IWADARE-CODE-TOLD, IWADARE-DECODE-TOLD}
 
 read-so : (bytes : List ℕ) → ((i : ℕ) → getD bytes i 0 < 256) → (a : ReadAnswer) (before : List ℕ)
     → reading bytes .answer ≡ a →
@@ -183,7 +186,7 @@ made-told n m before r after told = go (sizesFit n 2 m) refl
         let e = told .number ∙ ap (λ (a : MakeAnswer). numberOf (madeNumbers a)) (not-made n m q .0) in
         (e, λ z. absurd (omega arith), left .1)
 
--- ---- starts and steps
+-- ---- starts, steps and loads
 
 -- the number of a call is its fault
 number-is : (fault : ℕ) (values : List ℕ) → numberOf (callNumbers fault values) ≡ fault
@@ -193,7 +196,7 @@ number-is fault values = go (ℕ-discrete fault 0)
     go (yes z) = ap numberOf (taken-numbers fault values z) ∙ sym z
     go (no z) = ap numberOf (refused-numbers fault values z)
 
--- ---- starts and steps: the struct `of` the numbers of a call, whose first number `refusedOf` tells
+-- ---- the struct `of` the numbers of a call, whose first number `refusedOf` tells
 
 module _ {X : Type 0} (of : List ℕ → X) (refusedOf : X → ℕ) (first : (ns : List ℕ) → refusedOf (of ns) ≡ numberOf ns)
     (fault : ℕ) (values next before : List ℕ) (r : X) (after : List ℕ) (answer : r ≡ of (callNumbers fault values))
@@ -215,16 +218,16 @@ module _ {X : Type 0} (of : List ℕ → X) (refusedOf : X → ℕ) (first : (ns
         ),
       )
 
--- of a start the number is all
-start-said : (fault : ℕ) (next before : List ℕ) (r : ℕ) (after : List ℕ) → r ≡ numberOf (callNumbers fault [])
+-- of a start, and of a load, the number is all
+number-told : (fault : ℕ) (next before : List ℕ) (r : ℕ) (after : List ℕ) → r ≡ numberOf (callNumbers fault [])
     → after ≡ leaves fault next before → (r ≡ fault) × (r ≢ 0 → after ≡ before) × (r ≡ 0 → after ≡ next)
-start-said fault next before r after number memory =
+number-told fault next before r after number memory =
     let c = call-told numberOf (λ k. k) (λ ns. refl) fault [] next before r after number memory in
     (c .0, λ some. c .1 some .1, λ none. c .2 none .1)
 
 pub start-told : START-TOLD
 start-told t words before r after h =
-    start-said (startFault t words before) (started words) before r after (h .number)
+    number-told (startFault t words before) (started words) before r after (h .number)
     (h .memory ∙ start-memory t words before)
 
 pub code-told : CODE-TOLD
@@ -237,9 +240,14 @@ decode-told t before received r after h =
     call-told decodedOf (λ x. x .refused) (λ ns. refl) (decoderFault t before received) (decodeValues t before received)
     (decoderNext t before received) before r after (h .answer) (h .memory ∙ decoder-memory t before received)
 
+pub load-told : LOAD-TOLD
+load-told t seed before r after h =
+    number-told (loadFault t seed) (loadOf t seed (length before)) before r after (h .number)
+    (h .blocks ∙ load-blocks t seed before)
+
 pub iwadare-start-told : IWADARE-START-TOLD
 iwadare-start-told words before r after h =
-    start-said (lengthFault words before) (started words) before r after (h .number) (h .memory)
+    number-told (lengthFault words before) (started words) before r after (h .number) (h .memory)
 
 pub iwadare-code-told : IWADARE-CODE-TOLD
 iwadare-code-told before info r after h =

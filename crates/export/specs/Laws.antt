@@ -13,8 +13,10 @@
 --                 word was written
 --   CODE-TOLD, DECODE-TOLD   a step: number 0 comes with the values of the step, any other, the first of 12 to 15 that
 --                 applies, with zeros, and then no word was written
---   IWADARE-START-TOLD, IWADARE-CODE-TOLD, IWADARE-DECODE-TOLD   the same of the Iwadare-Massey stations, where 13 is
---                 the first number
+--   LOAD-TOLD     filling a load: number 0 says that the lent blocks are the load; any other is the first of 12 and 17
+--                 that applies, and no block was written
+--   IWADARE-START-TOLD, IWADARE-CODE-TOLD, IWADARE-DECODE-TOLD   starts and steps of the Iwadare-Massey stations: the
+--                 same, where 13 is the first number
 use mathlib.Core.Path.{_≡_}
 use mathlib.Core.Bool.{true, false, cond}
 use mathlib.Core.Logic.{_≢_}
@@ -33,6 +35,8 @@ use Rattle.link.specs.Refusals.{startFault, coderFault, decoderFault}
 use Rattle.link.specs.Start.{lengthFault}
 use Rattle.link.specs.Coder.{codedBlock, coderNext}
 use Rattle.link.specs.Decoder.{decodeValues, decoderNext}
+use Rattle.load.specs.Load.{loadOf}
+use Rattle.load.specs.Filling.{loadFault}
 use Rattle.iwadare.specs.Refusals as refusals
 use Rattle.iwadare.specs.Coder as coder
 use Rattle.iwadare.specs.Decoder as decoder
@@ -43,8 +47,8 @@ use Rattle.export.specs.declared.decoded.BurstDecoded.{BurstDecoded}
 use Rattle.export.specs.declared.iwadare_decoded.BurstIwadareDecoded.{BurstIwadareDecoded}
 use Rattle.export.specs.Numbers.{tableOf, numbersOf}
 use Rattle.export.specs.Answers.{readingOf, writtenOf, codedOf, decodedOf, iwadareDecodedOf}
-use Rattle.export.specs.Promises.{Reads, WritesBy, MakesTable, StartsBy, CodesBy, DecodesBy, IwadareStartsBy}
-use Rattle.export.specs.Promises.{IwadareCodesBy, IwadareDecodesBy}
+use Rattle.export.specs.Promises.{Reads, WritesBy, MakesTable, StartsBy, CodesBy, DecodesBy, LoadsBy}
+use Rattle.export.specs.Promises.{IwadareStartsBy, IwadareCodesBy, IwadareDecodesBy}
 
 -- what reading answers, r, and what it leaves of the numbers lent for the table; `Whole`: the table is fit, and its
 -- rows past n − 1 are 0
@@ -121,6 +125,11 @@ DECODE-TOLD =
     → (r .refused ≡ decoderFault t before received)
     × (r .refused ≢ 0 → (r ≡ decodedOf (r .refused ∷ 0 ∷ 0 ∷ 0 ∷ [])) × (after ≡ before))
     × (r .refused ≡ 0 → (r ≡ decodedOf (0 ∷ decodeValues t before received)) × (after ≡ decoderNext t before received))
+
+abbrev pub LOAD-TOLD : Type 0
+LOAD-TOLD =
+    (t : Table) (seed : ℕ) (before : List ℕ) (r : ℕ) (after : List ℕ) → LoadsBy t seed before r after
+    → (r ≡ loadFault t seed) × (r ≢ 0 → after ≡ before) × (r ≡ 0 → after ≡ loadOf t seed (length before))
 
 -- ---- the Iwadare-Massey stations: `refusals`, `coder` and `decoder` are those of `iwadare`
 

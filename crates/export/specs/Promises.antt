@@ -7,6 +7,7 @@
 --   StartsBy t words before r after   `burst_start_coder` and `burst_start_decoder`
 --   CodesBy t before info r after   `burst_code`
 --   DecodesBy t before received r after   `burst_decode`
+--   LoadsBy t seed before r after   `burst_load`, on the lent blocks
 --
 -- And of the Iwadare-Massey stations, which have no table:
 --
@@ -28,6 +29,7 @@ use Rattle.link.specs.Refusals.{startFault, coderFault, decoderFault, leaves, c
 use Rattle.link.specs.Start.{startMemory, lengthFault}
 use Rattle.link.specs.Coder.{codedBlock, codeMemory}
 use Rattle.link.specs.Decoder.{decodeValues, decodeMemory}
+use Rattle.load.specs.Filling.{loadFault, loadBlocks}
 use Rattle.iwadare.specs.Refusals as refusals
 use Rattle.iwadare.specs.Coder as coder
 use Rattle.iwadare.specs.Decoder as decoder
@@ -62,6 +64,10 @@ pub record CodesBy (t : Table) (before : List ℕ) (info : ℕ) (r : BurstCoded)
 pub record DecodesBy (t : Table) (before : List ℕ) (received : ℕ) (r : BurstDecoded) (after : List ℕ) : Type 0 where
   pub answer : r ≡ decodedOf (callNumbers (decoderFault t before received) (decodeValues t before received))
   pub memory : after ≡ decodeMemory t before received
+
+pub record LoadsBy (t : Table) (seed : ℕ) (before : List ℕ) (r : ℕ) (after : List ℕ) : Type 0 where
+  pub number : r ≡ numberOf (callNumbers (loadFault t seed) [])
+  pub blocks : after ≡ loadBlocks t seed before
 
 -- ---- the Iwadare-Massey stations: `refusals`, `coder` and `decoder` are those of `iwadare`
 

@@ -1,5 +1,6 @@
 -- What a call that fills a load answers and leaves. Assumes nothing.
 --
+--   load-blocks                                 the lent blocks after a call, by its fault
 --   unfit-refused, zero-refused, loads-filled   what `fill_load` promises, of a call that is refused and of one that is
 --                                               not
 --   load-calls                                  the theorem
@@ -14,13 +15,18 @@ use lib.Dec.{eqb}
 use lib.ListN.{length}
 use Rattle.tables.specs.declared.table.Table.{Table}
 use Rattle.tables.specs.Table.{fit}
-use Rattle.link.specs.Refusals.{answered, leaves}
+use Rattle.link.specs.Refusals.{leaves}
 use Rattle.link.proofs.Refusals.{refuses, takes, call-numbers}
 use Rattle.link.proofs.Calls.{refused-call}
 use Rattle.load.specs.declared.fill.LoadAnswer.{LoadAnswer}
 use Rattle.load.specs.declared.fill.LoadAnswer.the-variants.{Filled, Refused}
 use Rattle.load.specs.Load.{loadOf}
 use Rattle.load.specs.Filling.{loadFault, loadAnswer, loadBlocks, loadNumbers, Loads, LOAD-CALLS}
+
+pub load-blocks : (t : Table) (seed : ℕ) (out : List ℕ)
+    → loadBlocks t seed out ≡ leaves (loadFault t seed) (loadOf t seed (length out)) out
+unfolding loadBlocks
+load-blocks t seed out = refl
 
 loads-so : (t : Table) (seed : ℕ) (out : List ℕ) (r : LoadAnswer) (out' : List ℕ)
     → r ≡ loadAnswer t seed → out' ≡ loadBlocks t seed out → Loads t seed out r out'
