@@ -76,6 +76,7 @@ extern "C" {
         entries: *mut u32,
         room: usize,
     ) -> usize;
+    pub fn burst_load(table: *const u64, seed: u32, blocks: *mut u16, length: usize) -> u64;
     pub fn burst_iwadare_start_coder(words: *mut u64, count: usize) -> u64;
     pub fn burst_iwadare_start_decoder(words: *mut u64, count: usize) -> u64;
     pub fn burst_iwadare_code(words: *mut u64, count: usize, info: u16) -> Coded;

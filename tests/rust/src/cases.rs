@@ -273,6 +273,18 @@ pub fn unfit_table(draw: &mut Draw, fit: &Table) -> Table {
     table
 }
 
+// ---- Seeds of test loads ----
+
+/// A seed that is not 0: an end, a single bit, or any.
+pub fn any_seed(draw: &mut Draw) -> u32 {
+    match draw.below(6) {
+        0 => 1,
+        1 => u32::MAX,
+        2 => 1 << draw.below(32),
+        _ => draw.between(1, u64::from(u32::MAX)) as u32,
+    }
+}
+
 // ---- Table bytes ----
 
 pub fn sizes_record(n: u8, span: u8, depth: u8) -> Vec<u8> {

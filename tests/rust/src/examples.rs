@@ -1,5 +1,5 @@
 //! Listed cases, those that are easy to get wrong: table bytes and what reading them says, tables and what writing
-//! them does, and steps of the coder and the decoder with the memory after them.
+//! them does, steps of the coder and the decoder with the memory after them, and test loads.
 
 use crate::cases::{row_record, sizes_record, table_bytes, Draw};
 use crate::oracle::{Table, Triple};
@@ -365,5 +365,64 @@ pub fn sum_cases() -> [StepCase; 8] {
         // in two streams 2 and 6 blocks later, and 5 blocks later the last is still pending
         codes_message(&z2, &[(1, 1), (0, 0), (0, 2), (0, 0), (0, 0), (0, 0), (0, 2)], &[1, 0, 0]),
         codes_message(&z2, &[(1, 1), (0, 0), (0, 2), (0, 0), (0, 0), (0, 0)], &[0, 1, 0]),
+    ]
+}
+
+// ---- Test loads ----
+
+/// So many lent numbers, and what they become, or the number of the refusal.
+#[derive(Debug)]
+pub struct LoadCase {
+    pub table: Table,
+    pub seed: u32,
+    pub length: usize,
+    pub fills: Result<Vec<u16>, u64>,
+}
+
+/// Bursts, each with how many right blocks follow it in what is lent.
+fn fills(table: Table, seed: u32, rounds: &[(&[u16], usize)]) -> LoadCase {
+    let blocks: Vec<u16> = rounds.iter().flat_map(|(burst, gap)| [*burst, &vec![0; *gap]].concat()).collect();
+    LoadCase { table, seed, length: blocks.len(), fills: Ok(blocks) }
+}
+
+fn no_load(table: Table, seed: u32, length: usize, refused: u64) -> LoadCase {
+    LoadCase { table, seed, length, fills: Err(refused) }
+}
+
+pub fn load_cases() -> Vec<LoadCase> {
+    // Seed 1 draws 270369, 67634689, 2647435461, 307599695, 2398689233, 745495504, 632435482, 435756210, 2005365029,
+    // 2916098932, 2657092299, 1495045943, 3031976842, 82049198, 87470069. On Z a round takes three of them: a length of
+    // 1, an error mod 4, and 3 + a number mod 16 of right blocks.
+    let of_z: [(&[u16], usize); 4] = [(&[1], 3 + 5), (&[1], 3), (&[2], 3 + 5), (&[3], 3 + 7)];
+    // In two streams the lengths are 2, 2, 2 and 1, and a burst may begin right.
+    let of_z2: [(&[u16], usize); 4] = [(&[1, 1], 6 + 15), (&[0, 2], 6 + 2), (&[0, 3], 6 + 7), (&[2], 6 + 5)];
+    // Seed 2^32 − 1 draws 253983, 4228382207, 1958451267, 4056713434, 2049502865, 2560970988, 1705115568, 279806459,
+    // 2999224306, 1700793103, 3829070063, 3754945276: lengths of 1, 2 and 3 in three streams.
+    let of_made_3: [(&[u16], usize); 3] = [(&[7], 15 + 3), (&[1, 4], 15), (&[2, 7, 7], 15 + 12)];
+    // Seed 2^31 draws 2148024320, 2299036804, 2861646152, 3585606292 for a length of 21, 1756881985, 332285342,
+    // 3032542240, 2178132162.
+    let of_64: [(&[u16], usize); 2] = [(&[33924], 64 * 63 + 8), (&[58433, 17822, 60448, 43202], 0)];
+    let (unsuitable, too_large) = (Table::new(2, 4, 1, &[2]), Table::new(2, 4, 1, &[16]));
+    vec![
+        fills(z(1), 1, &of_z),
+        fills(z(2), 1, &of_z2),
+        fills(Table::new(3, 6, 3, &[52, 34]), u32::MAX, &of_made_3),
+        // T6 is not refused, and the rows do not tell
+        fills(unsuitable, 1, &of_z),
+        // the greatest sizes
+        fills(Table::new(16, 64, 64, &[u64::MAX; 15]), 1 << 31, &of_64),
+        // cut in a burst, at its end, in a gap, at its end, and before the first block
+        fills(z(2), 1, &[of_z2[0], (&[0], 0)]),
+        fills(z(2), 1, &[(&[1, 1], 0)]),
+        fills(z(2), 1, &[(&[1, 1], 20)]),
+        fills(z(2), 1, &of_z2[..1]),
+        fills(z(2), 1, &[]),
+        // 12, also before 17; 17, also of no block
+        no_load(Table::new(17, 4, 1, &[10]), 1, 9, 12),
+        no_load(too_large.clone(), 1, 9, 12),
+        no_load(too_large.clone(), 0, 9, 12),
+        no_load(too_large, 0, 0, 12),
+        no_load(z(1), 0, 9, 17),
+        no_load(z(1), 0, 0, 17),
     ]
 }

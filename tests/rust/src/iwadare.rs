@@ -17,11 +17,11 @@ type Info = [bool; 2];
 // ---- Numbers and bits ----
 
 /// So many bits of a number, the lowest first.
-fn bits_of(number: u64, count: usize) -> Vec<bool> {
+pub fn bits_of(number: u64, count: usize) -> Vec<bool> {
     (0..count).map(|k| number >> k & 1 == 1).collect()
 }
 
-fn number_of(bits: impl DoubleEndedIterator<Item = bool>) -> u64 {
+pub fn number_of(bits: impl DoubleEndedIterator<Item = bool>) -> u64 {
     bits.rev().fold(0, |number, bit| 2 * number + u64::from(bit))
 }
 

@@ -1,15 +1,18 @@
-//! The plain implementations of the burst codec and of the Iwadare-Massey stations, a safe wrapper over the proved ones'
-//! C interface, and the listing program, run.
+//! The plain implementations of the burst codec, of its test load and of the Iwadare-Massey stations, a safe wrapper
+//! over the proved ones' C interface, and the listing program, run.
 
 pub mod archive;
 pub mod cases;
 pub mod examples;
 pub mod iwadare;
 pub mod iwadare_cases;
+pub mod load;
 pub mod oracle;
 
 #[cfg(test)]
 mod iwadare_tests;
+#[cfg(test)]
+mod load_tests;
 #[cfg(test)]
 mod oracle_tests;
 
@@ -80,6 +83,11 @@ pub mod linked {
 
     pub fn decode_batch(table: &Numbers, words: &mut [u64], received: &[u16], entries: &mut [u32]) -> usize {
         batch(burst_decode_batch, table, words, received, entries)
+    }
+
+    pub fn load(table: &Numbers, seed: u32, blocks: &mut [u16]) -> u64 {
+        // SAFETY: the table has its 18 numbers, and the slice's own length goes along.
+        unsafe { burst_load(table.as_ptr(), seed, blocks.as_mut_ptr(), blocks.len()) }
     }
 
     pub fn iwadare_start_coder(words: &mut [u64]) -> u64 {

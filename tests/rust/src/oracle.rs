@@ -346,7 +346,7 @@ pub fn make_table(n: u64, depth: u64) -> Result<Table, u64> {
 
 // ---- Coder and decoder memory ----
 
-fn is_fit(table: &Table) -> bool {
+pub fn is_fit(table: &Table) -> bool {
     sizes_in_range(table.n, table.span, table.depth)
         && (1..table.n).all(|j| is_below(table.row(j), table.span))
 }
