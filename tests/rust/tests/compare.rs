@@ -2,7 +2,7 @@
 //! cases.
 
 use burst_compare::cases::*;
-use burst_compare::examples::{read_cases, step_cases, sum_cases, write_cases, z};
+use burst_compare::examples::{load_cases, read_cases, step_cases, sum_cases, write_cases, z};
 use burst_compare::examples::{ReadCase, Says, Step, StepCase};
 use burst_compare::iwadare_cases::station_cases;
 use burst_compare::oracle::{self, Delivered, ReadRefusal, Table, Triple, MARKS};
@@ -15,6 +15,7 @@ mod batches;
 mod clashes;
 mod images;
 mod iwadare;
+mod load;
 mod sums;
 mod writing;
 
@@ -36,6 +37,7 @@ struct Tally {
     clashes: clashes::Count,
     iwadare: iwadare::Count,
     sums: sums::Count,
+    load: load::Count,
     mismatches: u64,
     shown: Vec<String>,
 }
@@ -953,10 +955,11 @@ fn everything_reached(tally: &mut Tally, _: &mut Draw) {
     clashes::everything_reached(tally);
     iwadare::everything_reached(tally);
     sums::everything_reached(tally);
-    let apart = tally.batches.batches + tally.iwadare.calls() + tally.sums.calls;
+    load::everything_reached(tally);
+    let apart = tally.batches.batches + tally.iwadare.calls() + tally.sums.calls + tally.load.calls();
     let calls = tally.calls - apart;
     tally.check(calls >= LEAST_CALLS, || {
-        format!("only {calls} calls compared, batches, stations and sums apart")
+        format!("only {calls} calls compared, batches, stations, sums and loads apart")
     });
 }
 
@@ -1000,7 +1003,7 @@ fn check_steps(tally: &mut Tally, StepCase { table, memory, steps, after }: &Ste
 
 type Group = (&'static str, fn(&mut Tally, &mut Draw));
 
-const GROUPS: [Group; 64] = [
+const GROUPS: [Group; 73] = [
     ("examples of tables", examples_of_tables),
     ("examples of steps", examples_of_steps),
     ("bytes of every refusal and place", bytes_of_every_refusal),
@@ -1064,6 +1067,15 @@ const GROUPS: [Group; 64] = [
     ("sums: raw terms", sums::raw_terms),
     ("sums: deliveries of Z", sums::deliveries_of_z),
     ("sums: reach of one bit", sums::reach),
+    ("loads: every length", load::every_length),
+    ("loads: every n and m, cut about the ends of rounds", load::every_size),
+    ("loads: seeds", load::seeds),
+    ("loads: every length of a burst, every gap", load::every_round),
+    ("loads: refusals", load::refusals),
+    ("loads: decoded by single calls", load::decoded_by_calls),
+    ("loads: decoded by batches", load::decoded_by_batches),
+    ("loads: decoded by calls and batches mixed", load::decoded_by_both),
+    ("loads: the listing program", load::listed),
     ("everything reached", everything_reached),
 ];
 
@@ -1111,17 +1123,18 @@ fn run_cases<C: Debug>(tally: &mut Tally, name: &str, cases: &[C], check: fn(&mu
 fn main() {
     let mut tally = Tally::default();
     let (read_cases, write_cases, step_cases) = (read_cases(), write_cases(), step_cases());
-    let (sum_cases, station_cases) = (sum_cases(), station_cases());
+    let (sum_cases, station_cases, load_cases) = (sum_cases(), station_cases(), load_cases());
     let mut passed = run_cases(&mut tally, "listed table bytes", &read_cases, check_reading)
         + run_cases(&mut tally, "listed writes", &write_cases, writing::check_case)
         + run_cases(&mut tally, "listed steps", &step_cases, check_steps)
         + run_cases(&mut tally, "listed sums", &sum_cases, check_steps)
-        + run_cases(&mut tally, "listed steps of stations", &station_cases, iwadare::check_case);
+        + run_cases(&mut tally, "listed steps of stations", &station_cases, iwadare::check_case)
+        + run_cases(&mut tally, "listed loads", &load_cases, load::check_case);
     for (index, &group) in GROUPS.iter().enumerate() {
         passed += usize::from(run_group(&mut tally, index, group));
     }
     let cases = read_cases.len() + write_cases.len() + step_cases.len();
-    let cases = cases + sum_cases.len() + station_cases.len();
+    let cases = cases + sum_cases.len() + station_cases.len() + load_cases.len();
     let failed = cases + GROUPS.len() - passed;
     println!("{} calls compared", tally.calls);
     println!("refusals 1 to 15: {:?}", &tally.refusals[1..]);
@@ -1132,6 +1145,7 @@ fn main() {
     println!("{}", tally.clashes);
     println!("{}", tally.iwadare);
     println!("{}", tally.sums);
+    println!("{}", tally.load);
     println!("{passed} passed, {failed} failed");
     std::process::exit(i32::from(failed > 0));
 }

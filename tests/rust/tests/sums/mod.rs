@@ -15,14 +15,14 @@ const LEAST_MET: u64 = 100;
 
 /// Where a table comes from. The last two are fit, and the laws ask for no more.
 #[derive(Clone, Copy)]
-enum Sort {
+pub enum Sort {
     Made,
     Read,
     Unsuitable,
     AnyFit,
 }
 
-const SORTS: [Sort; 4] = [Sort::Made, Sort::Read, Sort::Unsuitable, Sort::AnyFit];
+pub const SORTS: [Sort; 4] = [Sort::Made, Sort::Read, Sort::Unsuitable, Sort::AnyFit];
 
 /// What a table is drawn for.
 #[derive(Clone, Copy)]
@@ -184,12 +184,16 @@ impl Side {
 
 // ---- Tables and lists ----
 
-fn every_n_and_sort() -> impl Iterator<Item = (u64, Sort)> {
+pub fn every_n_and_sort() -> impl Iterator<Item = (u64, Sort)> {
     (2..=16).flat_map(|n| SORTS.map(|sort| (n, sort)))
 }
 
-fn table_of(tally: &mut Tally, draw: &mut Draw, law: Law, sort: Sort, n: u64, depth: u64) -> Table {
+fn table_for_law(tally: &mut Tally, draw: &mut Draw, law: Law, sort: Sort, n: u64, depth: u64) -> Table {
     tally.sums.tables[law as usize][sort as usize] += 1;
+    table_of(tally, draw, sort, n, depth)
+}
+
+pub fn table_of(tally: &mut Tally, draw: &mut Draw, sort: Sort, n: u64, depth: u64) -> Table {
     let span = any_span(draw);
     match sort {
         Sort::Made => made_table(tally, n, depth),
@@ -270,7 +274,7 @@ fn code_messages(
 pub fn coded_forms(tally: &mut Tally, draw: &mut Draw) {
     for (n, sort) in every_n_and_sort() {
         for depth in 1..=64 {
-            let table = table_of(tally, draw, Law::CodedForms, sort, n, depth);
+            let table = table_for_law(tally, draw, Law::CodedForms, sort, n, depth);
             let length = any_length(draw, &table);
             let [one, other] = [(); 2].map(|_| any_list(draw, &CODER, &table, length));
             let sum = one.iter().zip(&other).map(|(one, other)| one ^ other).collect();
@@ -288,12 +292,12 @@ pub fn coded_forms(tally: &mut Tally, draw: &mut Draw) {
 
 // ---- Groups: raw terms and deliveries ----
 
-fn info_of(entry: u32) -> u32 {
+pub fn info_of(entry: u32) -> u32 {
     entry & 0xFFFF
 }
 
 /// 0 is "nothing yet", 1 is clean.
-fn mark_of(entry: u32) -> u32 {
+pub fn mark_of(entry: u32) -> u32 {
     entry >> 16
 }
 
@@ -394,7 +398,7 @@ pub fn raw_terms(tally: &mut Tally, draw: &mut Draw) {
     for (n, sort) in every_n_and_sort() {
         for _ in 0..30 {
             let depth = any_depth(draw);
-            let table = table_of(tally, draw, Law::RawTerms, sort, n, depth);
+            let table = table_for_law(tally, draw, Law::RawTerms, sort, n, depth);
             let length = any_length(draw, &table).min(1_000); // a step costs a copy of the memory
             let [one, other] = [(); 2].map(|_| any_received(draw, &table, length));
             let memory = tally.sums.any_memory(draw, Law::RawTerms, &DECODER, &table);
@@ -474,7 +478,7 @@ pub fn reach(tally: &mut Tally, draw: &mut Draw) {
     for (n, sort) in every_n_and_sort() {
         for _ in 0..7 {
             let depth = any_depth(draw);
-            let table = table_of(tally, draw, Law::Reach, sort, n, depth);
+            let table = table_for_law(tally, draw, Law::Reach, sort, n, depth);
             let delay = table.delay();
             let (more, fewer) = (delay + draw.between(1, 2 * depth), draw.below(delay));
             for (j, after) in (1..n).flat_map(|j| [delay, delay - 1, more, fewer, 0].map(|after| (j, after)))
