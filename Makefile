@@ -2,8 +2,8 @@
 # make test        the gate: everything proved from nothing, every must-fail edit refused, every other test
 # make staticlib   the archive for C and C++, target/staticlib/libexport.a; include/burst.h declares what it has
 # make bench       what calls take, against an implementation written for speed, images with a long span against a short one, writing a
-#                  table beside judging it, an Iwadare-Massey station's step beside ours, and batches against single calls; not a part of
-#                  the gate
+#                  table beside judging it, an Iwadare-Massey station's step beside ours, filling a test load, and batches
+#                  against single calls; not a part of the gate
 .PHONY: run test staticlib bench
 ARCHIVE := target/staticlib/libexport.a
 RT := $(shell command -v rt)

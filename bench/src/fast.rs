@@ -1,5 +1,5 @@
-//! The codec written for speed: the memory layout of the scope, any table, the same checks and answers (of reading, the table or none), and no
-//! proof.
+//! The codec and its test load written for speed: the memory layout of the scope, any table, the same checks and
+//! answers (of reading, the table or none), and no proof.
 
 #[derive(Clone)]
 pub struct Table {
@@ -216,4 +216,36 @@ pub fn read(bytes: &[u8]) -> Option<Table> {
         rest = after;
     }
     (rest == [0] && given.count_ones() as usize == t.n - 1 && !clashes(&t)).then_some(t)
+}
+
+/// Fills the blocks, or returns the refusal's number.
+#[inline(never)]
+pub fn load(t: &Table, seed: u32, blocks: &mut [u16]) -> u64 {
+    if !fit(t) {
+        return 12;
+    }
+    if seed == 0 {
+        return 17;
+    }
+    let mut state = seed;
+    let mut draw = || {
+        state ^= state << 13;
+        state ^= state >> 17;
+        state ^= state << 5;
+        state
+    };
+    let guard = t.depth * (t.span - 1);
+    let mut left = blocks;
+    while !left.is_empty() {
+        let length = 1 + draw() as usize % t.depth;
+        let (burst, after) = left.split_at_mut(length.min(left.len()));
+        for error in burst {
+            *error = (u64::from(draw()) & mask(t.n)) as u16;
+        }
+        let length = guard + draw() as usize % 16;
+        let (gap, after) = after.split_at_mut(length.min(after.len()));
+        gap.fill(0);
+        left = after;
+    }
+    0
 }

@@ -2,8 +2,8 @@
 //! and their ratio: medians of several rounds, the ratio's too, answers and memories compared throughout.
 //! Then how much longer the images of all error blocks of 16 symbols take with a span of 64 than with one of
 //! 4, and what writing a table costs beside judging it. Then steps of the Iwadare-Massey stations beside our
-//! own. Last, batches against single calls. The exit status is 1 if images, stations or batches take longer
-//! than is asked for.
+//! own, and filling a test load. Last, batches against single calls. The exit status is 1 if images, stations,
+//! loads or batches take longer than is asked for.
 
 // The declarations that the comparing tests have; not every function is timed.
 #[allow(dead_code)]
@@ -13,6 +13,7 @@ mod batch;
 mod fast;
 mod images;
 mod iwadare;
+mod load;
 
 use archive::{burst_code, burst_decode, burst_read, burst_write, Written};
 use std::time::Instant;
@@ -194,6 +195,7 @@ fn main() {
     let fetched_once = images::report();
     report_writing();
     let stations = iwadare::report_all(&mut random);
+    let loads = load::report_all();
     let batches = batch::report_all(&mut random);
     if !fetched_once {
         println!("images with a span of 64 take more than twice what they take with one of 4");
@@ -201,10 +203,13 @@ fn main() {
     if !stations {
         println!("a step of an Iwadare-Massey station takes longer than one of our own codes with n = 3");
     }
+    if !loads {
+        println!("a block of a test load with long gaps takes 2 ns or more");
+    }
     if !batches {
         println!("a batch of 256 blocks or more with m = 16 is slower than is asked for");
     }
-    if !fetched_once || !stations || !batches {
+    if !fetched_once || !stations || !loads || !batches {
         std::process::exit(1);
     }
 }
