@@ -3,13 +3,13 @@ use mathlib.Core.Path.{_≡_, _∙_, subst}
 use mathlib.Core.Bool.{true}
 use mathlib.Core.Logic.{inl, inr}
 use mathlib.Core.List.{List, [], _∷_, _++_}
-use Prim.Native.Nat.{ℕ, suc, _+_, _-_, _^_, _≤_, _<_}
+use Prim.Native.Nat.{ℕ, zero, suc, _+_, _-_, _≤_}
 use native.Mathlib.Omega.{arith}
-use native.Mathlib.Decide.{decLt}
-use lib.ListN.{length, getD, length-append, List·getD-append}
+use lib.ListN.{length, length-append}
 use lib.Pow.{pow-mono}
-use lib.Seq.{length-take-le, getD-at}
+use lib.Seq.{length-take-le}
 use Rattle.span.specs.Combination.{Below}
+use Rattle.span.proofs.Combination.{below-append}
 use Rattle.tables.specs.declared.table.Table.{Table}
 use Rattle.tables.specs.Code.{Suitable}
 use Rattle.tables.specs.Table.{rowsOf, fit, infoRows}
@@ -41,15 +41,12 @@ pub record Coding (t : Table) : Type 0 where
   pub infos : length (infoRows t) ≡ t .symbols - 1
   pub corrects : Corrects (t .symbols) (t .span - 1) (infoRows t ++ (1 ∷ []))
 
+one-below : (N : ℕ) → 1 ≤ N → Below N (1 ∷ [])
+one-below N h zero l = pow-mono h
+one-below N h (suc i) l = absurd (omega arith)
+
 pub below-snoc : (N : ℕ) (ws : List ℕ) → 1 ≤ N → Below N ws → Below N (ws ++ (1 ∷ []))
-below-snoc N ws h below i l = go (decLt i (length ws))
-  where
-    go : Dec (i < length ws) → getD (ws ++ (1 ∷ [])) i 0 < 2 ^ N
-    go (yes b) = rw (List·getD-append ws (1 ∷ []) 0 i b) (below i b)
-    go (no b) =
-        let z = length-append ws (1 ∷ []) in
-        let p = pow-mono h in
-        rw (getD-at ws 1 [] 0 i (omega arith)) (omega arith)
+below-snoc N ws h below = below-append N ws (1 ∷ []) below (one-below N h)
 
 pub origin-coding : (t : Table) → Origin t → Coding t
 origin-coding t o =

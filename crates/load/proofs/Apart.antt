@@ -1,8 +1,8 @@
 -- Two wrong places of a load lie in one burst, or have the guard between them: a burst is m blocks at most, and the gap
 -- after it m × (N − 1) at least. Assumes nothing.
 --
---   Apart m guard some xs   so are any two places of the list, counted from 0, that are not 0
---   load-apart              those of a load
+--   Apart m guard xs   so stand any two places of a list, counted from 0, at which it is not 0
+--   load-apart         and those of a load
 use mathlib.Core.Path.{_≡_, refl, ap, _∙_}
 use mathlib.Core.Logic.{_≢_, _⊎_, inl, inr}
 use mathlib.Core.List.{List, _++_}
@@ -22,11 +22,10 @@ past-round r rest i h =
     let e : i ≡ length r + (i - length r) = omega arith in
     ap (λ (j : ℕ). getD (r ++ rest) j 0) e ∙ getD-append-add r rest (i - length r) 0
 
-module _ (m guard : ℕ) (some : 1 ≤ m) where
-  -- of any two places
-  abbrev pub Apart : List ℕ → Type 0
-  Apart xs = (i j : ℕ) → i < j → getD xs i 0 ≢ 0 → getD xs j 0 ≢ 0 → (j < i + m) ⊎ (i + guard < j)
+abbrev pub Apart : ℕ → ℕ → List ℕ → Type 0
+Apart m guard xs = (i j : ℕ) → i < j → getD xs i 0 ≢ 0 → getD xs j 0 ≢ 0 → (j < i + m) ⊎ (i + guard < j)
 
+module _ (m guard : ℕ) (some : 1 ≤ m) where
   module _ (n x : ℕ) (rest : List ℕ) where
     abbrev r : List ℕ
     r = round n m guard x
@@ -55,7 +54,7 @@ module _ (m guard : ℕ) (some : 1 ≤ m) where
         go (no a) (yes b) = absurd (u (in-gap i (omega arith) b))
         go (no a) (no b) = inr (omega arith)
 
-    round-apart : Apart rest → Apart (r ++ rest)
+    round-apart : Apart m guard rest → Apart m guard (r ++ rest)
     round-apart later i j l u v = go (lies i u) (lies j v)
       where
         go : (i < burstLength m x) ⊎ (length r ≤ i) → (j < burstLength m x) ⊎ (length r ≤ j)
@@ -68,12 +67,12 @@ module _ (m guard : ℕ) (some : 1 ≤ m) where
             (later (i - length r) (j - length r) (omega arith) (λ e. u (past-round r rest i a ∙ e))
             (λ e. v (past-round r rest j b ∙ e)))
 
-  rounds-apart : (n k x : ℕ) → Apart (rounds n m guard k x)
+  rounds-apart : (n k x : ℕ) → Apart m guard (rounds n m guard k x)
   unfolding rounds
   rounds-apart n zero x = λ i j l u v. absurd (u refl)
   rounds-apart n (suc k) x =
       round-apart n x (rounds n m guard k (afterRound m x)) (rounds-apart n k (afterRound m x))
 
-  pub load-apart : (n x k : ℕ) → Apart (load n m guard x k)
+  pub load-apart : (n x k : ℕ) → Apart m guard (load n m guard x k)
   load-apart n x k i j l u v =
       rounds-apart n k x i j l (λ e. u (load-at n m guard x k i u ∙ e)) (λ e. v (load-at n m guard x k j v ∙ e))

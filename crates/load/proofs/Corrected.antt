@@ -6,9 +6,9 @@ use mathlib.Core.Path.{_≡_, refl, sym, ap, _∙_, subst}
 use mathlib.Core.Bool.{true}
 use mathlib.Core.Logic.{_≢_, _⊎_, inl, inr}
 use mathlib.Core.List.{List, zipWith}
-use Prim.Native.Nat.{ℕ, zero, suc, _+_, _-_, _≤_, _<_}
+use Prim.Native.Nat.{ℕ, zero, suc, _+_, _-_, _<_}
 use native.Mathlib.Omega.{arith}
-use lib.ListN.{length, getD, replicate, length-map, length-replicate, List·getD-map}
+use lib.ListN.{length, getD, replicate, length-replicate, List·getD-map}
 use lib.Seq.{ext-getD}
 use Rattle.span.specs.Word.{_⊕_}
 use Rattle.span.specs.Combination.{Below}
@@ -20,7 +20,7 @@ use Rattle.link.specs.declared.decode.Mark.{Mark}
 use Rattle.link.specs.declared.decode.Mark.the-variants.{Doubtful}
 use Rattle.link.specs.declared.decode.DecodeAnswer.{DecodeAnswer}
 use Rattle.link.specs.declared.decode.DecodeAnswer.the-variants.{Delivery}
-use Rattle.link.specs.Memory.{started, coderWords, decoderWords, fillOf, delayOf}
+use Rattle.link.specs.Memory.{started, coderWords, decoderWords, delayOf}
 use Rattle.link.specs.Runs.{Sent, Taken, sentBy, sentAt, takenAt, noneSent, noneTaken}
 use Rattle.link.specs.Recovery.{Origin, Wrong, Separated, Running}
 use Rattle.link.specs.Computed.{calls}
@@ -46,9 +46,7 @@ delivered-as a x y e (mark, told, sure) =
 -- ---- errors that are far enough apart
 
 module _ (t : Table) (o : Origin t) (infos errs : List ℕ) (below : Below (t .symbols - 1) infos)
-    (small : Below (t .symbols) errs) (same : length errs ≡ length infos)
-    (apart : (i j : ℕ) → i < j → getD errs i 0 ≢ 0 → getD errs j 0 ≢ 0
-    → (j < i + t .depth) ⊎ (i + delayOf t < j)) where
+    (small : Below (t .symbols) errs) (same : length errs ≡ length infos) (apart : Apart (t .depth) (delayOf t) errs) where
   abbrev rs : List ℕ
   rs = zipWith _⊕_ (codedForm t infos) errs
 

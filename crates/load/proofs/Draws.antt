@@ -2,7 +2,7 @@
 --
 --   left-fixed, right-fixed   a number that a shift leaves as it was
 --   never-zero                the theorem
-use mathlib.Core.Path.{_≡_, refl, sym, ap, _∙_}
+use mathlib.Core.Path.{_≡_, ap, _∙_}
 use Prim.Native.Nat.{ℕ, zero, suc, _+_, _-_, _*_, _/_, _%_, _^_, _≤_, _<_}
 use native.Mathlib.Nat.{zero-mul, div-le-self}
 use native.Mathlib.Decide.{decLt}

@@ -1,6 +1,5 @@
 -- The laws of a load, and why it is corrected; the lowest file first. A crate above sees those that are public.
 mod Draws
-mod Stored
 mod Load
 mod Apart
 mod Rounds

@@ -6,18 +6,18 @@
 --   load-rounds, load-length, load-cut, load-below   the theorems
 --   load-round    a load is a round, cut, and a load of what is left
 --   load-at       what stands at a place of a load, if it is not 0, stands there in its rounds
-use mathlib.Core.Path.{_≡_, refl, sym, ap, _∙_, subst}
+use mathlib.Core.Path.{_≡_, refl, sym, ap, _∙_}
 use mathlib.Core.Logic.{_≢_}
 use mathlib.Core.List.{List, [], _∷_, _++_, append-nil}
 use Prim.Native.Nat.{ℕ, zero, suc, _+_, _-_, _%_, _^_, _≤_, _<_, min}
 use native.Mathlib.Nat.{mod-lt}
 use native.Mathlib.Decide.{decLt}
 use native.Mathlib.Omega.{arith}
-use lib.ListN.{length, getD, take, replicate, length-append, length-replicate, List·getD-append}
-use lib.ListN.{List·getD-eq-default}
+use lib.ListN.{length, getD, take, replicate, length-append, length-replicate, List·getD-eq-default}
 use lib.Pow.{pow-pos}
-use lib.Seq.{take-append-le, take-append-add, take-take, take-all, length-take-le, getD-take, getD-append-add}
+use lib.Seq.{take-append-le, take-append-add, take-take, take-all, length-take-le, getD-take}
 use Rattle.span.specs.Combination.{Below}
+use Rattle.span.proofs.Combination.{below-append}
 use Rattle.tables.proofs.Fit.{zeros-at}
 use Rattle.load.specs.Draws.{nextState}
 use Rattle.load.specs.Load.{after, errors, burstLength, gapLength, afterRound, round, rounds, load, LOAD-LENGTH}
@@ -119,7 +119,8 @@ load-cut n m guard seed k l h =
 
 -- how a load goes on
 pub load-round : (n m guard x k : ℕ)
-    → load n m guard x k ≡ take k (round n m guard x) ++ load n m guard (afterRound m x) (k - length (round n m guard x))
+    → let r = round n m guard x in
+    load n m guard x k ≡ take k r ++ load n m guard (afterRound m x) (k - length r)
 unfolding load rounds
 load-round n m guard x zero =
     let r = round n m guard x in
@@ -146,19 +147,6 @@ load-at n m guard x k i some = go (decLt i k)
 
 -- ---- its blocks
 
--- an error, or 0
-append-below : (n : ℕ) (xs ys : List ℕ) → Below n xs → Below n ys → Below n (xs ++ ys)
-append-below n xs ys f g i h = go (decLt i (length xs))
-  where
-    go : Dec (i < length xs) → getD (xs ++ ys) i 0 < 2 ^ n
-    go (yes l) = rw (List·getD-append xs ys 0 i l) (f i l)
-    go (no l) =
-        let e : i ≡ length xs + (i - length xs) = omega arith in
-        let s = length-append xs ys in
-        subst (λ (z : ℕ). z < 2 ^ n)
-        (sym (ap (λ (j : ℕ). getD (xs ++ ys) j 0) e ∙ getD-append-add xs ys (i - length xs) 0))
-        (g (i - length xs) (omega arith))
-
 errors-below : (n k x : ℕ) → Below n (errors n k x)
 errors-below n k x i h =
     let size = length-errors n k x in
@@ -171,8 +159,8 @@ rounds-below : (n m guard k x : ℕ) → Below n (rounds n m guard k x)
 unfolding rounds
 rounds-below n m guard zero x = λ i h. absurd (omega arith)
 rounds-below n m guard (suc k) x =
-    append-below n (round n m guard x) (rounds n m guard k (afterRound m x))
-    (append-below n (errors n (burstLength m x) (nextState x)) (replicate (gapLength m guard x) 0)
+    below-append n (round n m guard x) (rounds n m guard k (afterRound m x))
+    (below-append n (errors n (burstLength m x) (nextState x)) (replicate (gapLength m guard x) 0)
     (errors-below n (burstLength m x) (nextState x)) (zeros-below n (gapLength m guard x)))
     (rounds-below n m guard k (afterRound m x))
 

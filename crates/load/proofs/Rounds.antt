@@ -3,7 +3,7 @@
 --   round-filled   errors and then zeros in their places, cut where the blocks end, are a round
 --   Goes           so many blocks are filled, and what is left of the load is that of the generator's state
 --   goes-first, goes-on, goes-all   at first, after one more round, and at the end
-use mathlib.Core.Path.{_≡_, refl, sym, ap, _∙_, subst}
+use mathlib.Core.Path.{_≡_, refl, sym, ap, _∙_}
 use mathlib.Core.List.{List, [], _∷_, _++_, append-assoc, append-nil}
 use Prim.Native.Nat.{ℕ, zero, suc, _+_, _-_, _%_, _≤_, _<_, min}
 use native.Mathlib.Nat.{sub-zero}
@@ -11,10 +11,10 @@ use native.Mathlib.Decide.{decLt}
 use native.Mathlib.Omega.{arith}
 use borrow.Rule.Slice.PartMut.{putMid, post-is}
 use lib.ListN.{length, take, drop, replicate, length-append, length-replicate, length-take}
-use lib.Seq.{take-all, take-at, drop-at, drop-drop, length-take-le, take-append-add}
+use lib.Seq.{take-all, take-at, drop-at, length-take-le, take-append-add}
 use Rattle.load.specs.Draws.{nextState}
 use Rattle.load.specs.Load.{after, errors, burstLength, gapLength, afterRound, round, load}
-use Rattle.load.proofs.Load.{length-errors, errors-cut, length-round, take-append, load-round, load-length}
+use Rattle.load.proofs.Load.{length-errors, errors-cut, length-round, take-append, load-round}
 
 take-zeros : (j k i : ℕ) → i ≡ min j k → take j (replicate {A = ℕ} k 0) ≡ replicate i 0
 take-zeros zero k zero e = refl

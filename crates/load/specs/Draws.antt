@@ -1,5 +1,5 @@
--- The generator of a load. 02, CR 8: "Draws use Marsaglia's xorshift32 with shifts left 13, right 17, left 5". Its state
--- is a number of 32 bits.
+-- The generator of a load: 02, CR 8, "Draws use Marsaglia's xorshift32 with shifts left 13, right 17, left 5." Its
+-- state is a number of 32 bits.
 --
 --   leftXor k x, rightXor k x   the exclusive or of x and x shifted by k places, in 32 bits
 --   nextState x                 the state after a draw

@@ -6,7 +6,7 @@ use tables::table::Table;
 use tables::table::is_fit;
 ghost use mathlib.Core.Path.{_≡_};
 ghost use mathlib.Core.List.{_++_};
-ghost use Prim.Native.Nat.{_*_, _-_, _≤_, _<_};
+ghost use Prim.Native.Nat.{_≤_, _<_};
 ghost use lib.ListN.{length, take, drop, replicate};
 ghost use Rattle.load.specs.Load.{after, errors, round, afterRound, load};
 ghost use Rattle.load.specs.Filling.{Loads};
@@ -55,7 +55,8 @@ fn fill_gap(out: &mut [u16])
 // A round, cut where the lent blocks end: then no other follows, and the generator does not matter.
 fn fill_round(out: &mut [u16], n: usize, depth: usize, guard: usize, generator: Generator) -> Round
     requires { ⌜ (n ≤ 16) × (1 ≤ depth) × (depth ≤ 64) × (guard ≤ 4096) ⌝ }
-    ensures size { λ r. ⌜ r .length ≡ length (take (length (now (out .entry))) (round n depth guard (generator .state))) ⌝ }
+    ensures size { λ r.
+        ⌜ r .length ≡ length (take (length (now (out .entry))) (round n depth guard (generator .state))) ⌝ }
     ensures blocks { λ r.
         ⌜ now (out .exit) ≡ take (length (now (out .entry))) (round n depth guard (generator .state))
         ++ drop (r .length) (now (out .entry)) ⌝ }

@@ -3,13 +3,14 @@
 use mathlib.Core.Path.{_≡_, refl, sym, ap, ap₂, _∙_, subst}
 use mathlib.Core.Bool.{Bool, true, false}
 use mathlib.Core.List.{List, [], _∷_, _++_, map}
-use Prim.Native.Nat.{ℕ, zero, suc, _+_, _/_, _%_, _^_, _≤_, _<_, min}
+use Prim.Native.Nat.{ℕ, zero, suc, _+_, _-_, _/_, _%_, _^_, _≤_, _<_, min}
 use native.Mathlib.Nat.{div-one, div-eq-of-lt, zero-lt-suc}
 use native.Mathlib.Numerals.{add-one, one-add}
+use native.Mathlib.Decide.{decLt}
 use native.Mathlib.Omega.{arith}
 use lib.Pow.{pow-pos, shr-shr, mod-mod-pow, field}
 use lib.ListN.{length, getD, take, drop, length-append, length-take, take-append-drop, List·getD-append}
-use lib.Seq.{getD-append-seam, getD-take, length-take-le, take-all, take-take}
+use lib.Seq.{getD-append-seam, getD-append-add, getD-take, length-take-le, take-all, take-take}
 use Rattle.span.specs.Word.{_⊕_, odd, bit, sel}
 use Rattle.span.specs.Combination.{combination, Below, counted}
 use Rattle.span.specs.Laws.{COMBINATION-LINEAR}
@@ -142,3 +143,16 @@ counted-take n ws =
 pub below-left : (N : ℕ) (us vs : List ℕ) → Below N (us ++ vs) → Below N us
 below-left N us vs h i l =
     subst (λ (x : ℕ). x < 2 ^ N) (List·getD-append us vs 0 i l) (h i (rw (length-append us vs) (omega arith)))
+
+-- and so are those of two lists, one after the other
+pub below-append : (N : ℕ) (us vs : List ℕ) → Below N us → Below N vs → Below N (us ++ vs)
+below-append N us vs f g i h = go (decLt i (length us))
+  where
+    go : Dec (i < length us) → getD (us ++ vs) i 0 < 2 ^ N
+    go (yes l) = rw (List·getD-append us vs 0 i l) (f i l)
+    go (no l) =
+        let e : i ≡ length us + (i - length us) = omega arith in
+        let s = length-append us vs in
+        subst (λ (z : ℕ). z < 2 ^ N)
+        (sym (ap (λ (j : ℕ). getD (us ++ vs) j 0) e ∙ getD-append-add us vs (i - length us) 0))
+        (g (i - length us) (omega arith))

@@ -13,7 +13,7 @@ use Rattle.span.proofs.Masks.{masked-low}
 use Rattle.load.specs.declared.generator.Draw.{Draw}
 use Rattle.load.specs.Draws.{nextState}
 use Rattle.load.specs.Load.{after, errors}
-use Rattle.load.proofs.Stored.{stored, stored-next, stored-all}
+use Rattle.span.proofs.Stored.{stored, stored-next, stored-all}
 use Rattle.load.proofs.Load.{length-errors, errors-at, after-next}
 use Rattle.load.proofs.fill.fill_errors.Statement.{statement}
 use Rattle.load.proofs.fill.fill_errors.Tie as tie

@@ -6,7 +6,7 @@ use native.Mathlib.Omega.{arith}
 use borrow.Author.Needs.{needs}
 use lib.ListN.{length, set, replicate, length-set, length-replicate}
 use Rattle.tables.proofs.Fit.{zeros-at}
-use Rattle.load.proofs.Stored.{stored, stored-next, stored-all}
+use Rattle.span.proofs.Stored.{stored, stored-next, stored-all}
 use Rattle.load.proofs.fill.fill_gap.Statement.{statement}
 use Rattle.load.proofs.fill.fill_gap.Tie as tie
 

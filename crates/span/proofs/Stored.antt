@@ -2,27 +2,18 @@
 -- it was. Assumes nothing.
 --
 --   stored s d i   the first i elements of s, and then those of d past them
---   stored-none    at first
 --   stored-next    a turn's store
 --   stored-all     at the end
---   stored-size    the length does not change
-use mathlib.Core.Path.{_≡_, refl, sym, ap, _∙_}
-use mathlib.Core.List.{List, [], _∷_, _++_, append-nil, append-assoc}
-use Prim.Native.Nat.{ℕ, suc, _+_, _≤_, _<_}
+use mathlib.Core.Path.{_≡_, sym, ap, _∙_}
+use mathlib.Core.List.{List, [], _∷_, _++_, append-nil}
+use Prim.Native.Nat.{ℕ, suc, _+_, _<_}
 use native.Mathlib.Numerals.{add-one}
 use native.Mathlib.Omega.{arith}
-use lib.ListN.{length, getD, set, take, drop, length-append, length-drop, drop-of-length-le}
+use lib.ListN.{length, getD, set, take, drop, drop-of-length-le}
 use lib.Seq.{drop-cons, set-at, take-suc, take-all, length-take-le, append-snoc}
 
 abbrev pub stored : List ℕ → List ℕ → ℕ → List ℕ
 stored s d i = take i s ++ drop i d
-
-pub stored-size : (s d : List ℕ) (i : ℕ) → i ≤ length s → i ≤ length d → length (stored s d i) ≡ length d
-stored-size s d i hs hd =
-    let e = length-append (take i s) (drop i d) in
-    let f = length-take-le i s hs in
-    let g = length-drop i d in
-    omega arith
 
 pub stored-next : (s d : List ℕ) (i v : ℕ) → i < length s → i < length d → v ≡ getD s i 0
     → set (stored s d i) i v ≡ stored s d (i + 1)
