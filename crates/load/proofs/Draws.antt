@@ -1,38 +1,34 @@
--- No draw leads from a state that is not 0 to 0: a shift that leaves a number as it was leaves 0 only. Assumes nothing.
+-- The generator: its three shifts as the code has them, and no draw leads from a state that is not 0 to 0, since a shift
+-- leaves no number as it was but 0. Assumes nothing.
 --
---   left-fixed, right-fixed   a number that a shift leaves as it was
---   never-zero                the theorem
+--   draw-code    the state after a draw, in the code
+--   never-zero   the theorem
 use mathlib.Core.Path.{_≡_, ap, _∙_}
-use Prim.Native.Nat.{ℕ, zero, suc, _+_, _-_, _*_, _/_, _%_, _^_, _≤_, _<_}
-use native.Mathlib.Nat.{zero-mul, div-le-self}
-use native.Mathlib.Decide.{decLt}
+use Prim.Native.Nat.{ℕ, _*_, _/_, _%_, _^_, _≤_, _<_}
+use native.Mathlib.Nat.{div-le-self}
 use native.Mathlib.Omega.{arith}
-use Rattle.span.specs.Word.{shifted}
-use Rattle.span.proofs.Word.{xor-eq, xor-lt, shifted-lt, shifted-mod, shifted-past}
+use lib.Bits.{bitXor}
+use Rattle.span.specs.Word.{_⊕_, shifted}
+use Rattle.span.proofs.Word.{xor-code, xor-eq, xor-lt, shifted-code, shifted-lt, shifted-fixed}
 use Rattle.load.specs.Draws.{leftXor, rightXor, nextState, NEVER-ZERO}
 
--- what stands below bit N − k of y is left as it was in N − k bits
-left-lower : (N k y : ℕ) → k < N → y ≡ shifted N k y
-    → let z = y % 2 ^ (N - k) in (y ≡ z * 2 ^ k) × (z ≡ shifted (N - k) k z)
-unfolding shifted
-left-lower N k y h e =
-    let all : N ≡ N - k + k = omega arith in
-    let whole : y ≡ y % 2 ^ (N - k) * 2 ^ k = e ∙ ap (λ (j : ℕ). shifted j k y) all ∙ shifted-mod (N - k) k y in
-    (whole, ap (λ (x : ℕ). x % 2 ^ (N - k)) whole)
+abbrev leftCode : ℕ → ℕ → ℕ
+leftCode k x = bitXor x (x * 2 ^ k % 2 ^ 32)
 
-left-fixed : (most N k y : ℕ) → N ≤ most → 1 ≤ k → y ≡ shifted N k y → y ≡ 0
-left-fixed zero N k y few some e = e ∙ shifted-past N k y (omega arith)
-left-fixed (suc most) N k y few some e = go (left-fixed most (N - k) k (y % 2 ^ (N - k))) (decLt k N)
-  where
-    go : (N - k ≤ most → 1 ≤ k → y % 2 ^ (N - k) ≡ shifted (N - k) k (y % 2 ^ (N - k)) → y % 2 ^ (N - k) ≡ 0)
-        → Dec (k < N) → y ≡ 0
-    go lower (no h) = e ∙ shifted-past N k y (omega arith)
-    go lower (yes h) =
-        let z = left-lower N k y h e in
-        z .0 ∙ ap (λ (x : ℕ). x * 2 ^ k) (lower (omega arith) some (z .1)) ∙ zero-mul (2 ^ k)
+abbrev rightCode : ℕ → ℕ → ℕ
+rightCode k x = bitXor x (x / 2 ^ k)
+
+left-code : (k x : ℕ) → leftCode k x ≡ leftXor k x
+left-code k x = xor-code x (x * 2 ^ k % 2 ^ 32) ∙ ap (λ (y : ℕ). x ⊕ y) (shifted-code 32 k x)
+
+pub draw-code : (x : ℕ) → leftCode 5 (rightCode 17 (leftCode 13 x)) ≡ nextState x
+unfolding nextState
+draw-code x =
+    ap (λ (a : ℕ). leftCode 5 (rightCode 17 a)) (left-code 13 x)
+    ∙ ap (leftCode 5) (xor-code (leftXor 13 x) (leftXor 13 x / 2 ^ 17)) ∙ left-code 5 (rightXor 17 (leftXor 13 x))
 
 left-zero : (k x : ℕ) → 1 ≤ k → leftXor k x ≡ 0 → x ≡ 0
-left-zero k x some e = left-fixed 32 32 k x (omega arith) some (xor-eq x (shifted 32 k x) e)
+left-zero k x some e = shifted-fixed 32 k x some (xor-eq x (shifted 32 k x) e)
 
 right-zero : (x : ℕ) → rightXor 17 x ≡ 0 → x ≡ 0
 right-zero x e = let same = xor-eq x (x / 2 ^ 17) e in omega arith

@@ -8,6 +8,7 @@ use Prim.Native.Nat.{ℕ, zero, suc, _+_, _-_, _*_, _/_, _%_, _^_, _≤_, _<_}
 use native.Mathlib.Nat.{add-zero, add-comm, zero-mul, one-mul, mul-assoc, mul-mod-left, suc-mul, zero-mod, mod-mod}
 use native.Mathlib.Nat.{mod-lt, div-one, div-eq-of-lt, div-eq-of-lt-le}
 use native.Mathlib.Numerals.{add-one, one-add}
+use native.Mathlib.Decide.{decLt}
 use native.Mathlib.Omega.{arith}
 use borrow.Author.Tests.{eq-eqb, ne-eqb, eqb-true, eqb-false}
 use lib.Arith.{bin-ind, lt-one}
@@ -311,6 +312,11 @@ pub xor-mod : (a b k : ℕ) → (a ⊕ b) % 2 ^ k ≡ a % 2 ^ k ⊕ b % 2 ^ k
 unfolding _⊕_
 xor-mod a b k = Bits.xor-mod a b k
 
+-- a shift in the code
+pub shifted-code : (N l a : ℕ) → a * 2 ^ l % 2 ^ N ≡ shifted N l a
+unfolding shifted
+shifted-code N l a = refl
+
 pub shifted-zero : (N l : ℕ) → shifted N l 0 ≡ 0
 unfolding shifted
 shifted-zero N l = rw (zero-mul (2 ^ l)) (zero-mod (2 ^ N))
@@ -345,6 +351,30 @@ shifted-past N l a h =
     ∙ ap (λ (x : ℕ). a * x % 2 ^ N) (pow-add 2 (l - N) N)
     ∙ ap (λ (x : ℕ). x % 2 ^ N) (sym (mul-assoc a (2 ^ (l - N)) (2 ^ N)))
     ∙ mul-mod-left (a * 2 ^ (l - N)) (2 ^ N)
+
+-- what stands below bit N − l of a number that a shift leaves as it was is left so in N − l bits
+shifted-lower : (N l a : ℕ) → l < N → a ≡ shifted N l a
+    → let b = a % 2 ^ (N - l) in (a ≡ b * 2 ^ l) × (b ≡ shifted (N - l) l b)
+unfolding shifted
+shifted-lower N l a h e =
+    let all : N ≡ N - l + l = omega arith in
+    let whole : a ≡ a % 2 ^ (N - l) * 2 ^ l = e ∙ ap (λ (k : ℕ). shifted k l a) all ∙ shifted-mod (N - l) l a in
+    (whole, ap (λ (x : ℕ). x % 2 ^ (N - l)) whole)
+
+fixed-below : (most N l a : ℕ) → N ≤ most → 1 ≤ l → a ≡ shifted N l a → a ≡ 0
+fixed-below zero N l a few some e = e ∙ shifted-past N l a (omega arith)
+fixed-below (suc most) N l a few some e = go (fixed-below most (N - l) l (a % 2 ^ (N - l))) (decLt l N)
+  where
+    go : (N - l ≤ most → 1 ≤ l → a % 2 ^ (N - l) ≡ shifted (N - l) l (a % 2 ^ (N - l)) → a % 2 ^ (N - l) ≡ 0)
+        → Dec (l < N) → a ≡ 0
+    go lower (no h) = e ∙ shifted-past N l a (omega arith)
+    go lower (yes h) =
+        let b = shifted-lower N l a h e in
+        b .0 ∙ ap (λ (x : ℕ). x * 2 ^ l) (lower (omega arith) some (b .1)) ∙ zero-mul (2 ^ l)
+
+-- a shift leaves no number as it was but 0
+pub shifted-fixed : (N l a : ℕ) → 1 ≤ l → a ≡ shifted N l a → a ≡ 0
+shifted-fixed N l a = fixed-below N N l a (omega arith)
 
 -- ---- parity with a fixed word
 
