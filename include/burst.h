@@ -13,7 +13,8 @@
  * and has behind it as many elements as the number after it says, a length, a count or a room (18 for a table); what a
  * call writes overlaps nothing else that it is handed; and until it returns no other thread writes what it is handed,
  * nor reads what it writes. A block is a uint16_t: a number above 65,535 is cut to its low 16 bits by C before the call,
- * and so is not itself refused. A seed, a uint32_t, is cut to its low 32 bits in the same way.
+ * and so is not itself refused. A seed, a uint32_t, is cut to its low 32 bits in the same way, so that 2^32 is the
+ * seed 0.
  *
  * The code. A block has n symbols (bits): n - 1 of information, symbol j with weight 2^(j-1), and above them the parity,
  * symbol n. N is the decoding span, m the depth: blocks are dealt in turn to m streams. n is 2 to 16, N is 2 to 64, m is
@@ -255,14 +256,16 @@ size_t burst_decode_batch(const uint64_t table[18], uint64_t *words, size_t coun
  *
  * Draws are those of Marsaglia's xorshift32. Its state is 32 bits, at the start the seed. A draw changes it three
  * times, each time to the exclusive or of itself and itself shifted: left by 13, right by 17, left by 5, bits past the
- * 32 dropped. The number drawn is the new state. With d a fresh draw each time, a round is the length of a burst,
- * 1 + (d mod m), then an error d mod 2^n, perhaps 0, for each block of it, then a gap of m * (N - 1) + (d mod 16)
- * zeros. The load is round after round, cut at length, so that a shorter one is the beginning of a longer one.
+ * 32 dropped. The number drawn is the new state; seed 1 draws 270369 first. With d a fresh draw each time, a round draws
+ * the length of a burst, 1 + (d mod m), then an error d mod 2^n, perhaps 0, for each block of it, then the length of a
+ * gap, m * (N - 1) + (d mod 16). Its blocks are these errors, and then as many zeros. The load is round after round, cut
+ * at length, so that a shorter one is the beginning of a longer one.
  *
  * With a table that was read or made, a started decoder that takes a load of it from the first block on refuses no
- * step, and every block that it delivers has the information 0 and is not doubtful. The same errors may be added, by
- * exclusive or, to the coded blocks of any message from a started coder, block by block from the first: then too such a
- * decoder refuses no step, what it delivers is that message, and no block is doubtful.
+ * step, and every block that it delivers has the information 0 and is not doubtful. To have the first k of its blocks
+ * delivered, k + m * (N - 1) are taken. The same errors may be added, by exclusive or, to the coded blocks of any
+ * message from a started coder, block by block from the first: then too such a decoder refuses no step, what it delivers
+ * is that message, as far as its blocks are delivered, and no block is doubtful.
  *
  * Returns 0; or 12 or 17, and then no block is written. The table is only read, and its suitability is not tested.
  */

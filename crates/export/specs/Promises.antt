@@ -1,5 +1,5 @@
--- What the functions that C calls promise, of the table t that the 18 numbers are: the numbers of 01 and 02, in a
--- struct, and every lent word or byte.
+-- What the functions that C calls promise, of the table t that the 18 numbers are: the numbers of 01 and 02, one alone
+-- or some in a struct, and every lent word, byte or block.
 --
 --   Reads bytes r before after   `burst_read`: it answers r, and leaves `after` of the numbers lent for the table
 --   WritesBy t before r after   `burst_write`, on the lent bytes

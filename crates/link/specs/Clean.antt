@@ -49,7 +49,7 @@ Undisturbed t decoder taken p =
     × (mark ≢ Doubtful))
 
 -- For every place at which a block is taken: past m × (N − 1) the step delivers what was sent m × (N − 1) blocks back;
--- up to there, a block that stood in the memory.
+-- up to there, nothing yet, or a block that stood in the memory, as it was. No mark is doubtful.
 abbrev pub EachPlace : Table → List ℕ → List Sent → List Taken → Type 0
 EachPlace t decoder sent taken =
     (p : ℕ) → 1 ≤ p → p ≤ length taken
@@ -61,7 +61,7 @@ CLEAN =
     → BurstsWithin (t .depth) (delayOf t) (sentBy coder cs) (takenBy decoder ds)
     → EachPlace t decoder (sentBy coder cs) (takenBy decoder ds)
 
--- Stronger: any two wrong places stand as two of one burst, or of two bursts, would.
+-- The same where no burst is chosen: any two wrong places stand as two of one burst, or of two bursts, would.
 abbrev pub CLEAN-SEPARATED : Type 0
 CLEAN-SEPARATED =
     (t : Table) (coder decoder : List ℕ) (cs ds : List Call) → Running t coder decoder cs ds → Clean t coder decoder

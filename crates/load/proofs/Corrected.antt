@@ -1,7 +1,7 @@
 -- Why a load is corrected: it is errors that are far enough apart, added to a coded message, from started memories on.
 -- Assumes nothing.
 --
---   zeros-coded, faded-message, load-corrected   the theorems
+--   disturbed-message, load-received, load-corrected   the theorems
 use mathlib.Core.Path.{_≡_, refl, sym, ap, _∙_, subst}
 use mathlib.Core.Bool.{true}
 use mathlib.Core.Logic.{_≢_, _⊎_, inl, inr}
@@ -32,7 +32,7 @@ use Rattle.link.proofs.Clean.{clean-separated, started-clean}
 use Rattle.link.proofs.Taken.{OneEach, none-refused, sent-each, taken-each}
 use Rattle.link.proofs.Sums.{zip-size, blocks-at, blocks-below, coded-form-below, coded-forms-add}
 use Rattle.load.specs.Load.{loadOf}
-use Rattle.load.specs.Corrected.{takenOf, Corrected, LOAD-CORRECTED, ZEROS-CODED, faded, FADED-MESSAGE}
+use Rattle.load.specs.Corrected.{takenFrom, CorrectedTo, LOAD-CORRECTED, LOAD-RECEIVED, DISTURBED-MESSAGE}
 use Rattle.load.proofs.Load.{zeros-below, load-length, load-below}
 use Rattle.load.proofs.Apart.{Apart, load-apart}
 
@@ -70,7 +70,7 @@ module _ (t : Table) (o : Origin t) (infos errs : List ℕ) (below : Below (t .s
   sent-ones : OneEach (λ (x : Sent). x .table) (λ (x : Sent). x .info) noneSent t infos sent
   sent-ones = sent-each t fits (started (coderWords t)) (started-formed t fits .0) infos below
 
-  taken-ones : OneEach (λ (x : Taken). x .table) (λ (x : Taken). x .block) noneTaken t rs (takenOf t rs)
+  taken-ones : OneEach (λ (x : Taken). x .table) (λ (x : Taken). x .block) noneTaken t rs (takenFrom t rs)
   taken-ones = taken-each t fits (started (decoderWords t)) (started-formed t fits .1) rs received-below
 
   running : Running t (started (coderWords t)) (started (decoderWords t)) (calls t infos) (calls t rs)
@@ -86,14 +86,14 @@ module _ (t : Table) (o : Origin t) (infos errs : List ℕ) (below : Below (t .s
       }
 
   -- a place where the error is 0 is right
-  right : (p : ℕ) → getD errs p 0 ≡ 0 → takenAt (takenOf t rs) (suc p) .block ≡ sentAt sent (suc p) .block
+  right : (p : ℕ) → getD errs p 0 ≡ 0 → takenAt (takenFrom t rs) (suc p) .block ≡ sentAt sent (suc p) .block
   right p none =
       let here : p ≡ suc p - 1 = omega arith in
       taken-ones .blocks p ∙ blocks-at (codedForm t infos) errs (coded-size ∙ sym same) p
       ∙ ap (λ (e : ℕ). getD (codedForm t infos) p 0 ⊕ e) none ∙ xor-zero-r (getD (codedForm t infos) p 0)
       ∙ List·getD-map (λ (x : Sent). x .block) sent p noneSent ∙ ap (λ (k : ℕ). getD sent k noneSent .block) here
 
-  separated : Separated (Wrong sent (takenOf t rs)) (t .depth) (delayOf t) (length (takenOf t rs))
+  separated : Separated (Wrong sent (takenFrom t rs)) (t .depth) (delayOf t) (length (takenFrom t rs))
   separated zero q from l h u v = absurd (omega arith)
   separated (suc p) zero from l h u v = absurd (omega arith)
   separated (suc p) (suc q) from l h u v =
@@ -108,7 +108,7 @@ module _ (t : Table) (o : Origin t) (infos errs : List ℕ) (below : Below (t .s
       let here : q - 1 ≡ suc (q - 1) - 1 = omega arith in
       ap (λ (k : ℕ). getD sent k noneSent .info) here ∙ sent-ones .blocks (q - 1)
 
-  corrected : Corrected t rs (λ (p : ℕ). getD infos (p - 1) 0)
+  corrected : CorrectedTo t rs (λ (p : ℕ). getD infos (p - 1) 0)
   corrected =
       let decoder = started (decoderWords t) in
       let size = taken-ones .size in
@@ -117,17 +117,17 @@ module _ (t : Table) (o : Origin t) (infos errs : List ℕ) (below : Below (t .s
         none-refused = none-refused t decoder rs fits .1 (started-formed t fits .1) .0 .0 received-below;
         all-taken = size;
         waits = λ p from to few. waiting t decoder (calls t rs) (taken-ones .tables) p from (omega arith) (omega arith);
-        delivers = λ p to late.
+        deliveries = λ p to late.
             let r =
             clean-separated t (started (coderWords t)) decoder (calls t infos) (calls t rs) running
             (started-clean t fits) separated p (omega arith) (omega arith) .0 late in
-            delivered-as (takenAt (takenOf t rs) p .answer) _ _ (sent-info (p - delayOf t)) r;
+            delivered-as (takenAt (takenFrom t rs) p .answer) _ _ (sent-info (p - delayOf t)) r;
       }
 
 -- ---- the theorems
 
-pub faded-message : FADED-MESSAGE
-faded-message t seed infos o below =
+pub disturbed-message : DISTURBED-MESSAGE
+disturbed-message t seed infos o below =
     let fits = origin-known t o .fits in
     corrected t o infos (loadOf t seed (length infos)) below
     (load-below (t .symbols) (t .depth) (delayOf t) seed (length infos))
@@ -147,7 +147,7 @@ zeros-add xs =
     ∙ xor-zero-l (getD xs i 0))
 
 -- zeros are the exclusive or of zeros and zeros, and what is added to itself is 0
-pub zeros-coded : ZEROS-CODED
+zeros-coded : (t : Table) (k : ℕ) → fit t ≡ true → codedForm t (zeros k) ≡ zeros k
 zeros-coded t k known =
     let below = zeros-below (t .symbols - 1) k in
     let form = codedForm t (zeros k) in
@@ -161,23 +161,28 @@ zeros-coded t k known =
     ∙ ap (λ (l : List ℕ). getD l i 0) (coded-forms-add t known (zeros k) (zeros k) refl below below)
     ∙ blocks-at form form refl i ∙ xor-self (getD form i 0) ∙ sym (zeros-at k i))
 
-pub load-corrected : LOAD-CORRECTED
-load-corrected t seed k o =
-    let known = origin-known t o .fits in
+pub load-received : LOAD-RECEIVED
+load-received t seed k known =
     let long = length-replicate {A = ℕ} k 0 in
     let blocks = loadOf t seed k in
-    let size = load-length (t .symbols) (t .depth) (delayOf t) seed k in
-    let same : faded t seed (zeros k) ≡ blocks =
-    ap (λ (j : ℕ). zipWith _⊕_ (codedForm t (zeros k)) (loadOf t seed j)) long
-    ∙ ap (λ (l : List ℕ). zipWith _⊕_ l blocks) (zeros-coded t k known ∙ ap zeros (sym size)) ∙ zeros-add blocks in
+    let size = load-length (t .symbols) (t .depth) (delayOf t) seed k in (
+      zeros-coded t k known,
+      ap (λ (j : ℕ). zipWith _⊕_ (codedForm t (zeros k)) (loadOf t seed j)) long
+          ∙ ap (λ (l : List ℕ). zipWith _⊕_ l blocks) (zeros-coded t k known ∙ ap zeros (sym size))
+          ∙ zeros-add blocks,
+    )
+
+pub load-corrected : LOAD-CORRECTED
+load-corrected t seed k o =
     let c =
-    subst (λ (rs : List ℕ). Corrected t rs (λ (p : ℕ). getD (zeros k) (p - 1) 0)) same
-    (faded-message t seed (zeros k) o (zeros-below (t .symbols - 1) k)) in
+    subst (λ (rs : List ℕ). CorrectedTo t rs (λ (p : ℕ). getD (zeros k) (p - 1) 0))
+    (load-received t seed k (origin-known t o .fits) .1)
+    (disturbed-message t seed (zeros k) o (zeros-below (t .symbols - 1) k)) in
     record {
       none-refused = c .none-refused;
       all-taken = c .all-taken;
       waits = c .waits;
-      delivers = λ p to late.
-          delivered-as (takenAt (takenOf t blocks) p .answer) _ 0 (zeros-at k (p - delayOf t - 1))
-          (c .delivers p to late);
+      deliveries = λ p to late.
+          delivered-as (takenAt (takenFrom t (loadOf t seed k)) p .answer) _ 0 (zeros-at k (p - delayOf t - 1))
+          (c .deliveries p to late);
     }

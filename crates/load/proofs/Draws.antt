@@ -3,14 +3,15 @@
 --
 --   draw-code    the state after a draw, in the code
 --   never-zero   the theorem
-use mathlib.Core.Path.{_≡_, ap, _∙_}
-use Prim.Native.Nat.{ℕ, _*_, _/_, _%_, _^_, _≤_, _<_}
+use mathlib.Core.Path.{_≡_, refl, ap, _∙_}
+use mathlib.Core.Logic.{_≢_}
+use Prim.Native.Nat.{ℕ, zero, suc, _*_, _/_, _%_, _^_, _≤_, _<_}
 use native.Mathlib.Nat.{div-le-self}
 use native.Mathlib.Omega.{arith}
 use lib.Bits.{bitXor}
 use Rattle.span.specs.Word.{_⊕_, shifted}
-use Rattle.span.proofs.Word.{xor-code, xor-eq, xor-lt, shifted-code, shifted-lt, shifted-fixed}
-use Rattle.load.specs.Draws.{leftXor, rightXor, nextState, NEVER-ZERO}
+use Rattle.span.proofs.Word.{xor-code, xor-zero-l, xor-eq, xor-lt, shifted-code, shifted-zero, shifted-lt, shifted-fixed}
+use Rattle.load.specs.Draws.{leftXor, rightXor, nextState, after, NEVER-ZERO}
 
 abbrev leftCode : ℕ → ℕ → ℕ
 leftCode k x = bitXor x (x * 2 ^ k % 2 ^ 32)
@@ -39,11 +40,32 @@ left-lt k x h = xor-lt 32 x (shifted 32 k x) h (shifted-lt 32 k x)
 right-lt : (k x : ℕ) → x < 2 ^ 32 → rightXor k x < 2 ^ 32
 right-lt k x h = let l = div-le-self x (2 ^ k) in xor-lt 32 x (x / 2 ^ k) h (omega arith)
 
-pub never-zero : NEVER-ZERO
+next-some : (x : ℕ) → x < 2 ^ 32 → x ≢ 0 → (nextState x < 2 ^ 32) × (nextState x ≢ 0)
 unfolding nextState
-never-zero x h some =
+next-some x h some =
     let a = leftXor 13 x in
     let b = rightXor 17 a in (
       left-lt 5 b (right-lt 17 a (left-lt 13 x h)),
       λ e. some (left-zero 13 x (omega arith) (right-zero a (left-zero 5 b (omega arith) e))),
     )
+
+left-none : (k : ℕ) → leftXor k 0 ≡ 0
+left-none k = ap (λ (x : ℕ). 0 ⊕ x) (shifted-zero 32 k) ∙ xor-zero-l 0
+
+next-none : nextState 0 ≡ 0
+unfolding nextState
+next-none =
+    ap (λ (x : ℕ). leftXor 5 (rightXor 17 x)) (left-none 13) ∙ ap (leftXor 5) (xor-zero-l 0) ∙ left-none 5
+
+after-none : (k : ℕ) → after k 0 ≡ 0
+unfolding after
+after-none zero = refl
+after-none (suc k) = ap (after k) next-none ∙ after-none k
+
+after-some : (k x : ℕ) → x < 2 ^ 32 → x ≢ 0 → (after k x < 2 ^ 32) × (after k x ≢ 0)
+unfolding after
+after-some zero x h some = (h, some)
+after-some (suc k) x h some = let n = next-some x h some in after-some k (nextState x) (n .0) (n .1)
+
+pub never-zero : NEVER-ZERO
+never-zero = (after-none, after-some)

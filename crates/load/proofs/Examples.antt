@@ -12,8 +12,8 @@ use Rattle.link.specs.Refusals.{answered, leaves, stepFault, someAbove, decoder
 use Rattle.link.specs.Decoder.{decoderJoining, decoderRegister, decoderFound, partNext, decoderNext, delivered}
 use Rattle.link.specs.Decoder.{delivery, decodeAnswer, decodeMemory}
 use Rattle.link.specs.Computed.{answersBy}
-use Rattle.load.specs.Draws.{nextState}
-use Rattle.load.specs.Load.{after, errors, rounds, load}
+use Rattle.load.specs.Draws.{nextState, after}
+use Rattle.load.specs.Load.{errors, rounds, load}
 use Rattle.load.specs.Examples.{FIRST-DRAW, FIRST-BLOCKS, FIRST-MARKS}
 
 pub first-draw : FIRST-DRAW
@@ -25,7 +25,7 @@ unfolding nextState shifted _⊕_ after errors rounds load making sizesFit madeT
 first-blocks = refl
 
 pub first-marks : FIRST-MARKS
-unfolding answersBy decodeAnswer decodeMemory decoderFault answered leaves stepFault firstOf fit sizesFit rowsFit
+unfolding nextState shifted after errors rounds load answersBy decodeAnswer decodeMemory decoderFault answered leaves stepFault firstOf fit sizesFit rowsFit
     columns upper madeRow madeRows madeTable making someAbove decoderJoining decoderRegister decoderFound partNext
     decoderNext delivered delivery joining leastFrom leastCoefficients combination bit odd xor _⊕_
 first-marks = refl

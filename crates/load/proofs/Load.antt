@@ -19,8 +19,8 @@ use lib.Seq.{take-append-le, take-append-add, take-take, take-all, length-take-l
 use Rattle.span.specs.Combination.{Below}
 use Rattle.span.proofs.Combination.{below-append}
 use Rattle.tables.proofs.Fit.{zeros-at}
-use Rattle.load.specs.Draws.{nextState}
-use Rattle.load.specs.Load.{after, errors, burstLength, gapLength, afterRound, round, rounds, load, LOAD-LENGTH}
+use Rattle.load.specs.Draws.{nextState, after}
+use Rattle.load.specs.Load.{errors, burstLength, gapLength, afterRound, round, rounds, load, LOAD-LENGTH}
 use Rattle.load.specs.Load.{LOAD-ROUNDS, LOAD-CUT, LOAD-BELOW}
 
 -- ---- a burst

@@ -2,18 +2,22 @@
 use Rattle.load.specs.Main.{TEST-LOAD}
 use Rattle.load.proofs.Draws.{never-zero}
 use Rattle.load.proofs.Load.{load-length, load-rounds, load-cut, load-below}
-use Rattle.load.proofs.Filling.{load-calls}
-use Rattle.load.proofs.Corrected.{zeros-coded, load-corrected, faded-message}
+use Rattle.load.proofs.Filling.{load-calls, load-rows}
+use Rattle.load.proofs.Corrected.{load-received, load-corrected, disturbed-message}
+use Rattle.load.proofs.Examples.{first-draw, first-blocks}
 
 pub test-load : TEST-LOAD
 test-load = record {
   load-calls = load-calls;
+  load-rows = load-rows;
   never-zero = never-zero;
   load-length = load-length;
   load-rounds = load-rounds;
   load-cut = load-cut;
   load-below = load-below;
-  zeros-coded = zeros-coded;
+  load-received = load-received;
   load-corrected = load-corrected;
-  faded-message = faded-message;
+  disturbed-message = disturbed-message;
+  first-draw = first-draw;
+  first-blocks = first-blocks;
 }

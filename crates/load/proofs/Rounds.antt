@@ -12,8 +12,8 @@ use native.Mathlib.Omega.{arith}
 use borrow.Rule.Slice.PartMut.{putMid, post-is}
 use lib.ListN.{length, take, drop, replicate, length-append, length-replicate, length-take}
 use lib.Seq.{take-all, take-at, drop-at, length-take-le, take-append-add}
-use Rattle.load.specs.Draws.{nextState}
-use Rattle.load.specs.Load.{after, errors, burstLength, gapLength, afterRound, round, load}
+use Rattle.load.specs.Draws.{nextState, after}
+use Rattle.load.specs.Load.{errors, burstLength, gapLength, afterRound, round, load}
 use Rattle.load.proofs.Load.{length-errors, errors-cut, length-round, take-append, load-round}
 
 take-zeros : (j k i : ℕ) → i ≡ min j k → take j (replicate {A = ℕ} k 0) ≡ replicate i 0

@@ -1,12 +1,13 @@
 -- 02, CR 8: "With an accepted or made table, a load begun on a started decoder is corrected completely, as far as its
 -- blocks are delivered." So it is if its errors are added to any other coded message than that of zeros.
 --
---   Corrected t rs info   on a started decoder none of the blocks rs is refused, and once its delay is over it delivers
---                         at place p what `info` says of the place m × (N − 1) back, never marked doubtful
---   LOAD-CORRECTED        a load delivers zeros so
---   ZEROS-CODED           zeros are the coded form of zeros, so that a load is that message as received
---   faded t seed infos    the coded form of a message as received, with the errors of a load
---   FADED-MESSAGE         it delivers that message so
+--   takenFrom t rs        what a started decoder takes of the blocks rs, and answers
+--   CorrectedTo t rs info it refuses none of them, answers nothing yet while its delay lasts, and then delivers at place
+--                         p what `info` says of the place m × (N − 1) back, never marked doubtful
+--   LOAD-CORRECTED        so it is of a load, with information 0
+--   disturbed t seed infos   the coded form of a message as received, with the errors of a load
+--   LOAD-RECEIVED         zeros are coded as zeros, and a load is the coded form of zeros as received
+--   DISTURBED-MESSAGE     a message so disturbed is delivered
 use mathlib.Core.Path.{_≡_}
 use mathlib.Core.Bool.{true}
 use mathlib.Core.Logic.{_≢_}
@@ -29,31 +30,33 @@ use Rattle.link.specs.Computed.{calls}
 use Rattle.link.specs.Sums.{NoneRefused, codedForm}
 use Rattle.load.specs.Load.{loadOf}
 
--- places count from 1, and each block has one, since no step is refused
-abbrev pub takenOf : Table → List ℕ → List Taken
-takenOf t rs = takenBy (started (decoderWords t)) (calls t rs)
+-- places count from 1; each block has one where no step is refused
+abbrev pub takenFrom : Table → List ℕ → List Taken
+takenFrom t rs = takenBy (started (decoderWords t)) (calls t rs)
 
-pub record Corrected (t : Table) (rs : List ℕ) (info : ℕ → ℕ) : Type 0 where
+pub record CorrectedTo (t : Table) (rs : List ℕ) (info : ℕ → ℕ) : Type 0 where
   pub none-refused : NoneRefused decoderFault decodeMemory (started (decoderWords t)) (calls t rs)
-  pub all-taken : length (takenOf t rs) ≡ length rs
-  pub waits : (p : ℕ) → 1 ≤ p → p ≤ length rs → p ≤ delayOf t → takenAt (takenOf t rs) p .answer ≡ NothingYet
-  pub delivers : (p : ℕ) → p ≤ length rs → delayOf t < p
+  pub all-taken : length (takenFrom t rs) ≡ length rs
+  pub waits : (p : ℕ) → 1 ≤ p → p ≤ length rs → p ≤ delayOf t → takenAt (takenFrom t rs) p .answer ≡ NothingYet
+  pub deliveries : (p : ℕ) → p ≤ length rs → delayOf t < p
       → (mark : Mark)
-      × (takenAt (takenOf t rs) p .answer ≡ Delivery (record { info = info (p - delayOf t); mark = mark }))
+      × (takenAt (takenFrom t rs) p .answer ≡ Delivery (record { info = info (p - delayOf t); mark = mark }))
       × (mark ≢ Doubtful)
 
 -- every seed, also 0, of which no call fills a load, and every length
 abbrev pub LOAD-CORRECTED : Type 0
-LOAD-CORRECTED = (t : Table) (seed k : ℕ) → Origin t → Corrected t (loadOf t seed k) (λ (p : ℕ). 0)
+LOAD-CORRECTED = (t : Table) (seed k : ℕ) → Origin t → CorrectedTo t (loadOf t seed k) (λ (p : ℕ). 0)
+
+abbrev pub disturbed : Table → ℕ → List ℕ → List ℕ
+disturbed t seed infos = zipWith _⊕_ (codedForm t infos) (loadOf t seed (length infos))
 
 -- "The load is the all-zero message as received: each number is the error block"
-abbrev pub ZEROS-CODED : Type 0
-ZEROS-CODED = (t : Table) (k : ℕ) → fit t ≡ true → codedForm t (replicate k 0) ≡ replicate k 0
+abbrev pub LOAD-RECEIVED : Type 0
+LOAD-RECEIVED =
+    (t : Table) (seed k : ℕ) → fit t ≡ true
+    → (codedForm t (replicate k 0) ≡ replicate k 0) × (disturbed t seed (replicate k 0) ≡ loadOf t seed k)
 
-abbrev pub faded : Table → ℕ → List ℕ → List ℕ
-faded t seed infos = zipWith _⊕_ (codedForm t infos) (loadOf t seed (length infos))
-
-abbrev pub FADED-MESSAGE : Type 0
-FADED-MESSAGE =
+abbrev pub DISTURBED-MESSAGE : Type 0
+DISTURBED-MESSAGE =
     (t : Table) (seed : ℕ) (infos : List ℕ) → Origin t → Below (t .symbols - 1) infos
-    → Corrected t (faded t seed infos) (λ (p : ℕ). getD infos (p - 1) 0)
+    → CorrectedTo t (disturbed t seed infos) (λ (p : ℕ). getD infos (p - 1) 0)

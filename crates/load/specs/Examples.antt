@@ -1,9 +1,9 @@
--- Seed 1, worked out by hand.
+-- Seed 1, worked out.
 --
 --   FIRST-DRAW     "seed 1 draws 270369 first"
 --   smallTable     the made table for n = 2 and m = 3
---   FIRST-BLOCKS   the first 31 blocks of its load of that table
---   FIRST-MARKS    what a started decoder answers to them
+--   FIRST-BLOCKS   the first 53 blocks of its load of that table
+--   FIRST-MARKS    what a started decoder answers to the first 31 of them
 use mathlib.Core.Path.{_≡_}
 use mathlib.Core.List.{List, [], _∷_, _++_}
 use Prim.Native.Nat.{ℕ}
@@ -18,8 +18,9 @@ use Rattle.link.specs.Sums.{answersTo}
 use Rattle.load.specs.Draws.{drawn}
 use Rattle.load.specs.Load.{loadOf}
 
--- 1 shifted left by 13 is 8192, added to 1: 8193. Shifted right by 17 that is 0. Shifted left by 5 it is 262176: added,
--- 270369, as 262176 is 2^18 + 2^5 and 8193 is 2^13 + 1.
+-- 1 shifted left by 13 is 8192; the exclusive or with 1 is 8193. Shifted right by 17 that is 0, and so it stays.
+-- Shifted left by 5 it is 262176, 2^18 + 2^5; it has no one in common with 8193, 2^13 + 1, so that the exclusive or is
+-- the sum, 270369.
 abbrev pub FIRST-DRAW : Type 0
 FIRST-DRAW =
     drawn (record { state = 1 }) ≡ record { number = 270369; next = record { state = 270369 } }
@@ -37,19 +38,26 @@ smallTable = making 2 3 .table
 --   745495504    mod 4 is 0: a right block within a burst
 --   632435482    mod 4 is 2
 --   435756210    mod 16 is 2: a gap of 11
---   2005365029   mod 3 is 2: a burst of 3, of which two blocks stand before the end
+--   2005365029   mod 3 is 2: a burst of 3
 --   2916098932   mod 4 is 0
 --   2657092299   mod 4 is 3
+--   1495045943   mod 4 is 3
+--   3031976842   mod 16 is 10: a gap of 19
+--   82049198     mod 3 is 2: a burst of 3, of which two blocks stand before the end
+--   87470069     mod 4 is 1
+--   3385103793   mod 4 is 1
 abbrev pub firstBlocks : List ℕ
-firstBlocks = 1 ∷ (replicate 14 0 ++ (1 ∷ 0 ∷ 2 ∷ (replicate 11 0 ++ (0 ∷ 3 ∷ []))))
+firstBlocks =
+    1 ∷ (replicate 14 0 ++ (1 ∷ 0 ∷ 2 ∷ (replicate 11 0 ++ (0 ∷ 3 ∷ 3 ∷ (replicate 19 0 ++ (1 ∷ 1 ∷ []))))))
 
 abbrev pub FIRST-BLOCKS : Type 0
-FIRST-BLOCKS = loadOf smallTable 1 31 ≡ firstBlocks
+FIRST-BLOCKS = loadOf smallTable 1 53 ≡ firstBlocks
 
--- Row 1 is 10, so that the images are 0, 10, 1, 11. Block 0, with its first symbol wrong, is delivered after 9 blocks:
--- the terms of its stream are 0, 1, 0, 1 then. Of block 15 the same terms come with blocks 15, 18, 21 and 24, and while
--- they move down blocks 9 and 12 of that stream are delivered, held. Of block 17, with its parity wrong, they are 1, 0,
--- 0, 0; blocks 8, 11 and 14 are held before it. Block 30 is in its stream's register only, and holds block 21.
+-- Row 1 is 10, so that the images are 0, 10, 1, 11. Blocks are counted from 0 here. Block 0, with its first symbol
+-- wrong, is delivered with block 9: the terms of its stream are 0, 1, 0, 1 then. Of block 15 the same terms come with
+-- blocks 15, 18, 21 and 24, and while they move down blocks 9 and 12 of that stream are delivered, held. Of block 17,
+-- with its parity wrong, they are 1, 0, 0, 0; blocks 8, 11 and 14 are held before it. Of block 30 only the first term,
+-- 1, has come, and it holds block 21.
 abbrev pub firstAnswers : List DecodeAnswer
 firstAnswers =
     replicate 9 NothingYet ++ (delivers 0 (Corrected 1) ∷ (replicate 7 (delivers 0 Clean)
@@ -58,4 +66,4 @@ firstAnswers =
     ∷ delivers 0 Clean ∷ delivers 0 Clean ∷ delivers 0 Held ∷ [])))
 
 abbrev pub FIRST-MARKS : Type 0
-FIRST-MARKS = answersTo smallTable firstBlocks ≡ firstAnswers
+FIRST-MARKS = answersTo smallTable (loadOf smallTable 1 31) ≡ firstAnswers

@@ -6,6 +6,7 @@
 --   Loads t seed out r out'   what `fill_load` promises
 --   LOAD-CALLS                a refusal has the number of the first reason that applies, and leaves the lent blocks;
 --                             where none applies they are filled
+--   LOAD-ROWS                 rows past n − 1 do not matter, and of a load no row does
 use mathlib.Core.Path.{_≡_}
 use mathlib.Core.Bool.{cond}
 use mathlib.Core.Logic.{_⊎_}
@@ -14,7 +15,8 @@ use Prim.Native.Nat.{ℕ}
 use lib.Dec.{eqb}
 use lib.ListN.{length}
 use Rattle.tables.specs.declared.table.Table.{Table}
-use Rattle.tables.specs.Table.{fit}
+use Rattle.tables.specs.Table.{fit, SameTable}
+use Rattle.tables.specs.Lent.{withRows}
 use Rattle.link.specs.Refusals.{answered, leaves, callNumbers}
 use Rattle.load.specs.declared.fill.LoadAnswer.{LoadAnswer}
 use Rattle.load.specs.declared.fill.LoadAnswer.the-variants.{Filled, Refused}
@@ -45,3 +47,10 @@ LOAD-CALLS =
     (t : Table) (seed : ℕ) (out : List ℕ) (r : LoadAnswer) (out' : List ℕ) → Loads t seed out r out'
     → ((k : ℕ) → r ≡ Refused k → (k ≡ loadFault t seed) × ((k ≡ 12) ⊎ (k ≡ 17)) × (out' ≡ out))
     × (loadFault t seed ≡ 0 → (r ≡ Filled) × (out' ≡ loadOf t seed (length out)))
+
+-- the rows 1 to n − 1 count for 12 only
+abbrev pub LOAD-ROWS : Type 0
+LOAD-ROWS =
+    ((u t : Table) → SameTable u t → (seed : ℕ) (out : List ℕ)
+    → (loadAnswer u seed ≡ loadAnswer t seed) × (loadBlocks u seed out ≡ loadBlocks t seed out))
+    × ((t : Table) (rows : List ℕ) (seed k : ℕ) → loadOf (withRows t rows) seed k ≡ loadOf t seed k)

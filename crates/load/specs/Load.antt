@@ -1,20 +1,19 @@
 -- 02, CR 8: the load as a list. "The load is the all-zero message as received: each number is the error block, 0 for a
 -- right one." Of a table its n, its m and the guard m × (N − 1) count; x is the state of the generator.
 --
---   after k x            the state after k draws
---   errors n k x         the errors of k blocks
---   burstLength m x      the blocks of a round's burst
---   burstEnd m x         the state after its errors are drawn
---   gapLength m guard x  the blocks of its gap
---   afterRound m x       the state after the round
---   round n m guard x    the round
---   rounds n m guard k x k rounds
+--   errors n k x            the errors of k blocks
+--   burstLength m x         how many blocks a round's burst has
+--   afterBurst m x          the state after its errors are drawn
+--   gapLength m guard x     how many blocks its gap has
+--   afterRound m x          the state after the round
+--   round n m guard x       the blocks of a round
+--   rounds n m guard k x    those of k rounds
 --   load n m guard seed k   the first k blocks of the rounds from a seed on
---   loadOf t seed k      the same of a table
---   LOAD-LENGTH          a load has the length that is asked for
---   LOAD-ROUNDS          it is the first blocks of any rounds that are enough
---   LOAD-CUT             a shorter load is the beginning of a longer one
---   LOAD-BELOW           its blocks are below 2^n
+--   loadOf t seed k         the same of a table
+--   LOAD-LENGTH             a load has the length that is asked for
+--   LOAD-ROUNDS             it is the first blocks of any rounds that are enough
+--   LOAD-CUT                a shorter load is the beginning of a longer one
+--   LOAD-BELOW              its blocks are below 2^n
 use mathlib.Core.Path.{_≡_}
 use mathlib.Core.List.{List, [], _∷_, _++_}
 use Prim.Native.Nat.{ℕ, zero, suc, _+_, _%_, _^_, _≤_}
@@ -22,11 +21,7 @@ use lib.ListN.{length, take, replicate}
 use Rattle.span.specs.Combination.{Below}
 use Rattle.tables.specs.declared.table.Table.{Table}
 use Rattle.link.specs.Memory.{delayOf}
-use Rattle.load.specs.Draws.{nextState}
-
-unfoldable pub after : ℕ → ℕ → ℕ
-after zero x = x
-after (suc k) x = after k (nextState x)
+use Rattle.load.specs.Draws.{nextState, after}
 
 -- "an error d mod 2^n for each block of it .. Here d is a fresh draw each time."
 unfoldable pub errors : ℕ → ℕ → ℕ → List ℕ
@@ -38,15 +33,15 @@ abbrev pub burstLength : ℕ → ℕ → ℕ
 burstLength m x = 1 + nextState x % m
 
 -- one draw for the length, and one for each block
-abbrev pub burstEnd : ℕ → ℕ → ℕ
-burstEnd m x = after (burstLength m x) (nextState x)
+abbrev pub afterBurst : ℕ → ℕ → ℕ
+afterBurst m x = after (burstLength m x) (nextState x)
 
 -- "then a gap of m × (N − 1) + (d mod 16) right blocks"
 abbrev pub gapLength : ℕ → ℕ → ℕ → ℕ
-gapLength m guard x = guard + nextState (burstEnd m x) % 16
+gapLength m guard x = guard + nextState (afterBurst m x) % 16
 
 abbrev pub afterRound : ℕ → ℕ → ℕ
-afterRound m x = nextState (burstEnd m x)
+afterRound m x = nextState (afterBurst m x)
 
 abbrev pub round : ℕ → ℕ → ℕ → ℕ → List ℕ
 round n m guard x = errors n (burstLength m x) (nextState x) ++ replicate (gapLength m guard x) 0

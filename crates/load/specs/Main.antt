@@ -4,22 +4,28 @@
 --   TestLoad, TEST-LOAD   the theorems
 use Rattle.load.specs.Draws.{NEVER-ZERO}
 use Rattle.load.specs.Load.{LOAD-LENGTH, LOAD-ROUNDS, LOAD-CUT, LOAD-BELOW}
-use Rattle.load.specs.Filling.{LOAD-CALLS}
-use Rattle.load.specs.Corrected.{LOAD-CORRECTED, ZEROS-CODED, FADED-MESSAGE}
+use Rattle.load.specs.Filling.{LOAD-CALLS, LOAD-ROWS}
+use Rattle.load.specs.Corrected.{LOAD-CORRECTED, LOAD-RECEIVED, DISTURBED-MESSAGE}
+use Rattle.load.specs.Examples.{FIRST-DRAW, FIRST-BLOCKS}
 
 pub record TestLoad : Type 0 where
-  -- a refusal leaves the lent blocks, and where no reason applies they are filled; no draw leads to 0
+  -- a refusal leaves the lent blocks, and where no reason applies they are filled; the rows of a table count for 12
+  -- only; from a state that is not 0 no draw leads to 0
   pub load-calls : LOAD-CALLS
+  pub load-rows : LOAD-ROWS
   pub never-zero : NEVER-ZERO
-  -- a load is as long as it is asked for, whole rounds up to where it is cut, and no decoder refuses its blocks
+  -- a load is as long as it is asked for, and rounds up to where it is cut; its blocks are below 2^n
   pub load-length : LOAD-LENGTH
   pub load-rounds : LOAD-ROUNDS
   pub load-cut : LOAD-CUT
   pub load-below : LOAD-BELOW
   -- it is zeros as received, and is corrected completely; so are its errors on any message
-  pub zeros-coded : ZEROS-CODED
+  pub load-received : LOAD-RECEIVED
   pub load-corrected : LOAD-CORRECTED
-  pub faded-message : FADED-MESSAGE
+  pub disturbed-message : DISTURBED-MESSAGE
+  -- what seed 1 draws first, and the first blocks of its load of a small table
+  pub first-draw : FIRST-DRAW
+  pub first-blocks : FIRST-BLOCKS
 
 abbrev pub TEST-LOAD : Type 0
 TEST-LOAD = TestLoad

@@ -8,7 +8,8 @@ ghost use mathlib.Core.Path.{_≡_};
 ghost use mathlib.Core.List.{_++_};
 ghost use Prim.Native.Nat.{_≤_, _<_};
 ghost use lib.ListN.{length, take, drop, replicate};
-ghost use Rattle.load.specs.Load.{after, errors, round, afterRound, load};
+ghost use Rattle.load.specs.Draws.{after};
+ghost use Rattle.load.specs.Load.{errors, round, afterRound, load};
 ghost use Rattle.load.specs.Filling.{Loads};
 
 pub enum LoadAnswer {

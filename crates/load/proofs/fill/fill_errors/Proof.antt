@@ -11,8 +11,8 @@ use lib.ListN.{length, set, length-set}
 use lib.Pow.{pow-pos, pow-mono}
 use Rattle.span.proofs.Masks.{masked-low}
 use Rattle.load.specs.declared.generator.Draw.{Draw}
-use Rattle.load.specs.Draws.{nextState}
-use Rattle.load.specs.Load.{after, errors}
+use Rattle.load.specs.Draws.{nextState, after}
+use Rattle.load.specs.Load.{errors}
 use Rattle.span.proofs.Stored.{stored, stored-next, stored-all}
 use Rattle.load.proofs.Load.{length-errors, errors-at, after-next}
 use Rattle.load.proofs.fill.fill_errors.Statement.{statement}

@@ -8,8 +8,8 @@ use borrow.Rule.Slice.PartMut.{mid-len}
 use lib.ListN.{length, drop, replicate}
 use lib.Seq.{length-take-le, length-front}
 use Rattle.load.specs.declared.generator.Draw.{Draw}
-use Rattle.load.specs.Draws.{nextState}
-use Rattle.load.specs.Load.{after, errors as errors-of}
+use Rattle.load.specs.Draws.{nextState, after}
+use Rattle.load.specs.Load.{errors as errors-of}
 use Rattle.load.proofs.Rounds.{round-filled}
 use borrow.Author.Needs.{needs}
 use Rattle.load.proofs.fill.fill_round.Statement.{statement}
