@@ -2,6 +2,7 @@
 -- leaves no number as it was but 0. Assumes nothing.
 --
 --   draw-code    the state after a draw, in the code
+--   after-next   one draw more
 --   never-zero   the theorem
 use mathlib.Core.Path.{_≡_, refl, ap, _∙_}
 use mathlib.Core.Logic.{_≢_}
@@ -27,6 +28,11 @@ unfolding nextState
 draw-code x =
     ap (λ (a : ℕ). leftCode 5 (rightCode 17 a)) (left-code 13 x)
     ∙ ap (leftCode 5) (xor-code (leftXor 13 x) (leftXor 13 x / 2 ^ 17)) ∙ left-code 5 (rightXor 17 (leftXor 13 x))
+
+pub after-next : (k x : ℕ) → after (suc k) x ≡ nextState (after k x)
+unfolding after
+after-next zero x = refl
+after-next (suc k) x = after-next k (nextState x)
 
 left-zero : (k x : ℕ) → 1 ≤ k → leftXor k x ≡ 0 → x ≡ 0
 left-zero k x some e = shifted-fixed 32 k x some (xor-eq x (shifted 32 k x) e)

@@ -1,11 +1,13 @@
 -- Laws of a load. Assumes nothing.
 --
 --   length-errors, errors-at, errors-cut   a burst: its length, its blocks, and a part of it
---   round-cut     a round that is cut at k blocks
+--   length-round  how many blocks a round has
 --   rounds-long   k rounds have k blocks at least
+--   take-append   a cut of two lists, one after the other
 --   load-rounds, load-length, load-cut, load-below   the theorems
 --   load-round    a load is a round, cut, and a load of what is left
 --   load-at       what stands at a place of a load, if it is not 0, stands there in its rounds
+--   zeros-below   zeros are below any 2^n
 use mathlib.Core.Path.{_≡_, refl, sym, ap, _∙_}
 use mathlib.Core.Logic.{_≢_}
 use mathlib.Core.List.{List, [], _∷_, _++_, append-nil}
@@ -29,11 +31,6 @@ pub length-errors : (n k x : ℕ) → length (errors n k x) ≡ k
 unfolding errors
 length-errors n zero x = refl
 length-errors n (suc k) x = ap suc (length-errors n k (nextState x))
-
-pub after-next : (k x : ℕ) → after (suc k) x ≡ nextState (after k x)
-unfolding after
-after-next zero x = refl
-after-next (suc k) x = after-next k (nextState x)
 
 pub errors-at : (n k x i : ℕ) → i < k → getD (errors n k x) i 0 ≡ nextState (after i x) % 2 ^ n
 unfolding errors after

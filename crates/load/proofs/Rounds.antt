@@ -127,21 +127,21 @@ left n m guard x y k j e next = go (decLt k j)
         ∙ sym (load-none n m guard y (j - k) (omega arith))
 
 -- what is filled after a round
-filled : (out r rest after : List ℕ) (at k : ℕ) → at ≤ length out → length r ≡ k
-    → take (at + k) (take at out ++ (r ++ rest ++ after)) ≡ take at out ++ r
-filled out r rest after at k h size =
+filled : (out r rest past : List ℕ) (at k : ℕ) → at ≤ length out → length r ≡ k
+    → take (at + k) (take at out ++ (r ++ rest ++ past)) ≡ take at out ++ r
+filled out r rest past at k h size =
     let p = take at out in
     let here = length-take-le at out h in
-    ap (λ (j : ℕ). take (j + k) (p ++ (r ++ rest ++ after))) (sym here) ∙ take-append-add p (r ++ rest ++ after) k
-    ∙ ap (λ (l : List ℕ). p ++ take k l) (append-assoc r rest after)
-    ∙ ap (λ (l : List ℕ). p ++ l) (take-at r (rest ++ after) k size)
+    ap (λ (j : ℕ). take (j + k) (p ++ (r ++ rest ++ past))) (sym here) ∙ take-append-add p (r ++ rest ++ past) k
+    ∙ ap (λ (l : List ℕ). p ++ take k l) (append-assoc r rest past)
+    ∙ ap (λ (l : List ℕ). p ++ l) (take-at r (rest ++ past) k size)
 
 -- the round is filled into the i blocks that are left
-pub goes-on : (n m guard seed L at x k y i : ℕ) (out ys rest after : List ℕ) → Goes n m guard seed L at x out → at < L
+pub goes-on : (n m guard seed L at x k y i : ℕ) (out ys rest past : List ℕ) → Goes n m guard seed L at x out → at < L
     → i ≡ L - at → k ≡ length (take i (round n m guard x)) → ys ≡ take i (round n m guard x) ++ rest
-    → (k < i → y ≡ afterRound m x) → length (take at out ++ (ys ++ after)) ≡ L
-    → Goes n m guard seed L (at + k) y (take at out ++ (ys ++ after)) × (1 ≤ k)
-goes-on n m guard seed L at x k y i out ys rest after g h here size ys-are next same =
+    → (k < i → y ≡ afterRound m x) → length (take at out ++ (ys ++ past)) ≡ L
+    → Goes n m guard seed L (at + k) y (take at out ++ (ys ++ past)) × (1 ≤ k)
+goes-on n m guard seed L at x k y i out ys rest past g h here size ys-are next same =
     let r = round n m guard x in
     let long = length-round n m guard x in
     let short = size ∙ length-take i r in
@@ -156,9 +156,9 @@ goes-on n m guard seed L at x k y i out ys rest after g h here size ys-are next 
             ∙ ap (λ (l : List ℕ). take i r ++ l) (left n m guard x y k i size next))
             ∙ sym (append-assoc (take at out) (take i r) (load n m guard y (i - k)))
             ∙ ap (λ (l : List ℕ). l ++ load n m guard y (i - k))
-            (sym (filled out (take i r) rest after at k (omega arith) (sym size))
-            ∙ sym (ap (λ (l : List ℕ). take (at + k) (take at out ++ (l ++ after))) ys-are))
-            ∙ ap (λ (j : ℕ). take (at + k) (take at out ++ (ys ++ after)) ++ load n m guard y j) sub;
+            (sym (filled out (take i r) rest past at k (omega arith) (sym size))
+            ∙ sym (ap (λ (l : List ℕ). take (at + k) (take at out ++ (l ++ past))) ys-are))
+            ∙ ap (λ (j : ℕ). take (at + k) (take at out ++ (ys ++ past)) ++ load n m guard y j) sub;
       },
       omega arith,
     )

@@ -14,7 +14,8 @@ use Rattle.load.specs.declared.generator.Draw.{Draw}
 use Rattle.load.specs.Draws.{nextState, after}
 use Rattle.load.specs.Load.{errors}
 use Rattle.span.proofs.Stored.{stored, stored-next, stored-all}
-use Rattle.load.proofs.Load.{length-errors, errors-at, after-next}
+use Rattle.load.proofs.Draws.{after-next}
+use Rattle.load.proofs.Load.{length-errors, errors-at}
 use Rattle.load.proofs.fill.fill_errors.Statement.{statement}
 use Rattle.load.proofs.fill.fill_errors.Tie as tie
 
