@@ -46,7 +46,8 @@ delivered-as a x y e (mark, told, sure) =
 -- ---- errors that are far enough apart
 
 module _ (t : Table) (o : Origin t) (infos errs : List ℕ) (below : Below (t .symbols - 1) infos)
-    (small : Below (t .symbols) errs) (same : length errs ≡ length infos) (apart : Apart (t .depth) (delayOf t) errs) where
+    (small : Below (t .symbols) errs) (same : length errs ≡ length infos)
+    (apart : Apart (t .depth) (delayOf t) errs) where
   abbrev rs : List ℕ
   rs = zipWith _⊕_ (codedForm t infos) errs
 

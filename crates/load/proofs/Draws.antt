@@ -1,5 +1,5 @@
--- The generator: its three shifts as the code has them, and no draw leads from a state that is not 0 to 0, since a shift
--- leaves no number as it was but 0. Assumes nothing.
+-- The generator: its three shifts as the code has them; and no draw leads from a state that is not 0 to 0, since a
+-- shift leaves no number as it was but 0. Assumes nothing.
 --
 --   draw-code    the state after a draw, in the code
 --   after-next   one draw more
@@ -11,7 +11,8 @@ use native.Mathlib.Nat.{div-le-self}
 use native.Mathlib.Omega.{arith}
 use lib.Bits.{bitXor}
 use Rattle.span.specs.Word.{_⊕_, shifted}
-use Rattle.span.proofs.Word.{xor-code, xor-zero-l, xor-eq, xor-lt, shifted-code, shifted-zero, shifted-lt, shifted-fixed}
+use Rattle.span.proofs.Word.{xor-code, xor-zero-l, xor-eq, xor-lt}
+use Rattle.span.proofs.Word.{shifted-code, shifted-zero, shifted-lt, shifted-fixed}
 use Rattle.load.specs.Draws.{leftXor, rightXor, nextState, after, NEVER-ZERO}
 
 abbrev leftCode : ℕ → ℕ → ℕ

@@ -25,7 +25,8 @@ unfolding nextState shifted _⊕_ after errors rounds load making sizesFit madeT
 first-blocks = refl
 
 pub first-marks : FIRST-MARKS
-unfolding nextState shifted after errors rounds load answersBy decodeAnswer decodeMemory decoderFault answered leaves stepFault firstOf fit sizesFit rowsFit
-    columns upper madeRow madeRows madeTable making someAbove decoderJoining decoderRegister decoderFound partNext
-    decoderNext delivered delivery joining leastFrom leastCoefficients combination bit odd xor _⊕_
+unfolding nextState shifted after errors rounds load answersBy decodeAnswer decodeMemory decoderFault answered leaves
+    stepFault firstOf fit sizesFit rowsFit columns upper madeRow madeRows madeTable making someAbove decoderJoining
+    decoderRegister decoderFound partNext decoderNext delivered delivery joining leastFrom leastCoefficients combination
+    bit odd xor _⊕_
 first-marks = refl

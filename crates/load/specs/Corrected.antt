@@ -1,13 +1,13 @@
 -- 02, CR 8: "With an accepted or made table, a load begun on a started decoder is corrected completely, as far as its
 -- blocks are delivered." So it is if its errors are added to any other coded message than that of zeros.
 --
---   takenFrom t rs        what a started decoder takes of the blocks rs, and answers
---   CorrectedTo t rs info it refuses none of them, answers nothing yet while its delay lasts, and then delivers at place
---                         p what `info` says of the place m × (N − 1) back, never marked doubtful
---   LOAD-CORRECTED        so it is of a load, with information 0
+--   takenFrom t rs           what a started decoder takes of the blocks rs, and answers
+--   CorrectedTo t rs info    it refuses none of them, answers nothing yet while its delay lasts, and then delivers at
+--                            place p what `info` says of the place m × (N − 1) back, never marked doubtful
+--   LOAD-CORRECTED           so it is of a load, with information 0
 --   disturbed t seed infos   the coded form of a message as received, with the errors of a load
---   LOAD-RECEIVED         zeros are coded as zeros, and a load is the coded form of zeros as received
---   DISTURBED-MESSAGE     a message so disturbed is delivered
+--   LOAD-RECEIVED            zeros are coded as zeros, and a load is the coded form of zeros as received
+--   DISTURBED-MESSAGE        a message so disturbed is delivered
 use mathlib.Core.Path.{_≡_}
 use mathlib.Core.Bool.{true}
 use mathlib.Core.Logic.{_≢_}

@@ -1,23 +1,26 @@
 -- `link::start::clear`: zeros, stored in turn. Assumes nothing.
-use mathlib.Core.Path.{_≡_, refl, sym, ap, _∙_}
+use mathlib.Core.Path.{sym}
 use mathlib.Core.List.{List}
-use Prim.Native.Nat.{ℕ, _-_, _≤_}
+use Prim.Native.Nat.{ℕ, _-_}
 use native.Mathlib.Omega.{arith}
 use borrow.Author.Needs.{needs}
-use lib.ListN.{length, set, replicate, length-replicate, length-set}
-use Rattle.span.proofs.Stored.{stored, stored-next, stored-all}
+use lib.ListN.{length, replicate, length-replicate}
+use Rattle.span.proofs.Stored.{Storing, storing-first, storing-next, storing-all}
 use Rattle.tables.proofs.Fit.{zeros-at}
 use Rattle.link.proofs.start.clear.Statement.{statement}
 use Rattle.link.proofs.start.clear.Tie as tie
 
+abbrev zeros : List ℕ → List ℕ
+zeros d = replicate (length d) 0
+
 abbrev Inv-loop : tie.InvT-loop
-Inv-loop state₀ i₀ state i = (i ≤ length state₀) × (length state ≡ length state₀) × (state ≡ stored (replicate (length state₀) 0) state₀ i)
+Inv-loop state₀ i₀ state i = Storing (zeros state₀) state₀ state i
 
 abbrev μ-loop : tie.MeasureT-loop
 μ-loop state₀ i₀ state i = length state₀ - i
 
 loop-holds : tie.Need-loop-holds Inv-loop μ-loop
-loop-holds c = (omega arith, refl, refl)
+loop-holds c = storing-first _ _
 
 mul-state : tie.Need-mul-state Inv-loop μ-loop
 mul-state c = search needs
@@ -34,25 +37,17 @@ loop-less c = omega arith
 loop-again : tie.Need-loop-again Inv-loop μ-loop
 loop-again c =
     let l = c .before .loop in
-    let s = c .before .before .args .state .now in
-    let zeros = length-replicate {A = ℕ} (length s) 0 in (
-      omega arith,
-      length-set (l .state) (l .i) 0 ∙ l .inv .1,
-      ap (λ (x : List ℕ). set x (l .i) 0) (l .inv .2)
-          ∙ stored-next (replicate (length s) 0) s (l .i) 0 (omega arith) (omega arith)
-          (sym (zeros-at (length s) (l .i))),
-    )
+    let d = c .before .before .args .state .now in
+    storing-next (zeros d) d (l .state) (l .i) 0 (length-replicate (length d) 0) (omega arith)
+    (sym (zeros-at (length d) (l .i))) (l .inv)
 
 same-length : tie.Need-same-length Inv-loop μ-loop
-same-length c = c .before .loop .inv .1
+same-length c = c .before .loop .inv .size
 
 returns : tie.Need-returns Inv-loop μ-loop
 returns c =
-    let l = c .before .loop in
-    let s = c .before .before .args .state .now in
-    let all : l .i ≡ length s = omega arith in
-    l .inv .2 ∙ ap (stored (replicate (length s) 0) s) all
-    ∙ stored-all (replicate (length s) 0) s (length-replicate {A = ℕ} (length s) 0)
+    let d = c .before .before .args .state .now in
+    storing-all (zeros d) d _ _ (length-replicate (length d) 0) (omega arith) (c .before .loop .inv)
 
 pub clear-spec : {M : Type 1} → statement M
 clear-spec =

@@ -1,19 +1,18 @@
 -- `load::fill::fill_errors`: the errors, stored in turn, while the generator goes on. Assumes nothing.
 use mathlib.Core.Path.{_≡_, refl, sym, ap, _∙_, subst}
-use mathlib.Core.List.{List}
 use Prim.Native.Nat.{ℕ, _-_, _%_, _^_, _≤_, _<_}
 use native.Mathlib.Nat.{mod-lt}
 use native.Mathlib.Numerals.{add-one}
 use native.Mathlib.Omega.{arith}
 use borrow.Author.Needs.{needs}
 use lib.Bits.{bitAnd}
-use lib.ListN.{length, set, length-set}
+use lib.ListN.{length}
 use lib.Pow.{pow-pos, pow-mono}
 use Rattle.span.proofs.Masks.{masked-low}
 use Rattle.load.specs.declared.generator.Draw.{Draw}
 use Rattle.load.specs.Draws.{nextState, after}
 use Rattle.load.specs.Load.{errors}
-use Rattle.span.proofs.Stored.{stored, stored-next, stored-all}
+use Rattle.span.proofs.Stored.{Storing, storing-first, storing-next, storing-all}
 use Rattle.load.proofs.Draws.{after-next}
 use Rattle.load.proofs.Load.{length-errors, errors-at}
 use Rattle.load.proofs.fill.fill_errors.Statement.{statement}
@@ -21,8 +20,7 @@ use Rattle.load.proofs.fill.fill_errors.Tie as tie
 
 abbrev Inv-loop : tie.InvT-loop
 Inv-loop out₀ n most g₀ i₀ out g i =
-    (i ≤ length out₀) × (length out ≡ length out₀) × (out ≡ stored (errors n (length out₀) (g₀ .state)) out₀ i)
-    × (g .state ≡ after i (g₀ .state))
+    Storing (errors n (length out₀) (g₀ .state)) out₀ out i × (g .state ≡ after i (g₀ .state))
 
 abbrev μ-loop : tie.MeasureT-loop
 μ-loop out₀ n most g₀ i₀ out g i = length out₀ - i
@@ -32,7 +30,7 @@ mask-requires c κs = search needs
 
 loop-holds : tie.Need-loop-holds Inv-loop μ-loop
 unfolding after
-loop-holds c = (omega arith, refl, refl, refl)
+loop-holds c = (storing-first _ _, refl)
 
 draw-requires : tie.Need-draw-requires Inv-loop μ-loop
 draw-requires c κs = search needs
@@ -73,32 +71,30 @@ loop-again c =
     let a = c .before .before .before .before .before .before .before .args in
     let x = a .generator .state in
     let out = a .out .now in
-    let size = length-errors (a .n) (length out) x in
     let d = c .before .before .draw in
-    let next = ap nextState (l .inv .3) in
-    let v = bitAnd (d .result .number) (c .before .before .before .before .before .mask .result) in (
-      omega arith,
-      length-set (l .out) (l .i) v ∙ l .inv .1,
-      ap (λ (s : List ℕ). set s (l .i) v) (l .inv .2)
-          ∙ stored-next (errors (a .n) (length out) x) out (l .i) v (omega arith) (omega arith)
+    let next = ap nextState (l .inv .1) in (
+      storing-next (errors (a .n) (length out) x) out (l .out) (l .i) _ (length-errors (a .n) (length out) x)
+          (omega arith)
           (error (c .before .before) ∙ ap (λ (r : Draw). r .number % 2 ^ a .n) (d .ensures)
-          ∙ ap (λ (y : ℕ). y % 2 ^ a .n) next ∙ sym (errors-at (a .n) (length out) x (l .i) (omega arith))),
+          ∙ ap (λ (y : ℕ). y % 2 ^ a .n) next ∙ sym (errors-at (a .n) (length out) x (l .i) (omega arith)))
+          (l .inv .0),
       ap (λ (r : Draw). r .next .state) (d .ensures) ∙ next ∙ sym (after-next (l .i) x)
           ∙ ap (λ (k : ℕ). after k x) (sym (add-one (l .i))),
     )
 
 same-length : tie.Need-same-length Inv-loop μ-loop
-same-length c = c .before .loop .inv .1
+same-length c = c .before .loop .inv .0 .size
 
 returns : tie.Need-returns Inv-loop μ-loop
 returns c =
     let l = c .before .loop in
     let a = c .before .before .before .before .args in
-    let s = errors (a .n) (length (a .out .now)) (a .generator .state) in
-    let all : l .i ≡ length (a .out .now) = omega arith in (
-      l .inv .2 ∙ ap (stored s (a .out .now)) all
-          ∙ stored-all s (a .out .now) (length-errors (a .n) (length (a .out .now)) (a .generator .state)),
-      l .inv .3 ∙ ap (λ (k : ℕ). after k (a .generator .state)) all,
+    let out = a .out .now in
+    let inside = l .inv .0 .inside in
+    let all : l .i ≡ length out = omega arith in (
+      storing-all _ out (l .out) (l .i) (length-errors (a .n) (length out) (a .generator .state)) (omega arith)
+          (l .inv .0),
+      l .inv .1 ∙ ap (λ (k : ℕ). after k (a .generator .state)) all,
     )
 
 pub fill-errors-spec : {M : Type 1} → statement M

@@ -1,24 +1,26 @@
 -- `load::fill::fill_gap`: zeros, stored in turn. Assumes nothing.
-use mathlib.Core.Path.{_≡_, refl, sym, ap, _∙_}
+use mathlib.Core.Path.{sym}
 use mathlib.Core.List.{List}
-use Prim.Native.Nat.{ℕ, _-_, _≤_}
+use Prim.Native.Nat.{ℕ, _-_}
 use native.Mathlib.Omega.{arith}
 use borrow.Author.Needs.{needs}
-use lib.ListN.{length, set, replicate, length-set, length-replicate}
+use lib.ListN.{length, replicate, length-replicate}
+use Rattle.span.proofs.Stored.{Storing, storing-first, storing-next, storing-all}
 use Rattle.tables.proofs.Fit.{zeros-at}
-use Rattle.span.proofs.Stored.{stored, stored-next, stored-all}
 use Rattle.load.proofs.fill.fill_gap.Statement.{statement}
 use Rattle.load.proofs.fill.fill_gap.Tie as tie
 
+abbrev zeros : List ℕ → List ℕ
+zeros d = replicate (length d) 0
+
 abbrev Inv-loop : tie.InvT-loop
-Inv-loop out₀ i₀ out i =
-    (i ≤ length out₀) × (length out ≡ length out₀) × (out ≡ stored (replicate (length out₀) 0) out₀ i)
+Inv-loop out₀ i₀ out i = Storing (zeros out₀) out₀ out i
 
 abbrev μ-loop : tie.MeasureT-loop
 μ-loop out₀ i₀ out i = length out₀ - i
 
 loop-holds : tie.Need-loop-holds Inv-loop μ-loop
-loop-holds c = (omega arith, refl, refl)
+loop-holds c = storing-first _ _
 
 mul-out : tie.Need-mul-out Inv-loop μ-loop
 mul-out c = search needs
@@ -36,24 +38,16 @@ loop-again : tie.Need-loop-again Inv-loop μ-loop
 loop-again c =
     let l = c .before .loop in
     let d = c .before .before .args .out .now in
-    let zeros = length-replicate {A = ℕ} (length d) 0 in (
-      omega arith,
-      length-set (l .out) (l .i) 0 ∙ l .inv .1,
-      ap (λ (x : List ℕ). set x (l .i) 0) (l .inv .2)
-          ∙ stored-next (replicate (length d) 0) d (l .i) 0 (omega arith) (omega arith)
-          (sym (zeros-at (length d) (l .i))),
-    )
+    storing-next (zeros d) d (l .out) (l .i) 0 (length-replicate (length d) 0) (omega arith)
+    (sym (zeros-at (length d) (l .i))) (l .inv)
 
 same-length : tie.Need-same-length Inv-loop μ-loop
-same-length c = c .before .loop .inv .1
+same-length c = c .before .loop .inv .size
 
 returns : tie.Need-returns Inv-loop μ-loop
 returns c =
-    let l = c .before .loop in
     let d = c .before .before .args .out .now in
-    let all : l .i ≡ length d = omega arith in
-    l .inv .2 ∙ ap (stored (replicate (length d) 0) d) all
-    ∙ stored-all (replicate (length d) 0) d (length-replicate {A = ℕ} (length d) 0)
+    storing-all (zeros d) d _ _ (length-replicate (length d) 0) (omega arith) (c .before .loop .inv)
 
 pub fill-gap-spec : {M : Type 1} → statement M
 fill-gap-spec =
