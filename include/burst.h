@@ -255,17 +255,17 @@ size_t burst_decode_batch(const uint64_t table[18], uint64_t *words, size_t coun
  * error block, 0 for a right one. The seed, n, N and m decide it, and the rows do not.
  *
  * Draws are those of Marsaglia's xorshift32. Its state is 32 bits, at the start the seed. A draw changes it three
- * times, each time to the exclusive or of itself and itself shifted: left by 13, right by 17, left by 5, bits past the
- * 32 dropped. The number drawn is the new state; seed 1 draws 270369 first. With d a fresh draw each time, a round draws
- * the length of a burst, 1 + (d mod m), then an error d mod 2^n, perhaps 0, for each block of it, then the length of a
- * gap, m * (N - 1) + (d mod 16). Its blocks are these errors, and then as many zeros. The load is round after round, cut
- * at length, so that a shorter one is the beginning of a longer one.
+ * times, each time to the exclusive or of itself and itself shifted: left by 13, right by 17, left by 5, bits past
+ * the 32 dropped. The number drawn is the new state; seed 1 draws 270369 first. With d a fresh draw each time, a
+ * round draws the length of a burst, 1 + (d mod m), then an error d mod 2^n, perhaps 0, for each block of it, then
+ * the length of a gap, m * (N - 1) + (d mod 16). Its blocks are these errors, and then the gap, that many zeros. The
+ * load is round after round, cut at length, so that a shorter one is the beginning of a longer one.
  *
  * With a table that was read or made, a started decoder that takes a load of it from the first block on refuses no
- * step, and every block that it delivers has the information 0 and is not doubtful. To have the first k of its blocks
- * delivered, k + m * (N - 1) are taken. The same errors may be added, by exclusive or, to the coded blocks of any
- * message from a started coder, block by block from the first: then too such a decoder refuses no step, what it delivers
- * is that message, as far as its blocks are delivered, and no block is doubtful.
+ * step, and every block that it delivers has the information 0 and is not doubtful. To have the first k of its
+ * blocks delivered, k + m * (N - 1) are taken. The same errors may be added, by exclusive or, to the coded blocks of
+ * any message from a started coder, block by block from the first: then too such a decoder refuses no step, what it
+ * delivers is that message, as far as its blocks are delivered, and no block is doubtful.
  *
  * Returns 0; or 12 or 17, and then no block is written. The table is only read, and its suitability is not tested.
  */

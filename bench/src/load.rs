@@ -1,6 +1,6 @@
 //! Filling a test load beside the fill written for speed, in the same run: nanoseconds a block of each, and how many
-//! times as long the proved one takes, medians of rounds. Less than 2 ns a block is asked for where gaps are long, so
-//! that nearly all blocks are right ones. Where they are short a block costs more draws, and that is only told. What
+//! times as long the proved one takes, medians of rounds. The bound, less than 2 ns a block, is for long gaps, where
+//! nearly all blocks are right ones. Where they are short a block costs more draws, and that is only told. What
 //! both fill is compared in every round.
 
 use crate::archive::burst_load;

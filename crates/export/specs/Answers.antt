@@ -1,5 +1,5 @@
 -- The struct of numbers of an answer, made of the papers' numbers, which the crates below name: `readNumbers`,
--- `writeNumbers`, `madeNumbers` and `callNumbers`. What does not apply is 0.
+-- `writeNumbers`, `madeNumbers`, `loadNumbers` and `callNumbers`. What does not apply is 0.
 --
 --   numberOf ns       the refusal's number, or 0
 --   codedOf ns        of a coder's step: number, block

@@ -16,13 +16,13 @@ use Rattle.link.specs.Refusals.{coderFault, decoderFault}
 use Rattle.link.specs.Coder.{coderNext, codeMemory}
 use Rattle.link.specs.Decoder.{decoderNext, decodeMemory}
 use Rattle.link.specs.Runs.{Call, Sent, Taken, sentBy, takenBy}
-use Rattle.link.specs.Recovery.{Wrong, Separated, Recovered, Running}
+use Rattle.link.specs.Recovery.{Wrong, Separated, Sure, Recovered, Running}
 use Rattle.link.specs.Massey.{blockSent, blockTaken}
 use Rattle.link.specs.Clean.{Clean, Undisturbed, CLEAN, CLEAN-SEPARATED, STARTED-CLEAN}
 use Rattle.link.proofs.Runs.{before-first, coder-memory, decoder-memory, coderBefore, decoderBefore}
 use Rattle.link.proofs.OneTable.{from-one}
 use Rattle.link.proofs.Bursts.{bursts-separated}
-use Rattle.link.proofs.Fade.{WrongApart, Sure, delivers, delivers-first, clean-first}
+use Rattle.link.proofs.Fade.{WrongApart, delivers, delivers-first, clean-first}
 use Rattle.link.proofs.Recovery.{answer, separated, linked, recovered}
 
 module _ {t : Table} {coder decoder : List ℕ} {cs ds : List Call} (f : Running t coder decoder cs ds)

@@ -3,7 +3,7 @@
 -- memories: a step that is taken has passed the tests of its own stream. Assumes nothing.
 --
 --   Linked, WrongApart     coder and decoder in step, and how wrong places lie
---   Settles, Sure             what is claimed of an answer: at the end of the guard, and past it
+--   Settles                   what is claimed of an answer at the end of the guard; past it, `Sure`
 --   guarded                the words of a stream after right blocks
 --   settles                the claim at the end of the guard
 --   delivers, delivers-first   the claim where streams are clean: of a block taken, and of one of the first memory
@@ -25,11 +25,12 @@ use Rattle.span.specs.Word.{_⊕_, odd, digit}
 use Rattle.span.specs.Combination.{combination}
 use Rattle.span.proofs.Word.{xor-zero-r, xor-lt, xor-mod, xor-self, xor-twice}
 use Rattle.link.specs.declared.decode.Mark.{Mark}
-use Rattle.link.specs.declared.decode.Mark.the-variants.{Clean, Parity, Doubtful}
+use Rattle.link.specs.declared.decode.Mark.the-variants.{Clean, Parity}
 use Rattle.link.specs.declared.decode.DecodeAnswer.{DecodeAnswer}
 use Rattle.link.specs.declared.decode.DecodeAnswer.the-variants.{Delivery}
 use Rattle.link.specs.Memory.{joining, turnOf, pendingAt, fillOf}
 use Rattle.link.specs.Step.{found, errorOf, keptOf, markOf}
+use Rattle.link.specs.Recovery.{Sure}
 use Rattle.link.proofs.Error.{zero-found, mark-parity}
 use Rattle.link.proofs.Suitable.{Corrects}
 use Rattle.link.proofs.Step.{both-half, both-odd, coder-info, NotDoubtful}
@@ -62,10 +63,6 @@ abbrev pub Settles : ℕ → DecodeAnswer → ℕ → Type 0
 Settles n answer info =
     (mark : Mark) × (answer ≡ Delivery (record { info = info; mark = mark }))
     × ((mark ≡ Clean) ⊎ (mark ≡ Parity (2 ^ (n - 1))))
-
--- that information is delivered, with a mark that is not doubtful
-abbrev pub Sure : DecodeAnswer → ℕ → Type 0
-Sure answer info = (mark : Mark) × (answer ≡ Delivery (record { info = info; mark = mark })) × (mark ≢ Doubtful)
 
 module _ {n N m : ℕ} {infos : List ℕ} {S M : ℕ → List ℕ} {R B C : ℕ → ℕ} {A : ℕ → DecodeAnswer} {count : ℕ}
     (l : Linked n N m infos S M R B C A count) where

@@ -19,7 +19,7 @@ use Rattle.link.specs.declared.decode.DecodeAnswer.{DecodeAnswer}
 use Rattle.link.specs.declared.decode.DecodeAnswer.the-variants.{Delivery}
 use Rattle.link.specs.Memory.{delayOf}
 use Rattle.link.specs.Runs.{Call, Sent, Taken, sentBy, takenBy, sentAt, takenAt, coderAfter, decoderAfter}
-use Rattle.link.specs.Recovery.{Wrong, Recovered, RECOVERY, RECOVERY-LATER, DOUBTFUL, Running, Separated}
+use Rattle.link.specs.Recovery.{Wrong, Sure, Recovered, RECOVERY, RECOVERY-LATER, DOUBTFUL, Running, Separated}
 use Rattle.link.specs.Recovery.{RECOVERY-ANY-MEMORY, RECOVERY-SHORT-GUARD}
 use Rattle.link.specs.Massey.{infoSent, blockSent, blockTaken}
 use Rattle.link.proofs.Origin.{origin-coding}
@@ -27,7 +27,7 @@ use Rattle.link.proofs.Runs.{coderBefore, decoderBefore}
 use Rattle.link.proofs.OneTable.{coded, decoded}
 use Rattle.link.proofs.Formed.{formed-throughout}
 use Rattle.link.proofs.Bursts.{bursts-separated}
-use Rattle.link.proofs.Fade.{Linked, WrongApart, Sure, recovers}
+use Rattle.link.proofs.Fade.{Linked, WrongApart, recovers}
 
 module _ {t : Table} {coder decoder : List ℕ} {cs ds : List Call} (f : Running t coder decoder cs ds) where
   abbrev sent : List Sent

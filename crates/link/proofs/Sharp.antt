@@ -26,14 +26,14 @@ use Rattle.link.specs.Formed.{CoderFormed, DecoderFormed}
 use Rattle.link.specs.Decoder.{decoderJoining, decoderRegister, decoderFound, partNext, decoderNext, delivered}
 use Rattle.link.specs.Decoder.{delivery, decodeAnswer, decodeMemory}
 use Rattle.link.specs.Runs.{Call, Sent, Taken, run, sentBy, takenBy, noneSent, noneTaken, sentAt, takenAt}
-use Rattle.link.specs.Recovery.{Origin, Wrong, Stretch, Burst, Chosen, Within, FadesWith, shortGuard}
+use Rattle.link.specs.Recovery.{Origin, Wrong, Stretch, Burst, Chosen, Within, FadesWith, Sure, shortGuard}
 use Rattle.link.specs.Guard.{GuardEndAfter}
 use Rattle.link.specs.Computed.{Z, calls, delivers, differing, sentBlocks, takenBlocks}
 use Rattle.link.specs.Examples.{bytesOfZ}
 use Rattle.link.specs.Sharp.{RecoveryAfter, GUARD-SHARP, GAP-SHARP, LENGTH-SHARP, SHORT-GUARD-SHARP}
 use Rattle.link.specs.Sharp.{GUARD-END-SHARP}
 use Rattle.link.proofs.Formed.{started-formed}
-use Rattle.link.proofs.Fade.{Settles, Sure}
+use Rattle.link.proofs.Fade.{Settles}
 use Rattle.link.proofs.Recovery.{same-delivery}
 use Rattle.link.proofs.Computed.{each-at, key, In, Places, count, running-by, right-by, burst-by, bursts-by}
 

@@ -12,19 +12,17 @@
 --   STARTED-CLEAN           it applies to started memories
 use mathlib.Core.Path.{_≡_}
 use mathlib.Core.Bool.{true}
-use mathlib.Core.Logic.{_≢_, _⊎_}
+use mathlib.Core.Logic.{_⊎_}
 use mathlib.Core.List.{List}
 use Prim.Native.Nat.{ℕ, _+_, _-_, _/_, _%_, _≤_, _<_}
 use lib.ListN.{length}
 use Rattle.tables.specs.declared.table.Table.{Table}
 use Rattle.tables.specs.Table.{fit}
-use Rattle.link.specs.declared.decode.Mark.{Mark}
-use Rattle.link.specs.declared.decode.Mark.the-variants.{Doubtful}
-use Rattle.link.specs.declared.decode.DecodeAnswer.the-variants.{Delivery, NothingYet}
+use Rattle.link.specs.declared.decode.DecodeAnswer.the-variants.{NothingYet}
 use Rattle.link.specs.Memory.{started, coderWords, turnOf, decoderWords, pendingAt, delayOf, pendingOf}
 use Rattle.link.specs.Memory.{syndromeOf, delayedOf}
 use Rattle.link.specs.Runs.{Call, Sent, Taken, sentBy, takenBy, takenAt}
-use Rattle.link.specs.Recovery.{Wrong, BurstsWithin, Separated, Recovered, Running}
+use Rattle.link.specs.Recovery.{Wrong, BurstsWithin, Separated, Sure, Recovered, Running}
 
 -- The stream that has its turn d places on is stream turn + d mod m; the coder's turn need not be the decoder's. The
 -- delayed blocks may be any, and so may the fill.
@@ -40,13 +38,8 @@ pub record Clean (t : Table) (coder decoder : List ℕ) : Type 0 where
 abbrev pub Undisturbed : Table → List ℕ → List Taken → ℕ → Type 0
 Undisturbed t decoder taken p =
     (takenAt taken p .answer ≡ NothingYet)
-    ⊎ ((mark : Mark)
-    × (takenAt taken p .answer
-    ≡ Delivery (record {
-      info = delayedOf t decoder ((turnOf decoder + (p - 1)) % t .depth) ((p - 1) / t .depth);
-      mark = mark;
-    }))
-    × (mark ≢ Doubtful))
+    ⊎ Sure (takenAt taken p .answer)
+    (delayedOf t decoder ((turnOf decoder + (p - 1)) % t .depth) ((p - 1) / t .depth))
 
 -- For every place at which a block is taken: past m × (N − 1) the step delivers what was sent m × (N − 1) blocks back;
 -- up to there, nothing yet, or a block that stood in the memory, as it was. No mark is doubtful.

@@ -12,6 +12,7 @@
 --   RightFirst, BurstsWithin the premises on what is right and what is wrong
 --   Running                  those on the table and the lists of steps
 --   FadesWith, Fades         all the premises
+--   Sure answer info         the answer delivers this information, with a mark other than doubtful
 --   Recovered sent taken delay p   what the step at place p answers
 --   RECOVERY                 the theorem
 --   RECOVERY-LATER           it holds from any later point of a run on, whatever damage came before
@@ -33,6 +34,7 @@ use Rattle.tables.specs.Reading.{reading}
 use Rattle.tables.specs.Made.{making}
 use Rattle.link.specs.declared.decode.Mark.{Mark}
 use Rattle.link.specs.declared.decode.Mark.the-variants.{Doubtful}
+use Rattle.link.specs.declared.decode.DecodeAnswer.{DecodeAnswer}
 use Rattle.link.specs.declared.decode.DecodeAnswer.the-variants.{Delivery}
 use Rattle.link.specs.Formed.{CoderFormed, DecoderFormed}
 use Rattle.link.specs.Memory.{delayOf}
@@ -124,10 +126,11 @@ Fades t = FadesWith (2 * delayOf t) (t .depth) (delayOf t) t
 
 -- "that step's answer is a record whose information equals the information sent in block p − m × (N − 1), with a mark
 -- other than doubtful"
+abbrev pub Sure : DecodeAnswer → ℕ → Type 0
+Sure answer info = (mark : Mark) × (answer ≡ Delivery (record { info = info; mark = mark })) × (mark ≢ Doubtful)
+
 abbrev pub Recovered : List Sent → List Taken → ℕ → ℕ → Type 0
-Recovered sent taken delay p =
-    (mark : Mark) × (takenAt taken p .answer ≡ Delivery (record { info = sentAt sent (p - delay) .info; mark = mark }))
-    × (mark ≢ Doubtful)
+Recovered sent taken delay p = Sure (takenAt taken p .answer) (sentAt sent (p - delay) .info)
 
 -- "Then for each p above 2 × m × (N − 1) at which a block is taken"
 abbrev pub RECOVERY : Type 0

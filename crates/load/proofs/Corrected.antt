@@ -4,7 +4,7 @@
 --   disturbed-message, load-received, load-corrected   the theorems
 use mathlib.Core.Path.{_≡_, refl, sym, ap, _∙_, subst}
 use mathlib.Core.Bool.{true}
-use mathlib.Core.Logic.{_≢_, _⊎_, inl, inr}
+use mathlib.Core.Logic.{_⊎_, inl, inr}
 use mathlib.Core.List.{List, zipWith}
 use Prim.Native.Nat.{ℕ, zero, suc, _+_, _-_, _<_}
 use native.Mathlib.Omega.{arith}
@@ -16,13 +16,9 @@ use Rattle.span.proofs.Word.{xor-zero-l, xor-zero-r, xor-self}
 use Rattle.tables.specs.declared.table.Table.{Table}
 use Rattle.tables.specs.Table.{fit}
 use Rattle.tables.proofs.Fit.{fit-facts, zeros-at}
-use Rattle.link.specs.declared.decode.Mark.{Mark}
-use Rattle.link.specs.declared.decode.Mark.the-variants.{Doubtful}
-use Rattle.link.specs.declared.decode.DecodeAnswer.{DecodeAnswer}
-use Rattle.link.specs.declared.decode.DecodeAnswer.the-variants.{Delivery}
 use Rattle.link.specs.Memory.{started, coderWords, decoderWords, delayOf}
 use Rattle.link.specs.Runs.{Sent, Taken, sentBy, sentAt, takenAt, noneSent, noneTaken}
-use Rattle.link.specs.Recovery.{Origin, Wrong, Separated, Running}
+use Rattle.link.specs.Recovery.{Origin, Wrong, Separated, Sure, Running}
 use Rattle.link.specs.Computed.{calls}
 use Rattle.link.specs.Sums.{codedForm}
 use Rattle.link.proofs.Origin.{origin-known}
@@ -35,13 +31,6 @@ use Rattle.load.specs.Load.{loadOf}
 use Rattle.load.specs.Corrected.{takenFrom, CorrectedTo, LOAD-CORRECTED, LOAD-RECEIVED, DISTURBED-MESSAGE}
 use Rattle.load.proofs.Load.{zeros-below, load-length, load-below}
 use Rattle.load.proofs.Apart.{Apart, load-apart}
-
--- the information of a delivery, in other words
-delivered-as : (a : DecodeAnswer) (x y : ℕ) → x ≡ y
-    → (mark : Mark) × (a ≡ Delivery (record { info = x; mark = mark })) × (mark ≢ Doubtful)
-    → (mark : Mark) × (a ≡ Delivery (record { info = y; mark = mark })) × (mark ≢ Doubtful)
-delivered-as a x y e (mark, told, sure) =
-    (mark, told ∙ ap (λ (z : ℕ). Delivery (record { info = z; mark = mark })) e, sure)
 
 -- ---- errors that are far enough apart
 
@@ -122,7 +111,7 @@ module _ (t : Table) (o : Origin t) (infos errs : List ℕ) (below : Below (t .s
             let r =
             clean-separated t (started (coderWords t)) decoder (calls t infos) (calls t rs) running
             (started-clean t fits) separated p (omega arith) (omega arith) .0 late in
-            delivered-as (takenAt (takenFrom t rs) p .answer) _ _ (sent-info (p - delayOf t)) r;
+            subst (Sure (takenAt (takenFrom t rs) p .answer)) (sent-info (p - delayOf t)) r;
       }
 
 -- ---- the theorems
@@ -184,6 +173,6 @@ load-corrected t seed k o =
       all-taken = c .all-taken;
       waits = c .waits;
       deliveries = λ p to late.
-          delivered-as (takenAt (takenFrom t (loadOf t seed k)) p .answer) _ 0 (zeros-at k (p - delayOf t - 1))
+          subst (Sure (takenAt (takenFrom t (loadOf t seed k)) p .answer)) (zeros-at k (p - delayOf t - 1))
           (c .deliveries p to late);
     }

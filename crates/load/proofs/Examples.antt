@@ -14,7 +14,7 @@ use Rattle.link.specs.Decoder.{delivery, decodeAnswer, decodeMemory}
 use Rattle.link.specs.Computed.{answersBy}
 use Rattle.load.specs.Draws.{nextState, after}
 use Rattle.load.specs.Load.{errors, rounds, load}
-use Rattle.load.specs.Examples.{FIRST-DRAW, FIRST-BLOCKS, FIRST-MARKS}
+use Rattle.load.specs.Examples.{FIRST-DRAW, FIRST-BLOCKS, FIRST-ANSWERS}
 
 pub first-draw : FIRST-DRAW
 unfolding nextState shifted _⊕_
@@ -24,9 +24,9 @@ pub first-blocks : FIRST-BLOCKS
 unfolding nextState shifted _⊕_ after errors rounds load making sizesFit madeTable
 first-blocks = refl
 
-pub first-marks : FIRST-MARKS
+pub first-answers : FIRST-ANSWERS
 unfolding nextState shifted after errors rounds load answersBy decodeAnswer decodeMemory decoderFault answered leaves
     stepFault firstOf fit sizesFit rowsFit columns upper madeRow madeRows madeTable making someAbove decoderJoining
     decoderRegister decoderFound partNext decoderNext delivered delivery joining leastFrom leastCoefficients combination
     bit odd xor _⊕_
-first-marks = refl
+first-answers = refl

@@ -7,10 +7,9 @@
 --   LOAD-CORRECTED           so it is of a load, with information 0
 --   disturbed t seed infos   the coded form of a message as received, with the errors of a load
 --   LOAD-RECEIVED            zeros are coded as zeros, and a load is the coded form of zeros as received
---   DISTURBED-MESSAGE        a message so disturbed is delivered
+--   DISTURBED-MESSAGE        a message so disturbed is delivered, as far as its blocks are
 use mathlib.Core.Path.{_≡_}
 use mathlib.Core.Bool.{true}
-use mathlib.Core.Logic.{_≢_}
 use mathlib.Core.List.{List, zipWith}
 use Prim.Native.Nat.{ℕ, _-_, _≤_, _<_}
 use lib.ListN.{length, getD, replicate}
@@ -18,14 +17,12 @@ use Rattle.span.specs.Word.{_⊕_}
 use Rattle.span.specs.Combination.{Below}
 use Rattle.tables.specs.declared.table.Table.{Table}
 use Rattle.tables.specs.Table.{fit}
-use Rattle.link.specs.declared.decode.Mark.{Mark}
-use Rattle.link.specs.declared.decode.Mark.the-variants.{Doubtful}
-use Rattle.link.specs.declared.decode.DecodeAnswer.the-variants.{Delivery, NothingYet}
+use Rattle.link.specs.declared.decode.DecodeAnswer.the-variants.{NothingYet}
 use Rattle.link.specs.Memory.{started, decoderWords, delayOf}
 use Rattle.link.specs.Refusals.{decoderFault}
 use Rattle.link.specs.Decoder.{decodeMemory}
 use Rattle.link.specs.Runs.{Taken, takenBy, takenAt}
-use Rattle.link.specs.Recovery.{Origin}
+use Rattle.link.specs.Recovery.{Origin, Sure}
 use Rattle.link.specs.Computed.{calls}
 use Rattle.link.specs.Sums.{NoneRefused, codedForm}
 use Rattle.load.specs.Load.{loadOf}
@@ -39,18 +36,16 @@ pub record CorrectedTo (t : Table) (rs : List ℕ) (info : ℕ → ℕ) : Type 0
   pub all-taken : length (takenFrom t rs) ≡ length rs
   pub waits : (p : ℕ) → 1 ≤ p → p ≤ length rs → p ≤ delayOf t → takenAt (takenFrom t rs) p .answer ≡ NothingYet
   pub deliveries : (p : ℕ) → p ≤ length rs → delayOf t < p
-      → (mark : Mark)
-      × (takenAt (takenFrom t rs) p .answer ≡ Delivery (record { info = info (p - delayOf t); mark = mark }))
-      × (mark ≢ Doubtful)
+      → Sure (takenAt (takenFrom t rs) p .answer) (info (p - delayOf t))
 
--- every seed, also 0, of which no call fills a load, and every length
+-- every number as a seed, also 0, of which no call fills a load, and every length
 abbrev pub LOAD-CORRECTED : Type 0
 LOAD-CORRECTED = (t : Table) (seed k : ℕ) → Origin t → CorrectedTo t (loadOf t seed k) (λ (p : ℕ). 0)
 
 abbrev pub disturbed : Table → ℕ → List ℕ → List ℕ
 disturbed t seed infos = zipWith _⊕_ (codedForm t infos) (loadOf t seed (length infos))
 
--- "The load is the all-zero message as received: each number is the error block"
+-- "The load is the all-zero message as received: each number is the error block, 0 for a right one."
 abbrev pub LOAD-RECEIVED : Type 0
 LOAD-RECEIVED =
     (t : Table) (seed k : ℕ) → fit t ≡ true

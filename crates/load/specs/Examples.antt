@@ -1,9 +1,9 @@
 -- Seed 1, worked out.
 --
---   FIRST-DRAW     "seed 1 draws 270369 first"
---   smallTable     the made table for n = 2 and m = 3
---   FIRST-BLOCKS   the first 53 blocks of its load of that table
---   FIRST-MARKS    what a started decoder answers to the first 31 of them
+--   FIRST-DRAW      "seed 1 draws 270369 first"
+--   smallTable      the made table for n = 2 and m = 3
+--   FIRST-BLOCKS    the first 53 blocks of its load of that table
+--   FIRST-ANSWERS   what a started decoder answers to the first 31 of them
 use mathlib.Core.Path.{_≡_}
 use mathlib.Core.List.{List, [], _∷_, _++_}
 use Prim.Native.Nat.{ℕ}
@@ -65,5 +65,5 @@ firstAnswers =
     ∷ delivers 0 Held ∷ delivers 0 (Corrected 1) ∷ delivers 0 Clean ∷ delivers 0 (Parity 2) ∷ delivers 0 Clean
     ∷ delivers 0 Clean ∷ delivers 0 Clean ∷ delivers 0 Held ∷ [])))
 
-abbrev pub FIRST-MARKS : Type 0
-FIRST-MARKS = answersTo smallTable (loadOf smallTable 1 31) ≡ firstAnswers
+abbrev pub FIRST-ANSWERS : Type 0
+FIRST-ANSWERS = answersTo smallTable (loadOf smallTable 1 31) ≡ firstAnswers

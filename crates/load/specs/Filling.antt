@@ -6,7 +6,7 @@
 --   Loads t seed out r out'   what `fill_load` promises
 --   LOAD-CALLS                a refusal has the number of the first reason that applies, and leaves the lent blocks;
 --                             where none applies they are filled
---   LOAD-ROWS                 rows past n − 1 do not matter, and of a load no row does
+--   LOAD-ROWS                 rows past n − 1 do not matter, and to the blocks of a load no row does
 use mathlib.Core.Path.{_≡_}
 use mathlib.Core.Bool.{cond}
 use mathlib.Core.Logic.{_⊎_}

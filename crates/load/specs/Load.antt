@@ -1,5 +1,6 @@
 -- 02, CR 8: the load as a list. "The load is the all-zero message as received: each number is the error block, 0 for a
--- right one." Of a table its n, its m and the guard m × (N − 1) count; x is the state of the generator.
+-- right one." Of a table its n, its m and the guard m × (N − 1) count (000's guard space; after a fade it is doubled); x
+-- is the state of the generator.
 --
 --   errors n k x            the errors of k blocks
 --   burstLength m x         how many blocks a round's burst has

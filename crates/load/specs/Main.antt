@@ -14,7 +14,8 @@ pub record TestLoad : Type 0 where
   pub load-calls : LOAD-CALLS
   pub load-rows : LOAD-ROWS
   pub never-zero : NEVER-ZERO
-  -- a load is as long as it is asked for, and rounds up to where it is cut; its blocks are below 2^n
+  -- a load has the length that is asked for, and is round after round, cut there; a shorter one is the beginning of a
+  -- longer one; its blocks are below 2^n
   pub load-length : LOAD-LENGTH
   pub load-rounds : LOAD-ROUNDS
   pub load-cut : LOAD-CUT

@@ -1,3 +1,3 @@
-// The test load: what a fading channel makes of the all-zero message, drawn by a generator that anyone can repeat.
+// The test load, which anyone can repeat: what a fading channel makes of the all-zero message, drawn from a seed.
 pub mod fill;
 pub mod generator;
