@@ -2,28 +2,33 @@
 use mathlib.Core.Path.{_≡_, sym, ap, _∙_, subst}
 use mathlib.Core.Logic.{inl, inr}
 use mathlib.Core.List.{List}
-use Prim.Native.Nat.{ℕ, zero, suc, _+_, _*_, _/_, _%_, _≤_, _<_}
+use Prim.Native.Nat.{ℕ, zero, suc, _+_, _-_, _*_, _/_, _%_, _≤_, _<_}
 use native.Mathlib.Nat.{zero-mul}
 use native.Mathlib.Decide.{decLt}
 use native.Mathlib.Omega.{arith}
 use lib.ListN.{length}
+use Rattle.span.specs.Word.{_⊕_}
 use Rattle.tables.specs.declared.table.Table.{Table}
 use Rattle.tables.proofs.Fit.{fit-facts}
 use Rattle.tables.proofs.Fit.{zeros-at}
+use Rattle.link.specs.declared.decode.DecodeAnswer.{DecodeAnswer}
 use Rattle.link.specs.Memory.{started, coderWords, turnOf, decoderWords, pendingAt, fillOf, delayOf, streamAt}
 use Rattle.link.specs.Memory.{pendingOf, syndromeOf, delayedOf}
 use Rattle.link.specs.Refusals.{coderFault, decoderFault}
 use Rattle.link.specs.Coder.{coderNext, codeMemory}
 use Rattle.link.specs.Decoder.{decoderNext, decodeMemory}
-use Rattle.link.specs.Runs.{Call, Sent, Taken, sentBy, takenBy}
-use Rattle.link.specs.Recovery.{Wrong, Separated, Sure, Recovered, Running}
+use Rattle.link.specs.Runs.{Call, Sent, Taken, sentBy, takenBy, sentAt, takenAt}
+use Rattle.link.specs.Recovery.{Wrong, Separated, Sure, Running}
 use Rattle.link.specs.Massey.{blockSent, blockTaken}
-use Rattle.link.specs.Clean.{Clean, Undisturbed, CLEAN, CLEAN-SEPARATED, STARTED-CLEAN}
+use Rattle.link.specs.Clean.{Clean, Undisturbed, CLEAN, CLEAN-SEPARATED, Tells, CLEAN-MARKS, STARTED-CLEAN}
 use Rattle.link.proofs.Runs.{before-first, coder-memory, decoder-memory, coderBefore, decoderBefore}
 use Rattle.link.proofs.OneTable.{from-one}
 use Rattle.link.proofs.Bursts.{bursts-separated}
 use Rattle.link.proofs.Fade.{WrongApart, delivers, delivers-first, clean-first}
-use Rattle.link.proofs.Recovery.{answer, separated, linked, recovered}
+use Rattle.link.proofs.Recovery.{answer, separated, linked}
+
+tells-sure : (a : DecodeAnswer) (info error : ℕ) → Tells a info error → Sure a info
+tells-sure a info error (mark, delivery, sure, error-is) = (mark, delivery, sure)
 
 module _ {t : Table} {coder decoder : List ℕ} {cs ds : List Call} (f : Running t coder decoder cs ds)
     (c : Clean t coder decoder)
@@ -61,11 +66,15 @@ module _ {t : Table} {coder decoder : List ℕ} {cs ds : List Call} (f : Running
   none : (p : ℕ) → p < 0 * t .depth → p < length taken → blockTaken taken p ≡ blockSent sent p
   none p few h = absurd (let z = zero-mul (t .depth) in omega arith)
 
-  past : (p : ℕ) → p < length taken → delayOf t ≤ p → Recovered sent taken (delayOf t) (suc p)
-  past p h late =
+  tells : (p : ℕ) → p < length taken → delayOf t ≤ p →
+      let q = suc p - delayOf t in
+      Tells (answer f p) (sentAt sent q .info) (takenAt taken q .block ⊕ sentAt sent q .block)
+  tells p h late =
       let z = zero-mul (t .depth) in
-      recovered f p late
-      (λ q e. delivers (linked f) apart 0 none (clean-first (linked f) syndromes pendings) p q h (omega arith) e)
+      let here : suc (p - delayOf t) ≡ suc p - delayOf t = omega arith in
+      subst (λ (q : ℕ). Tells (answer f p) (sentAt sent q .info) (takenAt taken q .block ⊕ sentAt sent q .block)) here
+      (delivers (linked f) apart 0 none (clean-first (linked f) syndromes pendings) p (p - delayOf t) h (omega arith)
+      (omega arith))
 
   early : (p : ℕ) → p < length taken → p < delayOf t → Undisturbed t decoder taken (suc p)
   early p h few = go (decLt (fillOf (before p)) (delayOf t))
@@ -82,10 +91,16 @@ module _ {t : Table} {coder decoder : List ℕ} {cs ds : List Call} (f : Running
           (delivers-first (linked f) apart 0 none (clean-first (linked f) syndromes pendings) p h (omega arith) few
           (omega arith))))
 
+pub clean-marks : CLEAN-MARKS
+clean-marks t coder decoder cs ds f c b zero late h = absurd (omega arith)
+clean-marks t coder decoder cs ds f c b (suc p) late h = tells f c b p (omega arith) (omega arith)
+
 pub clean-separated : CLEAN-SEPARATED
 clean-separated t coder decoder cs ds f c b zero from h = absurd (omega arith)
-clean-separated t coder decoder cs ds f c b (suc p) from h =
-    (λ late. past f c b p (omega arith) (omega arith), λ few. early f c b p (omega arith) (omega arith))
+clean-separated t coder decoder cs ds f c b (suc p) from h = (
+  λ late. tells-sure _ _ _ (clean-marks t coder decoder cs ds f c b (suc p) late h),
+  λ few. early f c b p (omega arith) (omega arith),
+)
 
 pub clean : CLEAN
 clean t coder decoder cs ds f c b =

@@ -3,7 +3,8 @@
 -- memories: a step that is taken has passed the tests of its own stream. Assumes nothing.
 --
 --   Linked, WrongApart     coder and decoder in step, and how wrong places lie
---   Settles                   what is claimed of an answer at the end of the guard; past it, `Sure`
+--   Settles                what is claimed of an answer at the end of the guard; past it, `Sure`, and `Tells` where
+--                          streams are clean
 --   guarded                the words of a stream after right blocks
 --   settles                the claim at the end of the guard
 --   delivers, delivers-first   the claim where streams are clean: of a block taken, and of one of the first memory
@@ -31,8 +32,10 @@ use Rattle.link.specs.declared.decode.DecodeAnswer.the-variants.{Deliver
 use Rattle.link.specs.Memory.{joining, turnOf, pendingAt, fillOf}
 use Rattle.link.specs.Step.{found, errorOf, keptOf, markOf}
 use Rattle.link.specs.Recovery.{Sure}
+use Rattle.link.specs.Clean.{Tells}
 use Rattle.link.proofs.Error.{zero-found, mark-parity}
 use Rattle.link.proofs.Suitable.{Corrects}
+use Rattle.link.proofs.Marks.{mark-error}
 use Rattle.link.proofs.Step.{both-half, both-odd, coder-info, NotDoubtful}
 use Rattle.span.proofs.Masks.{topped-lt}
 use Rattle.link.proofs.Sequence.{Stream, guard-clean, guard-register, guard-syndrome, mid-clean, stream-judged}
@@ -320,11 +323,15 @@ module _ {n N m : ℕ} {infos : List ℕ} {S M : ℕ → List ℕ} {R B C : ℕ 
             subst (λ (y : ℕ). NotDoubtful (found rows y) y) same (out .1),
           )
 
-      pub delivers : (p q : ℕ) → p < count → start * m ≤ p → q + m * (N - 1) ≡ p → Sure (A p) (B q)
+      pub delivers : (p q : ℕ) → p < count → start * m ≤ p → q + m * (N - 1) ≡ p → Tells (A p) (B q) (er q)
       delivers p q h late e =
           let f = found-at p (er q) h late (λ i d. ap er (let same : i ≡ q = omega arith in same))
-          (λ few. absurd (omega arith)) in
-          (mark p, answers-taken p q h e (ap (λ (x : ℕ). x % 2 ^ (n - 1)) (f .0)), f .1 weight)
+          (λ few. absurd (omega arith)) in (
+            mark p,
+            answers-taken p q h e (ap (λ (x : ℕ). x % 2 ^ (n - 1)) (f .0)),
+            f .1 weight,
+            mark-error weight (found rows (reg p)) (reg p) ∙ f .0,
+          )
 
       -- a block of the first memory leaves as it is
       pub delivers-first : (p : ℕ) → p < count → start * m ≤ p → p < m * (N - 1) → m * (N - 1) ≤ fillOf (S p)

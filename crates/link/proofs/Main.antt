@@ -6,7 +6,7 @@ use Rattle.link.proofs.Formed.{started-formed}
 use Rattle.link.proofs.Massey.{parity, syndrome-errors, deliveries, waiting}
 use Rattle.link.proofs.Recovery.{recovery, recovery-short-guard}
 use Rattle.link.proofs.Guard.{guard-end}
-use Rattle.link.proofs.Clean.{clean, started-clean}
+use Rattle.link.proofs.Clean.{clean, clean-marks, started-clean}
 use Rattle.link.proofs.Batches.{shorter, batch-run, recovery-batches, guard-end-batches}
 use Rattle.link.proofs.Taken.{none-refused}
 use Rattle.link.proofs.Sums.{coded-forms-add, raw-terms-add, deliveries-need-not-add}
@@ -25,6 +25,7 @@ link = record {
   guard-end = guard-end;
   recovery-short-guard = recovery-short-guard;
   clean = clean;
+  clean-marks = clean-marks;
   started-clean = started-clean;
   shorter = shorter;
   batch-run = batch-run;

@@ -18,10 +18,25 @@ use Rattle.span.proofs.Combination.{combination-zero}
 use Rattle.span.proofs.Relation.{least-coefficients, least-unique}
 use Rattle.link.specs.declared.decode.Mark.{Mark}
 use Rattle.link.specs.declared.decode.Mark.the-variants.{Clean, Corrected, Parity, Doubtful, Held}
-use Rattle.link.specs.Step.{found, markOf}
+use Rattle.link.specs.Step.{found, errorOf, markOf}
+use Rattle.link.specs.Decoder.{markError}
 use Rattle.link.specs.Marks.{NoError, LeastError, MARKS}
 use Rattle.link.proofs.Refusals.{picked, passed}
 use Rattle.link.proofs.Error.{zero-found, mark-parity, mark-corrected}
+
+-- the error that a mark tells is the one that was found, or 0
+pub mark-error : (weight : ℕ) (f : Least) (x : ℕ) → markError (markOf weight f x) ≡ errorOf f
+mark-error weight Missing x = go (odd x)
+  where
+    go : (s : Bool) → markError (cond s Doubtful Held) ≡ 0
+    go true = refl
+    go false = refl
+mark-error weight (Found e) x = go (eqb e 0) (eqb e weight) refl
+  where
+    go : (s p : Bool) → eqb e 0 ≡ s → markError (cond s Clean (cond p (Parity e) (Corrected e))) ≡ e
+    go true p z = sym (eqb-true e 0 z)
+    go false true z = refl
+    go false false z = refl
 
 module _ (rows : List ℕ) (x : ℕ) where
   least : (f : Least) → found rows x ≡ f → IsLeast (λ (c : ℕ). combination rows c ≡ x) 0 (2 ^ length rows) f

@@ -9,19 +9,26 @@
 --   EachPlace               what is answered at each place
 --   CLEAN                   the theorem
 --   CLEAN-SEPARATED         the same without a choice of bursts
+--   Tells answer info error   the answer delivers this information, not doubtful, and its mark tells this error
+--   CLEAN-MARKS             past m × (N − 1) the mark tells the error of the block that is delivered
 --   STARTED-CLEAN           it applies to started memories
 use mathlib.Core.Path.{_≡_}
 use mathlib.Core.Bool.{true}
-use mathlib.Core.Logic.{_⊎_}
+use mathlib.Core.Logic.{_≢_, _⊎_}
 use mathlib.Core.List.{List}
 use Prim.Native.Nat.{ℕ, _+_, _-_, _/_, _%_, _≤_, _<_}
 use lib.ListN.{length}
+use Rattle.span.specs.Word.{_⊕_}
 use Rattle.tables.specs.declared.table.Table.{Table}
 use Rattle.tables.specs.Table.{fit}
-use Rattle.link.specs.declared.decode.DecodeAnswer.the-variants.{NothingYet}
+use Rattle.link.specs.declared.decode.Mark.{Mark}
+use Rattle.link.specs.declared.decode.Mark.the-variants.{Doubtful}
+use Rattle.link.specs.declared.decode.DecodeAnswer.{DecodeAnswer}
+use Rattle.link.specs.declared.decode.DecodeAnswer.the-variants.{Delivery, NothingYet}
 use Rattle.link.specs.Memory.{started, coderWords, turnOf, decoderWords, pendingAt, delayOf, pendingOf}
 use Rattle.link.specs.Memory.{syndromeOf, delayedOf}
-use Rattle.link.specs.Runs.{Call, Sent, Taken, sentBy, takenBy, takenAt}
+use Rattle.link.specs.Decoder.{markError}
+use Rattle.link.specs.Runs.{Call, Sent, Taken, sentBy, takenBy, sentAt, takenAt}
 use Rattle.link.specs.Recovery.{Wrong, BurstsWithin, Separated, Sure, Recovered, Running}
 
 -- The stream that has its turn d places on is stream turn + d mod m; the coder's turn need not be the decoder's. The
@@ -60,6 +67,25 @@ CLEAN-SEPARATED =
     (t : Table) (coder decoder : List ℕ) (cs ds : List Call) → Running t coder decoder cs ds → Clean t coder decoder
     → Separated (Wrong (sentBy coder cs) (takenBy decoder ds)) (t .depth) (delayOf t) (length (takenBy decoder ds))
     → EachPlace t decoder (sentBy coder cs) (takenBy decoder ds)
+
+-- `Sure`, and e of the mark, 0 where it has none, is the error
+abbrev pub Tells : DecodeAnswer → ℕ → ℕ → Type 0
+Tells answer info error =
+    (mark : Mark) × (answer ≡ Delivery (record { info = info; mark = mark })) × (mark ≢ Doubtful)
+    × (markError mark ≡ error)
+
+-- With the same premises each mark tells how its block was taken: corrected or parity, with its error block as e, where
+-- it was wrong, and otherwise clean or held, since e of corrected and of parity is never 0 (`MARKS`).
+abbrev pub CLEAN-MARKS : Type 0
+CLEAN-MARKS =
+    (t : Table) (coder decoder : List ℕ) (cs ds : List Call) →
+    let sent = sentBy coder cs in
+    let taken = takenBy decoder ds in
+    Running t coder decoder cs ds → Clean t coder decoder
+    → Separated (Wrong sent taken) (t .depth) (delayOf t) (length taken)
+    → (p : ℕ) → delayOf t < p → p ≤ length taken →
+    let q = p - delayOf t in
+    Tells (takenAt taken p .answer) (sentAt sent q .info) (takenAt taken q .block ⊕ sentAt sent q .block)
 
 -- "Starting sets every word to zero."
 abbrev pub STARTED-CLEAN : Type 0

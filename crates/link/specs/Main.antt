@@ -9,7 +9,7 @@ use Rattle.link.specs.Formed.{STARTED-FORMED}
 use Rattle.link.specs.Massey.{PARITY, SYNDROME-ERRORS, DELIVERY, WAITING}
 use Rattle.link.specs.Recovery.{RECOVERY, RECOVERY-SHORT-GUARD}
 use Rattle.link.specs.Guard.{GUARD-END}
-use Rattle.link.specs.Clean.{CLEAN, STARTED-CLEAN}
+use Rattle.link.specs.Clean.{CLEAN, CLEAN-MARKS, STARTED-CLEAN}
 use Rattle.link.specs.Batches.{SHORTER, BATCH-RUN, RECOVERY-BATCHES, GUARD-END-BATCHES}
 use Rattle.link.specs.Sums.{NONE-REFUSED, CODED-FORMS-ADD, RAW-TERMS-ADD, DELIVERIES-NEED-NOT-ADD}
 use Rattle.link.specs.Reach.{IMPULSE-RESPONSE, ONE-BIT-REACH}
@@ -25,11 +25,13 @@ pub record Link : Type 0 where
   pub delivery : DELIVERY
   pub marks : MARKS
   -- demand 3: after a fade, of any well-formed memories; what the end of the guard tells (02, CR 4); recovery again, of
-  -- the same places, after 2 × m fewer right blocks; and of started memories, where no guard is needed
+  -- the same places, after 2 × m fewer right blocks; and of started memories, where no guard is needed, and where each
+  -- mark tells its block's error
   pub recovery : RECOVERY
   pub guard-end : GUARD-END
   pub recovery-short-guard : RECOVERY-SHORT-GUARD
   pub clean : CLEAN
+  pub clean-marks : CLEAN-MARKS
   pub started-clean : STARTED-CLEAN
   -- blocks by the batch (02, CR 1): where a batch ends, that it is a run of single calls, and demand 3 and the end of
   -- the guard of any mixture

@@ -6,25 +6,26 @@ use mathlib.Core.Path.{_≡_, refl, sym, ap, _∙_, subst}
 use mathlib.Core.Bool.{true}
 use mathlib.Core.Logic.{_⊎_, inl, inr}
 use mathlib.Core.List.{List, zipWith}
-use Prim.Native.Nat.{ℕ, zero, suc, _+_, _-_, _<_}
+use Prim.Native.Nat.{ℕ, zero, suc, _+_, _-_, _≤_, _<_}
 use native.Mathlib.Omega.{arith}
 use lib.ListN.{length, getD, replicate, length-replicate, List·getD-map}
 use lib.Seq.{ext-getD}
 use Rattle.span.specs.Word.{_⊕_}
 use Rattle.span.specs.Combination.{Below}
-use Rattle.span.proofs.Word.{xor-zero-l, xor-zero-r, xor-self}
+use Rattle.span.proofs.Word.{xor-zero-l, xor-zero-r, xor-comm, xor-assoc, xor-self}
 use Rattle.tables.specs.declared.table.Table.{Table}
 use Rattle.tables.specs.Table.{fit}
 use Rattle.tables.proofs.Fit.{fit-facts, zeros-at}
 use Rattle.link.specs.Memory.{started, coderWords, decoderWords, delayOf}
 use Rattle.link.specs.Runs.{Sent, Taken, sentBy, sentAt, takenAt, noneSent, noneTaken}
-use Rattle.link.specs.Recovery.{Origin, Wrong, Separated, Sure, Running}
+use Rattle.link.specs.Recovery.{Origin, Wrong, Separated, Running}
+use Rattle.link.specs.Clean.{Tells}
 use Rattle.link.specs.Computed.{calls}
 use Rattle.link.specs.Sums.{codedForm}
 use Rattle.link.proofs.Origin.{origin-known}
 use Rattle.link.proofs.Formed.{started-formed}
 use Rattle.link.proofs.Massey.{waiting}
-use Rattle.link.proofs.Clean.{clean-separated, started-clean}
+use Rattle.link.proofs.Clean.{clean-marks, started-clean}
 use Rattle.link.proofs.Taken.{OneEach, none-refused, sent-each, taken-each}
 use Rattle.link.proofs.Sums.{zip-size, blocks-at, blocks-below, coded-form-below, coded-forms-add}
 use Rattle.load.specs.Load.{loadOf}
@@ -75,13 +76,30 @@ module _ (t : Table) (o : Origin t) (infos errs : List ℕ) (below : Below (t .s
         enough = omega arith;
       }
 
-  -- a place where the error is 0 is right
+  coded-at : (p : ℕ) → getD (codedForm t infos) p 0 ≡ sentAt sent (suc p) .block
+  coded-at p =
+      let here : p ≡ suc p - 1 = omega arith in
+      List·getD-map (λ (x : Sent). x .block) sent p noneSent ∙ ap (λ (k : ℕ). getD sent k noneSent .block) here
+
+  -- a block is taken as it was sent, with its error added
+  taken-at : (p : ℕ) → takenAt (takenFrom t rs) (suc p) .block ≡ sentAt sent (suc p) .block ⊕ getD errs p 0
+  taken-at p =
+      taken-ones .blocks p ∙ blocks-at (codedForm t infos) errs (coded-size ∙ sym same) p
+      ∙ ap (λ (b : ℕ). b ⊕ getD errs p 0) (coded-at p)
+
   right : (p : ℕ) → getD errs p 0 ≡ 0 → takenAt (takenFrom t rs) (suc p) .block ≡ sentAt sent (suc p) .block
   right p none =
+      let b = sentAt sent (suc p) .block in
+      taken-at p ∙ ap (λ (e : ℕ). b ⊕ e) none ∙ xor-zero-r b
+
+  error-at : (q : ℕ) → 1 ≤ q → takenAt (takenFrom t rs) q .block ⊕ sentAt sent q .block ≡ getD errs (q - 1) 0
+  error-at zero from = absurd (omega arith)
+  error-at (suc p) from =
+      let b = sentAt sent (suc p) .block in
+      let e = getD errs p 0 in
       let here : p ≡ suc p - 1 = omega arith in
-      taken-ones .blocks p ∙ blocks-at (codedForm t infos) errs (coded-size ∙ sym same) p
-      ∙ ap (λ (e : ℕ). getD (codedForm t infos) p 0 ⊕ e) none ∙ xor-zero-r (getD (codedForm t infos) p 0)
-      ∙ List·getD-map (λ (x : Sent). x .block) sent p noneSent ∙ ap (λ (k : ℕ). getD sent k noneSent .block) here
+      ap (λ (a : ℕ). a ⊕ b) (taken-at p ∙ xor-comm b e) ∙ xor-assoc e b b ∙ ap (λ (z : ℕ). e ⊕ z) (xor-self b)
+      ∙ xor-zero-r e ∙ ap (λ (k : ℕ). getD errs k 0) here
 
   separated : Separated (Wrong sent (takenFrom t rs)) (t .depth) (delayOf t) (length (takenFrom t rs))
   separated zero q from l h u v = absurd (omega arith)
@@ -98,7 +116,7 @@ module _ (t : Table) (o : Origin t) (infos errs : List ℕ) (below : Below (t .s
       let here : q - 1 ≡ suc (q - 1) - 1 = omega arith in
       ap (λ (k : ℕ). getD sent k noneSent .info) here ∙ sent-ones .blocks (q - 1)
 
-  corrected : CorrectedTo t rs (λ (p : ℕ). getD infos (p - 1) 0)
+  corrected : CorrectedTo t rs (λ (p : ℕ). getD infos (p - 1) 0) (λ (p : ℕ). getD errs (p - 1) 0)
   corrected =
       let decoder = started (decoderWords t) in
       let size = taken-ones .size in
@@ -108,10 +126,12 @@ module _ (t : Table) (o : Origin t) (infos errs : List ℕ) (below : Below (t .s
         all-taken = size;
         waits = λ p from to few. waiting t decoder (calls t rs) (taken-ones .tables) p from (omega arith) (omega arith);
         deliveries = λ p to late.
-            let r =
-            clean-separated t (started (coderWords t)) decoder (calls t infos) (calls t rs) running
-            (started-clean t fits) separated p (omega arith) (omega arith) .0 late in
-            subst (Sure (takenAt (takenFrom t rs) p .answer)) (sent-info (p - delayOf t)) r;
+            let q = p - delayOf t in
+            let a = takenAt (takenFrom t rs) p .answer in
+            subst (λ (x : ℕ). Tells a x (getD errs (q - 1) 0)) (sent-info q)
+            (subst (Tells a (sentAt sent q .info)) (error-at q (omega arith))
+            (clean-marks t (started (coderWords t)) decoder (calls t infos) (calls t rs) running
+            (started-clean t fits) separated p late (omega arith)));
       }
 
 -- ---- the theorems
@@ -164,15 +184,20 @@ load-received t seed k known =
 
 pub load-corrected : LOAD-CORRECTED
 load-corrected t seed k o =
+    let long = length-replicate {A = ℕ} k 0 in
     let c =
-    subst (λ (rs : List ℕ). CorrectedTo t rs (λ (p : ℕ). getD (zeros k) (p - 1) 0))
+    subst (λ (j : ℕ). CorrectedTo t (loadOf t seed k) (λ (p : ℕ). getD (zeros k) (p - 1) 0)
+    (λ (p : ℕ). getD (loadOf t seed j) (p - 1) 0)) long
+    (subst (λ (rs : List ℕ). CorrectedTo t rs (λ (p : ℕ). getD (zeros k) (p - 1) 0)
+    (λ (p : ℕ). getD (loadOf t seed (length (zeros k))) (p - 1) 0))
     (load-received t seed k (origin-known t o .fits) .1)
-    (disturbed-message t seed (zeros k) o (zeros-below (t .symbols - 1) k)) in
+    (disturbed-message t seed (zeros k) o (zeros-below (t .symbols - 1) k))) in
     record {
       none-refused = c .none-refused;
       all-taken = c .all-taken;
       waits = c .waits;
       deliveries = λ p to late.
-          subst (Sure (takenAt (takenFrom t (loadOf t seed k)) p .answer)) (zeros-at k (p - delayOf t - 1))
-          (c .deliveries p to late);
+          let q = p - delayOf t in
+          let a = takenAt (takenFrom t (loadOf t seed k)) p .answer in
+          subst (λ (x : ℕ). Tells a x (getD (loadOf t seed k) (q - 1) 0)) (zeros-at k (q - 1)) (c .deliveries p to late);
     }

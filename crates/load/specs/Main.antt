@@ -20,7 +20,8 @@ pub record TestLoad : Type 0 where
   pub load-rounds : LOAD-ROUNDS
   pub load-cut : LOAD-CUT
   pub load-below : LOAD-BELOW
-  -- it is zeros as received, and is corrected completely; so are its errors on any message
+  -- it is zeros as received, and is corrected completely, its blocks told by the marks; so are its errors on any
+  -- message
   pub load-received : LOAD-RECEIVED
   pub load-corrected : LOAD-CORRECTED
   pub disturbed-message : DISTURBED-MESSAGE
