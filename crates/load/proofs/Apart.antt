@@ -3,7 +3,7 @@
 --
 --   Apart m guard xs   so stand any two places of a list, counted from 0, at which it is not 0
 --   load-apart         and those of a load
-use mathlib.Core.Path.{_≡_, refl, ap, _∙_}
+use mathlib.Core.Path.{_≡_, refl, _∙_}
 use mathlib.Core.Logic.{_≢_, _⊎_, inl, inr}
 use mathlib.Core.List.{List, _++_}
 use Prim.Native.Nat.{ℕ, zero, suc, _+_, _-_, _≤_, _<_}
@@ -11,16 +11,11 @@ use native.Mathlib.Nat.{mod-lt}
 use native.Mathlib.Decide.{decLt}
 use native.Mathlib.Omega.{arith}
 use lib.ListN.{length, getD, List·getD-append}
-use lib.Seq.{getD-append-add}
+use Rattle.span.proofs.Combination.{getD-past}
 use Rattle.tables.proofs.Fit.{padded-zero}
 use Rattle.load.specs.Draws.{nextState}
 use Rattle.load.specs.Load.{errors, burstLength, gapLength, afterRound, round, rounds, load}
 use Rattle.load.proofs.Load.{length-errors, length-round, load-at}
-
-past-round : (r rest : List ℕ) (i : ℕ) → length r ≤ i → getD (r ++ rest) i 0 ≡ getD rest (i - length r) 0
-past-round r rest i h =
-    let e : i ≡ length r + (i - length r) = omega arith in
-    ap (λ (j : ℕ). getD (r ++ rest) j 0) e ∙ getD-append-add r rest (i - length r) 0
 
 abbrev pub Apart : ℕ → ℕ → List ℕ → Type 0
 Apart m guard xs = (i j : ℕ) → i < j → getD xs i 0 ≢ 0 → getD xs j 0 ≢ 0 → (j < i + m) ⊎ (i + guard < j)
@@ -64,8 +59,8 @@ module _ (m guard : ℕ) (some : 1 ≤ m) where
         go (inr a) (inl b) = absurd (let s = length-round n m guard x in omega arith)
         go (inr a) (inr b) =
             shifted-on i j a l
-            (later (i - length r) (j - length r) (omega arith) (λ e. u (past-round r rest i a ∙ e))
-            (λ e. v (past-round r rest j b ∙ e)))
+            (later (i - length r) (j - length r) (omega arith) (λ e. u (getD-past r rest i a ∙ e))
+            (λ e. v (getD-past r rest j b ∙ e)))
 
   rounds-apart : (n k x : ℕ) → Apart m guard (rounds n m guard k x)
   unfolding rounds

@@ -144,15 +144,18 @@ pub below-left : (N : ℕ) (us vs : List ℕ) → Below N (us ++ vs) → Below N
 below-left N us vs h i l =
     subst (λ (x : ℕ). x < 2 ^ N) (List·getD-append us vs 0 i l) (h i (rw (length-append us vs) (omega arith)))
 
--- and so are those of two lists, one after the other
+-- past the first of two lists stands the second
+pub getD-past : (us vs : List ℕ) (i : ℕ) → length us ≤ i → getD (us ++ vs) i 0 ≡ getD vs (i - length us) 0
+getD-past us vs i h =
+    let e : i ≡ length us + (i - length us) = omega arith in
+    ap (λ (j : ℕ). getD (us ++ vs) j 0) e ∙ getD-append-add us vs (i - length us) 0
+
+-- the words of two lists are below a bound, and so those of both, one after the other
 pub below-append : (N : ℕ) (us vs : List ℕ) → Below N us → Below N vs → Below N (us ++ vs)
 below-append N us vs f g i h = go (decLt i (length us))
   where
     go : Dec (i < length us) → getD (us ++ vs) i 0 < 2 ^ N
     go (yes l) = rw (List·getD-append us vs 0 i l) (f i l)
     go (no l) =
-        let e : i ≡ length us + (i - length us) = omega arith in
         let s = length-append us vs in
-        subst (λ (z : ℕ). z < 2 ^ N)
-        (sym (ap (λ (j : ℕ). getD (us ++ vs) j 0) e ∙ getD-append-add us vs (i - length us) 0))
-        (g (i - length us) (omega arith))
+        rw (getD-past us vs i (omega arith)) (g (i - length us) (omega arith))

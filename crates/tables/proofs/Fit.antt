@@ -7,8 +7,9 @@ use native.Mathlib.Omega.{arith}
 use borrow.Author.Tests.{le-leb, lt-ltb, leb-true, ltb-true}
 use lib.Dec.{leb, ltb}
 use lib.ListN.{length, getD, take, replicate, length-append}
-use lib.Seq.{length-take-le, getD-append-add}
+use lib.Seq.{length-take-le}
 use Rattle.span.specs.Combination.{Below}
+use Rattle.span.proofs.Combination.{getD-past}
 use Rattle.tables.specs.declared.table.Table.{Table}
 use Rattle.tables.specs.Table.{table, infoRows, codeRows, sizesFit, rowsFit, fit}
 use Rattle.tables.specs.Laws.{ZERO-UNFIT, CODE-ROWS}
@@ -124,8 +125,4 @@ zeros-at (suc c) (suc i) = zeros-at c i
 
 -- rows with zeros after them are 0 past their end
 pub padded-zero : (rows : List ℕ) (c i : ℕ) → length rows ≤ i → getD (rows ++ replicate c 0) i 0 ≡ 0
-padded-zero rows c i h =
-    let e : i ≡ length rows + (i - length rows) = omega arith in
-    ap (λ (k : ℕ). getD (rows ++ replicate c 0) k 0) e
-    ∙ getD-append-add rows (replicate c 0) (i - length rows) 0
-    ∙ zeros-at c (i - length rows)
+padded-zero rows c i h = getD-past rows (replicate c 0) i h ∙ zeros-at c (i - length rows)
