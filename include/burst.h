@@ -263,10 +263,10 @@ size_t burst_decode_batch(const uint64_t table[18], uint64_t *words, size_t coun
  *
  * With a table that was read or made, a started decoder that takes a load of it from the first block on refuses no
  * step, and every block that it delivers has the information 0 and is not doubtful; the error told with it, 0 where the
- * mark is clean or held, is that block of the load. To have the first k of its
- * blocks delivered, k + m * (N - 1) are taken. The same errors may be added, by exclusive or, to the coded blocks of
- * any message from a started coder, block by block from the first: then too such a decoder refuses no step, what it
- * delivers is that message, as far as its blocks are delivered, and no block is doubtful.
+ * mark is clean or held, is that block of the load. To have the first k of its blocks delivered, k + m * (N - 1) are
+ * taken. The same errors may be added, by exclusive or, to the coded blocks of any message from a started coder, block
+ * by block from the first: then too such a decoder refuses no step, what it delivers is that message, as far as its
+ * blocks are delivered, and no block is doubtful.
  *
  * Returns 0; or 12 or 17, and then no block is written. The table is only read, and its suitability is not tested.
  */
