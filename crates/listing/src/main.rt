@@ -1,7 +1,9 @@
 // The listing program of 01: it reads n, m and received blocks, and prints what the decoder of the made table delivers.
 // What is printed, and from which memory and number the next part goes on, is decided in `report`; here bytes move
-// between the input, the buffers and the output.
-use libc::STDIN_FILENO;
+// between the input, the buffers and the output. A read or a write that fails is told on standard error.
+mod input;
+
+use input::read;
 use libc::STDOUT_FILENO;
 use report::opening::opening;
 use report::part::Progress;
@@ -11,12 +13,16 @@ use tables::table::Table;
 // The most bytes that a turn reads, an even number: their lines have room in a large buffer (`PROGRAM-ROOM`).
 const PART: usize = 2048;
 
-// The first `end` bytes of a buffer are written.
-fn print(out: &[u8], end: usize) -> bool {
-    if end <= out.len() {
-        return io::write_all(STDOUT_FILENO, &out[0..end]);
+// The first `end` bytes of a buffer are written. A failure is told, unless one of the input has been: a run tells one.
+fn print(out: &[u8], end: usize, is_told: bool) -> bool {
+    if end > out.len() {
+        return false;
     }
-    false
+    let is_written = io::write_all(STDOUT_FILENO, &out[0..end]);
+    if !is_written & !is_told {
+        os::fail(b"listing: standard output");
+    }
+    is_written
 }
 
 // One part of the input: it is read and its lines are written. Where the program is to go on, the next delivery's
@@ -24,13 +30,14 @@ fn print(out: &[u8], end: usize) -> bool {
 fn turn(t: Table, state: &mut [u64], number: u64) -> Progress {
     let mut bytes = [0u8; PART];
     let mut out = io::large_buffer();
-    let got = io::read_full(STDIN_FILENO, &mut bytes);
-    let p = part(t, state, &bytes[..got], number, &mut out);
-    let is_written = print(&out, p.end);
+    let input = read(&mut bytes);
+    let count = input.count;
+    let p = part(t, state, &bytes[..count], number, &mut out);
+    let is_written = print(&out, p.end, input.is_failed);
     Progress {
         end: p.end,
         number: p.number,
-        stopped: p.stopped | !is_written | (got < PART),
+        stopped: p.stopped | !is_written | (count < PART),
     }
 }
 
@@ -59,9 +66,10 @@ fn main() {
     let mut sizes = [0u8; 2];
     let mut memory = [0u64; 2114];
     let mut out = [0u8; 86];
-    let got = io::read_full(STDIN_FILENO, &mut sizes);
-    let o = opening(&sizes[..got], &mut memory, &mut out);
-    let is_written = print(&out, o.end);
+    let input = read(&mut sizes);
+    let count = input.count;
+    let o = opening(&sizes[..count], &mut memory, &mut out);
+    let is_written = print(&out, o.end, input.is_failed);
     if is_written & !o.stopped {
         list(o.table, &mut memory, o.words, o.number);
     }
