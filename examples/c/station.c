@@ -7,7 +7,14 @@
 
 #include "burst.h"
 
-enum { LEVELS = 6, BLOCKS_A_LEVEL = 7, BLOCKS = LEVELS * BLOCKS_A_LEVEL, DELAY = 18 };
+enum {
+    LEVELS = 6,
+    BLOCKS_A_LEVEL = 7,
+    BLOCKS = LEVELS * BLOCKS_A_LEVEL,
+    DELAY = BURST_IWADARE_DELAY,
+    CODER_WORDS = BURST_IWADARE_CODER_WORDS,
+    DECODER_WORDS = BURST_IWADARE_DECODER_WORDS
+};
 
 static const uint16_t levels[LEVELS] = {1225, 1232, 1240, 1249, 1258, 1266};
 
@@ -36,19 +43,22 @@ static uint16_t info_at(int place)
 
 int main(void)
 {
-    uint64_t coder[1];
-    uint64_t decoder[21];
+    uint64_t coder[CODER_WORDS];
+    uint64_t decoder[DECODER_WORDS];
     unsigned level = 0;
     int place;
 
-    if (burst_iwadare_start_coder(coder, 1) != 0 || burst_iwadare_start_decoder(decoder, 21) != 0) {
+    if (burst_iwadare_start_coder(coder, CODER_WORDS) != BURST_NOT_REFUSED
+        || burst_iwadare_start_decoder(decoder, DECODER_WORDS) != BURST_NOT_REFUSED) {
         return 2;
     }
     for (place = 0; place < BLOCKS + DELAY; place++) {
-        struct burst_coded sent = burst_iwadare_code(coder, 1, info_at(place));
-        struct burst_iwadare_decoded taken = burst_iwadare_decode(decoder, 21, damaged(sent.block, place));
+        struct burst_coded sent = burst_iwadare_code(coder, CODER_WORDS, info_at(place));
+        struct burst_iwadare_decoded taken =
+            burst_iwadare_decode(decoder, DECODER_WORDS, damaged(sent.block, place));
         int of = place - DELAY;
-        if (sent.refused != 0 || taken.refused != 0 || taken.delivered != (of >= 0)) {
+        if (sent.refused != BURST_NOT_REFUSED || taken.refused != BURST_NOT_REFUSED
+            || taken.delivered != (of >= 0)) {
             return 2;
         }
         if (of < 0) {

@@ -2,7 +2,6 @@
  * Stores a table that was read from a radio: reads it, writes it into a buffer, and reads that back.
  * Prints the stored bytes, a record a line, and fails if a call is refused or the table that comes back is another one.
  */
-#include <inttypes.h>
 #include <stdio.h>
 #include <string.h>
 
@@ -13,10 +12,10 @@ static const uint8_t radio[] = {1, 3, 6, 1, 2, 2, 34, 0, 0, 0, 0, 0, 0, 0, 2, 1,
 
 static int refused(const char *call, uint64_t number)
 {
-    if (number != 0) {
-        fprintf(stderr, "%s refused %" PRIu64 "\n", call, number);
+    if (number != BURST_NOT_REFUSED) {
+        fprintf(stderr, "%s: %s\n", call, burst_refusal_text(number));
     }
-    return number != 0;
+    return number != BURST_NOT_REFUSED;
 }
 
 /* A record: a byte of kind, and then as many as the kind has. */
@@ -33,28 +32,28 @@ static size_t print_record(const uint8_t *record)
 
 int main(void)
 {
-    uint64_t table[18];
-    uint64_t again[18];
-    uint8_t stored[155]; /* enough for any table */
-    struct burst_reading read = burst_read(radio, sizeof radio, table);
+    struct burst_table table;
+    struct burst_table again;
+    uint8_t stored[BURST_TABLE_BYTES(BURST_MOST_SYMBOLS)]; /* enough for any table */
+    struct burst_reading read = burst_read(radio, sizeof radio, &table);
     struct burst_written written;
     size_t at = 0;
 
     if (refused("read", read.refused)) {
         return 2;
     }
-    written = burst_write(table, stored, sizeof stored);
+    written = burst_write(&table, stored, sizeof stored);
     if (refused("write", written.refused)) {
         return 2;
     }
     while (at < written.length) {
         at += print_record(stored + at);
     }
-    read = burst_read(stored, (size_t)written.length, again);
+    read = burst_read(stored, (size_t)written.length, &again);
     if (refused("read again", read.refused)) {
         return 2;
     }
-    if (memcmp(table, again, sizeof table) != 0) {
+    if (memcmp(&table, &again, sizeof table) != 0) {
         fprintf(stderr, "another table came back\n");
         return 1;
     }

@@ -3,14 +3,14 @@
 use std::env;
 use std::path::{Path, PathBuf};
 
-const ARCHIVE: &str = "libexport.a";
+const ARCHIVE: &str = "libburst.a";
 
 fn archive_folder() -> PathBuf {
     let package = env::var("CARGO_MANIFEST_DIR").unwrap_or_default();
     let package = Path::new(&package);
     match env::var("BURST_LIB") {
         Ok(folder) if !folder.is_empty() => package.join(folder), // an absolute folder replaces the package's
-        _ => package.join("../../target/staticlib"),
+        _ => package.join("../../target/lib"),
     }
 }
 
