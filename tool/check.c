@@ -1,0 +1,43 @@
+/* burst check: reads a table, and tells what it is. */
+#include "bytes.h"
+#include "command.h"
+#include "output.h"
+#include "table.h"
+
+static void put_named(const char *before, uint64_t number)
+{
+    put_word(before);
+    put_number(number);
+}
+
+static void check(const struct options *o)
+{
+    const char *file = o->operand_count > 0 ? o->operands[0] : NULL;
+    struct burst_table table = read_table(file);
+    uint64_t delay = BURST_DELAY(table.span, table.depth);
+    uint64_t j;
+
+    put_word(name_of(file));
+    put_named(": suitable: n = ", table.symbols);
+    put_named(", N = ", table.span);
+    put_named(", m = ", table.depth);
+    put_word(", rows");
+    for (j = 1; j < table.symbols; j++) {
+        put_named(" ", table.rows[j - 1]);
+    }
+    put_named("\ncorrects bursts within ", table.depth);
+    put_named(" blocks that have ", delay);
+    put_named(" right ones between; delivers a block ", delay);
+    put_word(" blocks after it\n");
+    flush();
+}
+
+const struct command check_command = {
+    "check",
+    " [FILE]",
+    "Reads a table and tells its sizes and rows, or why it is refused, with the place or the error blocks.\n",
+    0,
+    0,
+    1,
+    check,
+};

@@ -1,0 +1,55 @@
+/* burst make: the table of Berlekamp and Preparata. */
+#include "command.h"
+#include "output.h"
+#include "say.h"
+#include "scan.h"
+#include "table.h"
+
+static void put_text(const struct burst_table *table)
+{
+    uint64_t j;
+
+    put_number(table->symbols);
+    put_byte(' ');
+    put_number(table->span);
+    put_byte(' ');
+    put_number(table->depth);
+    for (j = 1; j < table->symbols; j++) {
+        put_byte(' ');
+        put_number(table->rows[j - 1]);
+    }
+    put_byte('\n');
+    flush();
+}
+
+static uint64_t size(const char *word, const char *what)
+{
+    uint64_t value;
+
+    if (!scan_word(word, UINT64_MAX, &value)) {
+        give_up(USAGE, NULL, "%s is a number, not '%s'", what, word);
+    }
+    return value;
+}
+
+static void make(const struct options *o)
+{
+    struct burst_table table = make_table(size(o->operands[0], "n"), size(o->operands[1], "m"));
+
+    if (o->text) {
+        put_text(&table);
+    } else {
+        put_table(&table, NULL);
+    }
+}
+
+const struct command make_command = {
+    "make",
+    " [--text] n m",
+    "Writes the table that is made for n symbols, 2 to 16, and depth m, 1 to 64, as bytes,\n"
+    "or with --text as a line of numbers: n, N, m and the rows.\n",
+    HAS_TEXT,
+    2,
+    2,
+    make,
+};
