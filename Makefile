@@ -76,7 +76,7 @@ target/tool/burst: $(wildcard tool/*) include/burst.h target/lib/libburst.a
 	@$(CC) $(STRICT) $(CFLAGS) $(LDFLAGS) -o $@ $(wildcard tool/*.c) target/lib/libburst.a
 
 target/tool/burst-sanitized: target/tool/burst
-	@$(CC) $(STRICT) $(SANITIZED) -o $@ $(wildcard tool/*.c) target/lib/libburst.a
+	@$(CC) $(STRICT) $(SANITIZED) -o $@ $(wildcard tool/*.c) library/text.c target/lib/libburst.a
 
 install: library tool
 	install -d $(bin) $(lib)/pkgconfig $(header) $(man)/man1 $(man)/man3 $(man)/man5

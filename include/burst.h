@@ -1,14 +1,15 @@
 /*
  * The relay's burst codec for C99 and C++: tables, a coder and a decoder, by the block and by the batch, and a test
- * load for them. Beside them stand coder and decoder of the Iwadare-Massey stations, at the end: their code is fixed,
- * so that they have no table, and they have no batch and no load. "The code", "Memory" and "Batches" below are of the
+ * load for them. Below them stand coder and decoder of the Iwadare-Massey stations: their code is fixed, so that they
+ * have no table, and they have no batch and no load. "The code", "Memory" and "Batches" below are of the
  * codes with a table.
  *
  * Link with libburst, -lburst (make install; pkg-config knows it as burst), which is for x86-64 Linux and needs memcpy,
  * memmove and memset of the C library. Nothing here keeps a state of its own, allocates, or calls back: a caller lends
  * all memory, and a call writes only what its comment says. What the comments say of answers and memory is proved, for
- * every value of every argument, and so is that every call ends; docs/ASSURANCE.md of the source has the statements. That this header
- * fits the library is tested, and so are the two functions at the end that put numbers into words: these are C.
+ * every value of every argument, and so is that every call ends; docs/ASSURANCE.md of the source has the statements.
+ * That this header fits the library is tested, and so are the two functions at the end that put numbers into words:
+ * these are C.
  *
  * What a caller owes, as C cannot say it: a pointer is not null, not even with a length of 0, is aligned for its type,
  * and has behind it as many elements as the number after it says, a length, a count or a room (one table for a table);

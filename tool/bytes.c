@@ -4,7 +4,6 @@
 #include <fcntl.h>
 #include <poll.h>
 #include <stdbool.h>
-#include <stdlib.h>
 #include <string.h>
 #include <unistd.h>
 
@@ -48,7 +47,7 @@ static bool try_again(int descriptor, short event)
 {
     struct pollfd wait = {descriptor, event, 0};
 
-    if (errno == EAGAIN || errno == EWOULDBLOCK) {
+    if (errno == EAGAIN) {
         return poll(&wait, 1, -1) != -1 || errno == EINTR;
     }
     return errno == EINTR;
@@ -113,7 +112,7 @@ void hold_standard_descriptors(void)
     for (descriptor = STDIN_FILENO; descriptor <= STDERR_FILENO; descriptor++) {
         if (fcntl(descriptor, F_GETFD) == -1
             && open("/dev/null", descriptor == STDIN_FILENO ? O_WRONLY : O_RDONLY) != descriptor) {
-            exit(FAILED);
+            give_up_errno("/dev/null");
         }
     }
 }

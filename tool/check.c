@@ -25,10 +25,10 @@ static void check(const struct options *o)
     for (j = 1; j < table.symbols; j++) {
         put_named(" ", table.rows[j - 1]);
     }
-    put_named("\ncorrects bursts within ", table.depth);
-    put_named(" blocks that have ", delay);
-    put_named(" right ones between; delivers a block ", delay);
-    put_word(" blocks after it\n");
+    put_named("\nlongest burst that is corrected, in blocks: ", table.depth);
+    put_named("; right blocks between bursts: ", delay);
+    put_named("; delay: ", delay);
+    put_byte('\n');
     flush();
 }
 

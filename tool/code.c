@@ -4,7 +4,6 @@
 #include "command.h"
 #include "input.h"
 #include "output.h"
-#include "say.h"
 #include "table.h"
 
 static struct input input;
@@ -41,9 +40,7 @@ static void code(const struct options *o)
             input_refused(&input, infos, taken, burst_code(&table, words, count, infos[taken]).refused);
         }
     }
-    if (input.before == 0) {
-        note(input.name, "no block");
-    }
+    input_end(&input);
     if (o->tail) {
         size_t i;
 

@@ -54,6 +54,14 @@ struct command {
 extern const struct command make_command, check_command, write_command, code_command, decode_command, load_command,
     fade_command, stats_command;
 
+/* How to call a command, and how to name its table. */
+void put_usage(const struct command *command);
+extern const char table_help[];
+
+/* Numbers of a command line; what is none is wrong usage. */
+uint64_t number_of(const char *word, const char *what);
+uint32_t seed_of(const char *word);
+
 /* What a command line says, its first word the command's name. Asked for help, it prints that and ends. */
 struct options options_of(const struct command *command, int count, char **words);
 

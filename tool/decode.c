@@ -22,6 +22,7 @@ static void put_infos(const uint32_t *entries, size_t length)
 
 static void put_line(uint64_t number, struct burst_decoded delivery)
 {
+    begin_whole();
     put_number(number);
     put_byte(' ');
     put_number(delivery.info);

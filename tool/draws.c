@@ -2,19 +2,19 @@
 
 #include <stdlib.h>
 
+#include "output.h"
 #include "say.h"
 
-enum { FIRST = 1 << 15 }; /* blocks */
-
-/* The whole load anew, in one call, so that it is drawn as a power of 2 of blocks, and each block twice on average. */
+/* The whole load anew, since it is drawn in one call from its first block on. */
 static void fill(struct draws *d, size_t length)
 {
     uint64_t refused;
 
     free(d->blocks);
     d->length = length;
-    d->blocks = length <= SIZE_MAX / sizeof *d->blocks ? malloc(length * sizeof *d->blocks) : NULL;
+    d->blocks = length < SIZE_MAX / sizeof *d->blocks ? malloc((length + 1) * sizeof *d->blocks) : NULL;
     if (d->blocks == NULL) {
+        flush();
         give_up(FAILED, NULL, "not enough memory for %zu blocks of the load", length);
     }
     refused = burst_load(&d->table, d->seed, d->blocks, length);
@@ -24,15 +24,16 @@ static void fill(struct draws *d, size_t length)
     }
 }
 
-void draws_start(struct draws *d, struct burst_table table, uint32_t seed)
+void draws_start(struct draws *d, struct burst_table table, uint32_t seed, size_t length)
 {
     *d = (struct draws){table, seed, NULL, 0};
-    fill(d, FIRST);
+    fill(d, length);
 }
 
+/* By doubling, each block is drawn twice on average. */
 void draws_reach(struct draws *d, size_t length)
 {
     while (d->length < length) {
-        fill(d, d->length <= SIZE_MAX / 2 ? 2 * d->length : SIZE_MAX);
+        fill(d, 2 * d->length);
     }
 }

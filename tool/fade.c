@@ -13,6 +13,8 @@ static struct draws draws;
 static uint16_t blocks[MOST_BLOCKS];
 static uint16_t every_symbol;
 
+enum { FIRST_DRAWS = 1 << 15 }; /* blocks of the load, which then doubles */
+
 static bool is_in_burst(const struct options *o, uint64_t place)
 {
     size_t i;
@@ -58,12 +60,15 @@ static void fade(const struct options *o)
     struct burst_table table;
     size_t length;
 
-    if (o->burst_count == 0 && (!o->seeded || o->period != 0)) {
+    if (o->burst_count == 0 && o->period != 0) {
+        give_up(USAGE, NULL, "--every=PERIOD needs a burst, --burst=PLACE:LENGTH; --help says more");
+    }
+    if (o->burst_count == 0 && !o->seeded) {
         give_up(USAGE, NULL, "a seed or a burst is needed: --seed=SEED, or --burst=PLACE:LENGTH; --help says more");
     }
     table = table_of(o);
     if (o->seeded) {
-        draws_start(&draws, table, o->seed);
+        draws_start(&draws, table, o->seed, FIRST_DRAWS);
     }
     every_symbol = (uint16_t)((1u << table.symbols) - 1);
     input_start(&input, o->operands, o->operand_count, o->text);
@@ -75,9 +80,7 @@ static void fade(const struct options *o)
         }
         flush();
     }
-    if (input.before == 0) {
-        note(input.name, "no block");
-    }
+    input_end(&input);
 }
 
 const struct command fade_command = {

@@ -11,6 +11,7 @@ static char *const standard_files[] = {standard_input};
 void input_start(struct input *in, char *const *files, int count, bool text)
 {
     *in = (struct input){.files = count > 0 ? files : standard_files, .left = count > 0 ? count : 1, .text = text};
+    in->is_one = in->left == 1;
 }
 
 static void open_next(struct input *in)
@@ -18,6 +19,7 @@ static void open_next(struct input *in)
     in->descriptor = open_input(*in->files);
     in->name = name_of(*in->files);
     in->is_open = true;
+    in->in_file = 0;
     in->line = 1;
     in->files++;
     in->left--;
@@ -78,6 +80,7 @@ static size_t blocks_of_text(struct input *in, size_t length, uint16_t *blocks)
 size_t input_next(struct input *in, uint16_t blocks[MOST_BLOCKS])
 {
     in->before += in->given;
+    in->in_file += in->given;
     in->given = 0;
     while (in->given == 0) {
         size_t length;
@@ -103,8 +106,20 @@ size_t input_next(struct input *in, uint16_t blocks[MOST_BLOCKS])
     return in->given;
 }
 
+const char *input_name(const struct input *in)
+{
+    return in->is_one ? in->name : NULL;
+}
+
+void input_end(const struct input *in)
+{
+    if (in->before == 0) {
+        note(input_name(in), "no block");
+    }
+}
+
 void input_refused(const struct input *in, const uint16_t *blocks, size_t i, uint64_t refused)
 {
-    give_up(REFUSED, in->name, "block %llu is %d: refused %llu: %s", (unsigned long long)(in->before + i), blocks[i],
+    give_up(REFUSED, in->name, "block %llu is %d: refused %llu: %s", (unsigned long long)(in->in_file + i), blocks[i],
             (unsigned long long)refused, burst_refusal_text(refused));
 }

@@ -2,28 +2,18 @@
 #include "command.h"
 #include "draws.h"
 #include "output.h"
-#include "say.h"
-#include "scan.h"
 #include "table.h"
 
 static struct draws draws;
 
-/* The load is drawn in parts that double, so that what is written early needs little memory. */
 static void load(const struct options *o)
 {
-    uint64_t seed;
-    uint64_t count;
-    uint64_t i;
+    uint32_t seed = seed_of(o->operands[0]);
+    size_t count = number_of(o->operands[1], "a count of blocks");
+    size_t i;
 
-    if (!scan_word(o->operands[0], UINT32_MAX, &seed)) {
-        give_up(USAGE, NULL, "a seed is a number from 1 to 4294967295, not '%s'", o->operands[0]);
-    }
-    if (!scan_word(o->operands[1], SIZE_MAX, &count)) {
-        give_up(USAGE, NULL, "a count of blocks is a number, not '%s'", o->operands[1]);
-    }
-    draws_start(&draws, table_of(o), (uint32_t)seed);
+    draws_start(&draws, table_of(o), seed, count);
     for (i = 0; i < count; i++) {
-        draws_reach(&draws, i + 1);
         put_block(draws.blocks[i], o->text);
     }
     flush();

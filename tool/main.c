@@ -22,14 +22,11 @@ static void put_help(void)
 
     put_word("Codes and decodes blocks for a channel that fades.\n\n");
     for (i = 0; i < COMMANDS; i++) {
-        put_word("burst ");
-        put_word(commands[i]->name);
-        put_word(commands[i]->usage);
-        put_byte('\n');
+        put_usage(commands[i]);
     }
-    put_word("burst [COMMAND] --help\nburst --version\n\n"
-             "TABLE is -n n -m m for the table that is made for them, or --table=FILE (-t FILE).\n"
-             "Exit status: 0 done, 1 refused or damaged, 2 wrong usage, 3 input or output failed.\n"
+    put_word("burst [COMMAND] --help\nburst --version\n\n");
+    put_word(table_help);
+    put_word("Exit status: 0 done, 1 refused or damaged, 2 wrong usage, 3 input or output failed.\n"
              "burst(1) says more.\n");
 }
 
@@ -53,7 +50,9 @@ static bool is_either(const char *word, const char *letter, const char *name)
 int main(int count, char **words)
 {
     hold_standard_descriptors();
-    signal(SIGPIPE, SIG_IGN); /* a reader that went away is told as any other output that fails */
+    /* A reader that went away, or a limit on the size of files, is told as any other output that fails. */
+    signal(SIGPIPE, SIG_IGN);
+    signal(SIGXFSZ, SIG_IGN);
     if (count < 2) {
         give_up(USAGE, NULL, "a command is needed; burst --help has them");
     }

@@ -1,8 +1,6 @@
 /* burst make: the table of Berlekamp and Preparata. */
 #include "command.h"
 #include "output.h"
-#include "say.h"
-#include "scan.h"
 #include "table.h"
 
 static void put_text(const struct burst_table *table)
@@ -22,19 +20,9 @@ static void put_text(const struct burst_table *table)
     flush();
 }
 
-static uint64_t size(const char *word, const char *what)
-{
-    uint64_t value;
-
-    if (!scan_word(word, UINT64_MAX, &value)) {
-        give_up(USAGE, NULL, "%s is a number, not '%s'", what, word);
-    }
-    return value;
-}
-
 static void make(const struct options *o)
 {
-    struct burst_table table = make_table(size(o->operands[0], "n"), size(o->operands[1], "m"));
+    struct burst_table table = make_table(number_of(o->operands[0], "n"), number_of(o->operands[1], "m"));
 
     if (o->text) {
         put_text(&table);

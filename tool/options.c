@@ -1,5 +1,4 @@
 #include <getopt.h>
-#include <stdio.h>
 #include <stdlib.h>
 #include <string.h>
 
@@ -10,37 +9,34 @@
 #include "scan.h"
 
 /* Options of one letter are that letter. */
-enum { TEXT = 256, TAIL, MARKS, EVERY, SENT };
+enum { TEXT = 256, TAIL, MARKS, EVERY, SENT, HELP };
 
 static const struct option long_options[] = {
     {"table", required_argument, NULL, 't'},   {"text", no_argument, NULL, TEXT},
     {"tail", no_argument, NULL, TAIL},         {"marks", no_argument, NULL, MARKS},
     {"seed", required_argument, NULL, 's'},    {"burst", required_argument, NULL, 'b'},
     {"every", required_argument, NULL, EVERY}, {"sent", required_argument, NULL, SENT},
-    {"help", no_argument, NULL, 'h'},          {NULL, 0, NULL, 0},
+    {"help", no_argument, NULL, HELP},         {NULL, 0, NULL, 0},
 };
 
-/* What an option that getopt knows says. */
-static const char *name_of_option(int option)
-{
-    size_t i;
-
-    for (i = 0; long_options[i].name != NULL; i++) {
-        if (long_options[i].val == option) {
-            return long_options[i].name;
-        }
-    }
-    return option == 'n' ? "n" : "m";
-}
-
-static uint64_t number(const char *word, uint64_t most, const char *what)
+uint64_t number_of(const char *word, const char *what)
 {
     uint64_t value;
 
-    if (!scan_word(word, most, &value)) {
-        give_up(USAGE, NULL, "%s is a number from 0 to %llu, not '%s'", what, (unsigned long long)most, word);
+    if (!scan_word(word, UINT64_MAX, &value)) {
+        give_up(USAGE, NULL, "%s is a decimal number below 2^64, not '%s'", what, word);
     }
     return value;
+}
+
+uint32_t seed_of(const char *word)
+{
+    uint64_t value;
+
+    if (!scan_word(word, UINT32_MAX, &value)) {
+        give_up(USAGE, NULL, "a seed is a number from 1 to 4294967295, not '%s'", word);
+    }
+    return (uint32_t)value;
 }
 
 /* PLACE:LENGTH joins the bursts. */
@@ -57,8 +53,8 @@ static void add_burst(struct options *o, char *word)
     }
     *colon = '\0';
     o->bursts = bursts;
-    bursts[o->burst_count].place = number(word, UINT64_MAX, "the place of a burst");
-    bursts[o->burst_count].length = number(colon + 1, UINT64_MAX, "the length of a burst");
+    bursts[o->burst_count].place = number_of(word, "the place of a burst");
+    bursts[o->burst_count].length = number_of(colon + 1, "the length of a burst");
     o->burst_count++;
 }
 
@@ -67,11 +63,11 @@ static unsigned take(struct options *o, int option, char *value)
 {
     switch (option) {
     case 'n':
-        o->symbols = number(value, UINT64_MAX, "n");
+        o->symbols = number_of(value, "n");
         o->has_symbols = true;
         return HAS_TABLE;
     case 'm':
-        o->depth = number(value, UINT64_MAX, "m");
+        o->depth = number_of(value, "m");
         o->has_depth = true;
         return HAS_TABLE;
     case 't':
@@ -87,14 +83,14 @@ static unsigned take(struct options *o, int option, char *value)
         o->marks = true;
         return HAS_MARKS;
     case 's':
-        o->seed = (uint32_t)number(value, UINT32_MAX, "a seed");
+        o->seed = seed_of(value);
         o->seeded = true;
         return HAS_SEED;
     case 'b':
         add_burst(o, value);
         return HAS_BURSTS;
     case EVERY:
-        o->period = number(value, UINT64_MAX, "a period");
+        o->period = number_of(value, "a period");
         if (o->period == 0) {
             give_up(USAGE, NULL, "a period is 1 or more");
         }
@@ -105,20 +101,48 @@ static unsigned take(struct options *o, int option, char *value)
     }
 }
 
-static _Noreturn void help(const struct command *command)
+const char table_help[] = "TABLE is -n n -m m for the table that is made for them, or --table=FILE (-t FILE).\n";
+
+void put_usage(const struct command *command)
 {
     put_word("burst ");
     put_word(command->name);
     put_word(command->usage);
-    put_word("\n\n");
+    put_byte('\n');
+}
+
+static _Noreturn void help(const struct command *command)
+{
+    put_usage(command);
+    put_byte('\n');
     put_word(command->help);
     if (command->has & HAS_TABLE) {
-        put_word("\nTABLE is -n n -m m for the table that is made for them, or --table=FILE (-t FILE).\n");
+        put_word(table_help);
     }
     put_word("burst(1) says more.\n");
     flush();
     close_output();
     exit(DONE);
+}
+
+static bool is_standard(const char *file)
+{
+    return file != NULL && strcmp(file, "-") == 0;
+}
+
+/* What one reader takes of standard input another one lacks. */
+static int uses_of_standard_input(const struct command *command, const struct options *o)
+{
+    int uses = is_standard(o->table) + is_standard(o->sent);
+    int i;
+
+    if (o->operand_count == 0 && command->most > 0) {
+        uses++;
+    }
+    for (i = 0; i < o->operand_count; i++) {
+        uses += is_standard(o->operands[i]);
+    }
+    return uses;
 }
 
 /* One table, made or read, where the command needs one; and as many operands as it takes. */
@@ -134,15 +158,30 @@ static void judge(const struct command *command, const struct options *o)
     if (o->operand_count < command->least || o->operand_count > command->most) {
         give_up(USAGE, NULL, "usage: burst %s%s", command->name, command->usage);
     }
+    if (uses_of_standard_input(command, o) > 1) {
+        give_up(USAGE, NULL, "standard input is asked for twice");
+    }
 }
 
-/* What getopt does not know: a letter, perhaps among others, or a name; or a name that it knows, with a value. */
+/* What getopt does not know: a letter, perhaps among others, or a name that is none, is cut too short, or has a value. */
 static _Noreturn void unknown(const char *word)
 {
-    if (optopt > 0 && optopt < 256) {
-        give_up(USAGE, NULL, "it has no option '-%c'; --help says more", optopt);
+    if (optopt != 0 && optopt < 256) {
+        give_up(USAGE, NULL, "it does not take '-%c'; --help says more", optopt);
     }
-    give_up(USAGE, NULL, "it has no such option as '%s'; --help says more", word);
+    give_up(USAGE, NULL, "it does not take '%s'; --help says more", word);
+}
+
+static _Noreturn void not_for_this(int option)
+{
+    size_t i;
+
+    for (i = 0; long_options[i].name != NULL; i++) {
+        if (long_options[i].val == option) {
+            give_up(USAGE, NULL, "it does not take '--%s'; --help says more", long_options[i].name);
+        }
+    }
+    give_up(USAGE, NULL, "it does not take '-%c'; --help says more", option);
 }
 
 struct options options_of(const struct command *command, int count, char **words)
@@ -152,7 +191,7 @@ struct options options_of(const struct command *command, int count, char **words
 
     opterr = 0;
     while ((option = getopt_long(count, words, ":n:m:t:s:b:h", long_options, NULL)) != -1) {
-        if (option == 'h') {
+        if (option == 'h' || option == HELP) {
             help(command);
         }
         if (option == ':') {
@@ -162,7 +201,7 @@ struct options options_of(const struct command *command, int count, char **words
             unknown(words[optind - 1]);
         }
         if (!(take(&o, option, optarg) & command->has)) {
-            give_up(USAGE, NULL, "it takes no %s; --help says more", name_of_option(option));
+            not_for_this(option);
         }
     }
     o.operands = words + optind;

@@ -1,8 +1,8 @@
 #include "output.h"
 
-#include <stddef.h>
-
 #include "bytes.h"
+
+enum { LONGEST = 64 }; /* line of blocks or deliveries, or more */
 
 static unsigned char gathered[1 << 16];
 static size_t filled;
@@ -11,6 +11,13 @@ void flush(void)
 {
     write_all(gathered, filled);
     filled = 0;
+}
+
+void begin_whole(void)
+{
+    if (filled > sizeof gathered - LONGEST) {
+        flush();
+    }
 }
 
 void put_byte(unsigned char byte)
@@ -43,6 +50,7 @@ void put_number(uint64_t number)
 
 void put_block(uint16_t block, bool as_text)
 {
+    begin_whole();
     if (as_text) {
         put_number(block);
         put_byte('\n');

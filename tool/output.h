@@ -5,6 +5,9 @@
 #include <stdbool.h>
 #include <stdint.h>
 
+/* Before a line or a block: it is not written in two parts. */
+void begin_whole(void);
+
 void put_byte(unsigned char byte);
 void put_word(const char *word);
 void put_number(uint64_t number);

@@ -34,10 +34,9 @@ void relay_end(const struct relay *r)
     uint64_t taken = r->input.before;
     uint64_t delay = BURST_DELAY(r->table.span, r->table.depth);
 
-    if (taken == 0) {
-        note(r->input.name, "no block");
-    } else if (taken <= delay) {
-        note(r->input.name, "%llu blocks, none delivered: deliveries begin with block %llu, counted from 0",
+    input_end(&r->input);
+    if (taken > 0 && taken <= delay) {
+        note(input_name(&r->input), "none delivered of %llu: deliveries begin with block %llu, counted from 0",
              (unsigned long long)taken, (unsigned long long)delay);
     }
 }

@@ -26,12 +26,19 @@ static void say(const char *file, const char *format, va_list values)
     char line[8192];
     char cause[1024];
     int length;
+    int i;
 
     progress_done();
     vsnprintf(cause, sizeof cause, format, values);
-    length = snprintf(line, sizeof line, "burst%s%s: %.6000s%s%s\n", *called ? " " : "", called, file ? file : "",
+    length = snprintf(line, sizeof line, "burst%s%s: %.6000s%s%s", *called ? " " : "", called, file ? file : "",
                       file ? ": " : "", cause);
-    put_line(line, (size_t)length);
+    for (i = 0; i < length; i++) {
+        if ((unsigned char)line[i] < ' ' || line[i] == 127) {
+            line[i] = '?'; /* of a file's name or a word: one line stays one */
+        }
+    }
+    line[length] = '\n';
+    put_line(line, (size_t)length + 1);
 }
 
 void note(const char *file, const char *format, ...)
@@ -72,7 +79,7 @@ void progress(uint64_t bytes)
         return;
     }
     is_shown = true;
-    length = snprintf(line, sizeof line, "\rburst %s: %llu MB", called, (unsigned long long)(bytes / 1000000));
+    length = snprintf(line, sizeof line, "\rburst %s: %llu MB\033[K", called, (unsigned long long)(bytes / 1000000));
     put_line(line, (size_t)length);
 }
 

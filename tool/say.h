@@ -18,11 +18,11 @@ extern const char *called;
 __attribute__((format(printf, 2, 3))) void note(const char *file, const char *format, ...);
 
 /* A line, and the end. */
-__attribute__((format(printf, 3, 4), noreturn)) void give_up(enum status status, const char *file, const char *format,
+__attribute__((format(printf, 3, 4))) _Noreturn void give_up(enum status status, const char *file, const char *format,
                                                              ...);
 
 /* The end, with a line that tells errno. */
-__attribute__((noreturn)) void give_up_errno(const char *file);
+_Noreturn void give_up_errno(const char *file);
 
 /* How far a long input is, where somebody looks on: standard error is a terminal, and standard output is not. */
 void progress(uint64_t bytes);

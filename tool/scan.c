@@ -1,6 +1,6 @@
 #include "scan.h"
 
-#include <string.h>
+#include <stddef.h>
 
 bool scan_word(const char *word, uint64_t most, uint64_t *value)
 {

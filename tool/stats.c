@@ -1,11 +1,9 @@
 /* burst stats: received blocks in, counts of the marks out, and of what is right. */
 #include <limits.h>
-#include <string.h>
 
 #include "command.h"
 #include "output.h"
 #include "relay.h"
-#include "say.h"
 
 enum { MARKS = BURST_PARITY + 1 };
 
@@ -69,15 +67,15 @@ static void stats(const struct options *o)
 
     relay_start(&relay, o);
     if (o->sent != NULL) {
-        if (strcmp(o->sent, "-") == 0) {
-            give_up(USAGE, NULL, "--sent takes a file, not standard input");
-        }
         sent.is_known = true;
         sent.file = o->sent;
         input_start(&sent.input, &sent.file, 1, o->text);
         sent.length = input_next(&sent.input, sent.infos); /* also where nothing is delivered: it may be no file */
     }
     relay_run(&relay, count);
+    while (sent.length > 0) { /* what is damaged is told, wherever it stands */
+        sent.length = input_next(&sent.input, sent.infos);
+    }
     put_count("taken", relay.input.before);
     for (mark = 0; mark < MARKS; mark++) {
         put_count(burst_mark_text(mark), counts[mark]);

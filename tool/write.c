@@ -28,8 +28,8 @@ static size_t numbers_of(const char *name, const char *text, size_t length, uint
             numbers[count++] = s.value;
         }
     }
-    if (s.begun || length == MOST_TEXT) {
-        give_up(REFUSED, name, "the text is %s", s.begun ? "cut within a number" : "too long for a table");
+    if (length == MOST_TEXT || s.begun) {
+        give_up(REFUSED, name, "the text is %s", length == MOST_TEXT ? "too long for a table" : "cut within a number");
     }
     return count;
 }
