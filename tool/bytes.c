@@ -3,7 +3,6 @@
 #include <errno.h>
 #include <fcntl.h>
 #include <poll.h>
-#include <stdbool.h>
 #include <string.h>
 #include <unistd.h>
 
@@ -11,7 +10,7 @@
 
 static bool is_written;
 
-static bool is_standard(const char *file)
+bool is_standard(const char *file)
 {
     return file == NULL || strcmp(file, "-") == 0;
 }

@@ -2,9 +2,11 @@
 #ifndef BYTES_H
 #define BYTES_H
 
+#include <stdbool.h>
 #include <stddef.h>
 
-/* Standard input for "-" and for null. */
+/* Standard input is meant by "-" and by null. */
+bool is_standard(const char *file);
 int open_input(const char *file);
 const char *name_of(const char *file);
 void close_input(int descriptor);

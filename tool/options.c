@@ -125,15 +125,10 @@ static _Noreturn void help(const struct command *command)
     exit(DONE);
 }
 
-static bool is_standard(const char *file)
-{
-    return file != NULL && strcmp(file, "-") == 0;
-}
-
 /* What one reader takes of standard input another one lacks. */
 static int uses_of_standard_input(const struct command *command, const struct options *o)
 {
-    int uses = is_standard(o->table) + is_standard(o->sent);
+    int uses = (o->table != NULL && is_standard(o->table)) + (o->sent != NULL && is_standard(o->sent));
     int i;
 
     if (o->operand_count == 0 && command->most > 0) {
