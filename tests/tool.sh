@@ -26,7 +26,7 @@ verdict() { # STATUS WHAT
 }
 
 # shellcheck disable=SC2317 # called by cases, which are evaluated
-burst() { timeout 20 "$program" "$@"; }
+burst() { timeout 60 "$program" "$@"; }
 
 # STATUS, LINES and WORDS are patterns of `case`: the exit status, how many lines are on standard error, and one of them.
 # WANTED prints what must be on standard output; without it that is not looked at.
