@@ -28,8 +28,8 @@ verdict() { # STATUS WHAT
 # shellcheck disable=SC2317 # called by cases, which are evaluated
 burst() { timeout 60 "$program" "$@"; }
 
-# STATUS, LINES and WORDS are patterns of `case`: the exit status, how many lines are on standard error, and one of them.
-# WANTED prints what must be on standard output; without it that is not looked at.
+# STATUS, LINES and WORDS are patterns of `case`: the exit status, how many lines are on standard error, and one of
+# them. WANTED prints what must be on standard output; without it that is not looked at.
 judge() { # STATUS LINES WORDS COMMAND [WANTED]
     (eval "$4") < /dev/null > out 2> err
     status=$?
@@ -58,7 +58,8 @@ said() { # LINES WORDS
 }
 gives() { judge 0 0 '*' "$@"; } # COMMAND WANTED: done, and nothing on standard error
 notes() { judge 0 1 '*' "$@"; } # COMMAND WANTED: done, and a line on standard error
-refuses() { judge "$1" 1 "burst $2*" "$3" "${4-:}"; } # STATUS WORDS COMMAND [WANTED]: a line begins so; without WANTED no output
+# A line begins so; without WANTED there is no output.
+refuses() { judge "$1" 1 "burst $2*" "$3" "${4-:}"; } # STATUS WORDS COMMAND [WANTED]
 tells() { # COMMAND WORDS..: done, with these words on standard output, and nothing on standard error
     command=$1
     shift
@@ -111,8 +112,8 @@ records() { # text to bytes, rows in order
         printf "\\000"
     }')"
 }
-# The made table for n and m, in text. The triangle stands in the rows for n = 16, above their bit 16; rows of a smaller n
-# have its first n - 1 columns above their bit n, and bit n - j.
+# The made table for n and m, in text. The triangle stands in the rows for n = 16, above their bit 16; rows of a smaller
+# n have its first n - 1 columns above their bit n, and bit n - j.
 rows=$(sed -n 's/^make 16 64: 0; table 16 32 64 //p' tests/interface.stdout)
 made() { # n m
     printf '%d %d %d' "$1" $((2 * $1)) "$2"
