@@ -1,8 +1,8 @@
 /*
  * The relay's burst codec for C99 and C++: tables, a coder and a decoder, by the block and by the batch, and a test
  * load for them. Below them stand coder and decoder of the Iwadare-Massey stations: their code is fixed, so that they
- * have no table, and they have no batch and no load. "The code", "Memory" and "Batches" below are of the
- * codes with a table.
+ * have no table, and they have no batch and no load. "The code", "Memory" and "Batches" below are of the codes with a
+ * table.
  *
  * Link with libburst, -lburst (make install; pkg-config knows it as burst), which is for x86-64 Linux and needs memcpy,
  * memmove and memset of the C library. Nothing here keeps a state of its own, allocates, or calls back: a caller lends
