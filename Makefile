@@ -10,6 +10,7 @@
 #                  part of the gate
 # make clean       takes away target/, which holds all that is built
 # make help        this text
+.DELETE_ON_ERROR:
 .PHONY: run test library staticlib tool tool-sanitized install uninstall plot bench clean help
 
 VERSION := $(shell sed -n 's/^\#define BURST_VERSION "\(.*\)"/\1/p' include/burst.h)

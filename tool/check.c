@@ -15,16 +15,13 @@ static void check(const struct options *o)
     const char *file = o->operand_count > 0 ? o->operands[0] : NULL;
     struct burst_table table = read_table(file);
     uint64_t delay = BURST_DELAY(table.span, table.depth);
-    uint64_t j;
 
     put_word(name_of(file));
     put_named(": suitable: n = ", table.symbols);
     put_named(", N = ", table.span);
     put_named(", m = ", table.depth);
     put_word(", rows");
-    for (j = 1; j < table.symbols; j++) {
-        put_named(" ", table.rows[j - 1]);
-    }
+    put_rows(&table);
     put_named("\nlongest burst that is corrected, in blocks: ", table.depth);
     put_named("; right blocks between bursts: ", delay);
     put_named("; delay: ", delay);

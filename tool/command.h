@@ -17,8 +17,8 @@ enum {
     HAS_SENT = 64
 };
 
-struct stretch {
-    uint64_t place; /* its first block */
+struct burst {
+    uint64_t place; /* of its first block */
     uint64_t length;
 };
 
@@ -33,7 +33,7 @@ struct options {
     bool marks;
     bool seeded;
     uint32_t seed;
-    struct stretch *bursts;
+    struct burst *bursts;
     size_t burst_count;
     uint64_t period; /* 0: each burst comes once */
     char *sent;

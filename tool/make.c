@@ -5,17 +5,12 @@
 
 static void put_text(const struct burst_table *table)
 {
-    uint64_t j;
-
     put_number(table->symbols);
     put_byte(' ');
     put_number(table->span);
     put_byte(' ');
     put_number(table->depth);
-    for (j = 1; j < table->symbols; j++) {
-        put_byte(' ');
-        put_number(table->rows[j - 1]);
-    }
+    put_rows(table);
     put_byte('\n');
     flush();
 }

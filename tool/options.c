@@ -43,7 +43,7 @@ uint32_t seed_of(const char *word)
 static void add_burst(struct options *o, char *word)
 {
     char *colon = strchr(word, ':');
-    struct stretch *bursts = realloc(o->bursts, (o->burst_count + 1) * sizeof *bursts);
+    struct burst *bursts = realloc(o->bursts, (o->burst_count + 1) * sizeof *bursts);
 
     if (bursts == NULL) {
         give_up(FAILED, NULL, "not enough memory for the bursts");

@@ -1,6 +1,7 @@
 #include "table.h"
 
 #include "bytes.h"
+#include "output.h"
 #include "say.h"
 
 /*
@@ -52,6 +53,16 @@ struct burst_table make_table(uint64_t symbols, uint64_t depth)
 struct burst_table table_of(const struct options *o)
 {
     return o->table != NULL ? read_table(o->table) : make_table(o->symbols, o->depth);
+}
+
+void put_rows(const struct burst_table *table)
+{
+    uint64_t j;
+
+    for (j = 1; j < table->symbols; j++) {
+        put_byte(' ');
+        put_number(table->rows[j - 1]);
+    }
 }
 
 void put_table(const struct burst_table *table, const char *file)

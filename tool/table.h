@@ -12,6 +12,9 @@ struct burst_table make_table(uint64_t symbols, uint64_t depth);
 /* The table that the options name. */
 struct burst_table table_of(const struct options *options);
 
+/* Its rows in decimal, a blank before each. */
+void put_rows(const struct burst_table *table);
+
 /* Its bytes, to standard output. The file is what a refusal names, or null. */
 void put_table(const struct burst_table *table, const char *file);
 
