@@ -6,7 +6,7 @@ ghost use Rattle.export.specs.Answers.{coded_of};
 use link::code::CodeAnswer;
 
 #[repr(C)]
-#[derive(Drop)]
+#[derive(Clone, Copy)]
 pub struct BurstCoded {
     pub refused: u64,
     pub block: u64,

@@ -6,7 +6,7 @@ ghost use Rattle.export.specs.Answers.{decoded_of};
 use link::decode::{DecodeAnswer, Delivered, Mark};
 
 #[repr(C)]
-#[derive(Drop)]
+#[derive(Clone, Copy)]
 pub struct BurstDecoded {
     pub refused: u64,
     pub info: u64,

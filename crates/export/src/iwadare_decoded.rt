@@ -6,7 +6,7 @@ ghost use Rattle.export.specs.Answers.{iwadare_decoded_of};
 use iwadare::decode::DecodeAnswer;
 
 #[repr(C)]
-#[derive(Drop)]
+#[derive(Clone, Copy)]
 pub struct BurstIwadareDecoded {
     pub refused: u64,
     pub delivered: u64,

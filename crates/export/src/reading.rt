@@ -6,7 +6,7 @@ ghost use Rattle.export.specs.Answers.{reading_of};
 use tables::read::ReadAnswer;
 
 #[repr(C)]
-#[derive(Drop)]
+#[derive(Clone, Copy)]
 pub struct BurstReading {
     pub refused: u64,
     pub place: u64,

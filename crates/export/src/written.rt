@@ -6,7 +6,7 @@ ghost use Rattle.export.specs.Answers.{written_of};
 use tables::write::WriteAnswer;
 
 #[repr(C)]
-#[derive(Drop)]
+#[derive(Clone, Copy)]
 pub struct BurstWritten {
     pub refused: u64,
     pub length: u64,

@@ -10,7 +10,7 @@ use crate::code::image;
 use link::stream::push;
 use span::bits::select;
 
-#[derive(Drop)]
+#[derive(Clone, Copy)]
 pub enum DecodeAnswer {
     // The information of the block taken 18 steps before.
     Delivery(u16),
@@ -20,7 +20,7 @@ pub enum DecodeAnswer {
 }
 
 // What 13 terms say: the terms that stay, and what is flipped of the block 18 back and of the one 15 back.
-#[derive(Drop)]
+#[derive(Clone, Copy)]
 struct Verdict {
     pub terms: u64,
     pub symbol0: u64,

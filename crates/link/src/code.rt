@@ -12,7 +12,7 @@ use span::bits::{mask, select};
 use span::combine::combination;
 use tables::table::{Table, lent_fits};
 
-#[derive(Drop)]
+#[derive(Clone, Copy)]
 pub enum CodeAnswer {
     // The coded block: information and parity.
     Coded(u16),

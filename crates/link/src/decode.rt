@@ -15,7 +15,7 @@ use span::combine::combination;
 use span::eliminate::{Least, least_relation};
 use tables::table::{Table, lent_fits};
 
-#[derive(Drop)]
+#[derive(Clone, Copy)]
 pub enum Mark {
     Clean,
     // The error block that was removed.
@@ -26,13 +26,13 @@ pub enum Mark {
     Held,
 }
 
-#[derive(Drop)]
+#[derive(Clone, Copy)]
 pub struct Delivered {
     pub info: u16,
     pub mark: Mark,
 }
 
-#[derive(Drop)]
+#[derive(Clone, Copy)]
 pub enum DecodeAnswer {
     Delivery(Delivered),
     NothingYet,
@@ -41,14 +41,14 @@ pub enum DecodeAnswer {
 }
 
 // The word w of a step, with the received parity added to its bit 0, and the register.
-#[derive(Drop)]
+#[derive(Clone, Copy)]
 pub(crate) struct Joined {
     pub w: u64,
     pub register: u64,
 }
 
 // What a register says: the error, the syndrome word that stays, and the mark.
-#[derive(Drop)]
+#[derive(Clone, Copy)]
 pub(crate) struct Verdict {
     pub error: u16,
     pub kept: u64,

@@ -1,4 +1,5 @@
 // The coder and the decoder on lent memory.
+#![tactic(auto)]
 pub mod code;
 pub mod code_batch;
 pub mod decode;

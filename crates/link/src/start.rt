@@ -6,7 +6,7 @@ ghost use Rattle.link.specs.Start.{StartsWords, Starts};
 
 use tables::table::{Table, is_fit};
 
-#[derive(Drop)]
+#[derive(Clone, Copy)]
 pub enum StartAnswer {
     Started,
     // Refusals 12 and 13.

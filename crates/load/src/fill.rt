@@ -9,7 +9,7 @@ use span::bits::mask;
 use span::bound::min;
 use tables::table::{Table, is_fit};
 
-#[derive(Drop)]
+#[derive(Clone, Copy)]
 pub enum LoadAnswer {
     Filled,
     // 12 or 17.
@@ -17,7 +17,7 @@ pub enum LoadAnswer {
 }
 
 // How many blocks of a round were filled, and the generator after it.
-#[derive(Drop)]
+#[derive(Clone, Copy)]
 struct Round {
     length: usize,
     next: Generator,

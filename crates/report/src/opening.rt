@@ -13,7 +13,7 @@ use tables::table::{Table, zero_table};
 
 // The table, the words of its decoder, the count of bytes written, the number of the next delivery, and whether the
 // program stopped.
-#[derive(Drop)]
+#[derive(Clone, Copy)]
 pub struct Opened {
     pub table: Table,
     pub words: usize,

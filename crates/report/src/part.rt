@@ -8,7 +8,7 @@ use link::decode::{DecodeAnswer, decode};
 use tables::table::Table;
 
 // How far a listing came: the count of bytes written, the number of the next delivery, and whether it stopped.
-#[derive(Drop)]
+#[derive(Clone, Copy)]
 pub struct Progress {
     pub end: usize,
     pub number: u64,

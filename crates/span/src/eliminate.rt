@@ -10,7 +10,7 @@ use crate::bound::min;
 
 // `size` triples: what was left of a word that joined, a check word that has an odd count of common ones with it, and
 // the coefficients that make it from the words.
-#[derive(Drop)]
+#[derive(Clone, Copy)]
 pub struct Basis {
     pub size: usize,
     pub vectors: [u64; 32],
@@ -19,21 +19,21 @@ pub struct Basis {
 }
 
 // What is left of a word, and the coefficients of what was taken away.
-#[derive(Drop)]
+#[derive(Clone, Copy)]
 pub struct Reduced {
     pub rest: u64,
     pub coefficients: u64,
 }
 
 // The least coefficients that a search was for.
-#[derive(Drop)]
+#[derive(Clone, Copy)]
 pub enum Least {
     Found(u64),
     Missing,
 }
 
 // Where an elimination stopped: the basis of the words taken up, and the relation that the next word gave.
-#[derive(Drop)]
+#[derive(Clone, Copy)]
 struct Eliminated {
     basis: Basis,
     found: Least,

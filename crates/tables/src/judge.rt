@@ -9,7 +9,7 @@ use crate::table::{Table, is_fit};
 use span::bits::{mask, shift};
 use span::eliminate::{Least, least_relation};
 
-#[derive(Drop)]
+#[derive(Clone, Copy)]
 pub enum Judgement {
     // Refusal 12.
     Unfit,

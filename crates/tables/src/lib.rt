@@ -1,4 +1,5 @@
 // Tables of the code: fitness, judging, reading, writing and making.
+#![tactic(auto)]
 mod judge;
 pub mod make;
 pub mod read;

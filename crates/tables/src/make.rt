@@ -10,14 +10,14 @@ const COLUMNS: [u64; 15] = [
     1, 3, 7, 13, 17, 35, 71, 237, 433, 851, 1687, 2365, 5873, 9155, 26183,
 ];
 
-#[derive(Drop)]
+#[derive(Clone, Copy)]
 pub enum MakeAnswer {
     Made,
     // Refusal 11.
     OutOfRange,
 }
 
-#[derive(Drop)]
+#[derive(Clone, Copy)]
 pub struct Making {
     pub answer: MakeAnswer,
     pub table: Table,

@@ -10,7 +10,7 @@ use crate::judge::{Judgement, judge};
 use crate::table::{Table, sizes_fit, zero_table};
 use span::bits::mask;
 
-#[derive(Drop)]
+#[derive(Clone, Copy)]
 pub enum ReadAnswer {
     Accepted,
     // A number from 1 to 9, and the place.
@@ -21,7 +21,7 @@ pub enum ReadAnswer {
 }
 
 // On every refusal the table is the zero table.
-#[derive(Drop)]
+#[derive(Clone, Copy)]
 pub struct Reading {
     pub answer: ReadAnswer,
     pub table: Table,
@@ -29,7 +29,7 @@ pub struct Reading {
 
 // How far a reading came: the table so far, without symbols before the sizes, and which rows were given, row j at
 // given[j − 1].
-#[derive(Drop)]
+#[derive(Clone, Copy)]
 struct Progress {
     table: Table,
     given: [bool; 15],

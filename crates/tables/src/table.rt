@@ -7,7 +7,7 @@ ghost use Rattle.tables.specs.Lent.{lent};
 use span::bits::mask;
 use span::bound::min;
 
-#[derive(Drop)]
+#[derive(Clone, Copy)]
 pub struct Table {
     pub symbols: usize,
     pub span: usize,

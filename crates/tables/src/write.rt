@@ -7,7 +7,7 @@ ghost use Rattle.tables.specs.Writing.{ascending, write_by, write_buffer, Writes
 use crate::judge::{Judgement, judge};
 use crate::table::Table;
 
-#[derive(Drop)]
+#[derive(Clone, Copy)]
 pub enum WriteAnswer {
     // How many bytes were written.
     Written(usize),
