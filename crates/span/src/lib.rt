@@ -1,5 +1,6 @@
 // Words over GF(2), their combinations, and the least relation among them.
 #![tactic(auto)]
+
 pub mod bits;
 pub mod bound;
 pub mod combine;

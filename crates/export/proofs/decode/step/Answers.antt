@@ -1,0 +1,15 @@
+-- `export::decode::step`: the part of the numbers that is lent is the rows. Assumes nothing.
+use mathlib.Core.Path.{subst}
+use native.Mathlib.Omega.{arith}
+use borrow.Author.Rules.{rules}
+use Rattle.tables.specs.declared.table.Table.{Table}
+use Rattle.link.specs.Decoder.{Decodes}
+use Rattle.export.proofs.Lent.{rows-lent}
+use Rattle.export.proofs.decode.step.Goals as goal
+
+pub returns : goal.returns
+returns c =
+    let a = c.args in
+    let step = c.decode_lent in
+    subst (λ (u : Table). Decodes u a.words.now a.received step.result step.new.state)
+    (rows-lent a.t a.numbers.now c.requires) step.ensures

@@ -1,0 +1,16 @@
+-- `export::table::table_of`: the sizes, and the rows after them. Assumes nothing.
+use mathlib.Core.Path.{ap₂, ◌∙◌}
+use mathlib.Core.List.{List}
+use Prim.Native.Nat.{ℕ}
+use borrow.Author.Rules.{rules}
+use Rattle.tables.specs.declared.table.Table.{Table}
+use Rattle.tables.specs.Table.{table}
+use Rattle.export.proofs.Numbers.{table-parts}
+use Rattle.export.proofs.table.table_of.Goals as goal
+
+pub returns : goal.returns
+returns c =
+    let numbers = c.args.numbers.now in
+    ap₂ (λ (t : Table) (rows : List ℕ). table t.symbols t.span t.depth rows) c.sizes_of-t.ensures
+    c.rows_of-rows.ensures
+    ∙ table-parts numbers

@@ -1,0 +1,15 @@
+-- `export::test_load::burst_load`: the load of the table of the numbers. Assumes nothing.
+use mathlib.Core.Path.{ap, ◌∙◌, subst}
+use borrow.Author.Rules.{rules}
+use Rattle.tables.specs.declared.table.Table.{Table}
+use Rattle.export.specs.Answers.{number_of}
+use Rattle.export.specs.Promises.{LoadsBy}
+use Rattle.export.proofs.test_load.burst_load.Goals as goal
+
+pub returns : goal.returns
+returns c =
+    let a = c.args in
+    let fill = c.fill_load.ensures in
+    subst (λ (u : Table). LoadsBy u a.seed a.blocks.now c.filled.result c.fill_load.new.out)
+    c.table_of.ensures
+    (record { number = c.filled.ensures ∙ ap number_of fill.numbers; blocks = fill.blocks })

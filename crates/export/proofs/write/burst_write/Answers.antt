@@ -1,0 +1,18 @@
+-- `export::write::burst_write`: the writing of the table of the numbers. Assumes nothing.
+use mathlib.Core.Path.{ap, subst, ◌∙◌}
+use Rattle.tables.specs.declared.table.Table.{Table}
+use Rattle.tables.specs.declared.write.WriteAnswer.{WriteAnswer}
+use Rattle.tables.specs.Writing.{write_numbers}
+use Rattle.export.specs.Answers.{written_of}
+use Rattle.export.specs.Promises.{WritesBy}
+use borrow.Author.Rules.{rules}
+use Rattle.export.proofs.write.burst_write.Goals as goal
+
+pub returns : goal.returns
+returns c =
+    let bytes = c.args.bytes.now in
+    subst (λ (u : Table). WritesBy u bytes c.written.result c.write.new.out) c.table_of.ensures
+    (record {
+      answer = c.written.ensures ∙ ap (λ (a : WriteAnswer). written_of (write_numbers a)) c.write.ensures.answer;
+      buffer = c.write.ensures.buffer;
+    })

@@ -1,0 +1,207 @@
+use mathlib.Core.Path.{◌≡◌, refl, sym, ap, subst, ◌∙◌}
+use mathlib.Core.Bool.{Bool, true, false, cond}
+use mathlib.Core.List.{List, [], ◌∷◌}
+use Prim.Native.Nat.{ℕ, ◌+◌, ◌-◌, ◌^◌, ◌≤◌, ◌<◌}
+use native.Mathlib.Omega.{arith}
+use borrow.Author.Rules.{rules}
+use borrow.Author.Tests.{lt-ltb, le-ltb}
+use lib.Dec.{leb, ltb}
+use lib.ListN.{length, get_or, set}
+use lib.Pow.{pow_mono}
+use Rattle.span.specs.Combination.{combination}
+use lib.Seq.{length-take-le}
+use Rattle.span.proofs.Masks.{above-mask}
+use Rattle.tables.specs.declared.table.Table.{Table}
+use Rattle.tables.specs.Lent.{with_rows}
+use Rattle.tables.specs.Table.{info_rows}
+use Rattle.tables.proofs.Fit.{Fits, fit-facts}
+use Rattle.link.specs.Memory.{coder_words}
+use Rattle.link.specs.Refusals.{coder_malformed, coder_fault}
+use Rattle.link.specs.Coder.{coded_block, coder_next, code_answer, code_memory}
+use Rattle.link.proofs.Coder.{CoderTaken, coder-taken, coder-length, codes, coded-fits, block_in_numbers}
+use Rattle.link.proofs.Coder.{memory_in_numbers}
+use Rattle.link.specs.Batch.{Batch, batch, code_entries, code_batch, Fills, Reached}
+use Rattle.link.proofs.Refusals.{step_settled}
+use Rattle.link.proofs.CodeWords.{image-by}
+use Rattle.link.proofs.Entries.{coded_none, coded_one}
+use Rattle.link.proofs.Reached.{reached_start, reached_next, reached_refused, reached_all}
+use Rattle.link.proofs.code_batch.fill.Goals as goal
+use Rattle.link.proofs.code_batch.fill.Goals.{At-loop-i, Else-most-info, In-loop-i, Start}
+
+abbrev made : Table → ℕ → List ℕ → List ℕ → Batch
+made u = batch (λ s b. code_entries (code_answer u s b)) (code_memory u)
+
+abbrev whole : goal.Start → Table
+whole c = with_rows c.args.t c.args.rows.now
+
+facts : (c : goal.Start)
+    → Fits c.args.t.symbols c.args.t.span c.args.t.depth (info_rows (whole c))
+facts c = fit-facts (whole c) c.requires.0
+
+pub overflow_sub-width : goal.overflow_sub-width
+overflow_sub-width c = let n = (facts (goal.at.overflow_sub-width c).Start).n_from in omega arith
+
+pub one_at-weight-requires : goal.one_at-weight-requires
+one_at-weight-requires c = let n = (facts (goal.at.one_at-weight-requires c).Start).n_to in omega arith
+
+pub loop-i-init : goal.loop-i-init
+loop-i-init c =
+    let a = c.args in
+    let u = with_rows a.t a.rows.now in (
+      reached_start (λ s b. code_entries (code_answer u s b)) (code_memory u) a.state.now a.infos.now
+          a.out.now,
+      refl,
+    )
+
+pub overflow_cast-info : goal.overflow_cast-info
+overflow_cast-info c =
+    record { fits = omega (arith, c.shared_slice_known-in-loop-i-1.given c.loop-i.i) }
+
+pub malformed-requires : goal.malformed-requires
+malformed-requires c =
+    let z = facts (goal.at.malformed-requires c).Start in
+    (c.loop-i.invariant.1 ∙ c.requires.2, z.N_to, (let h = z.N_from in omega arith), z.m_to)
+
+-- what the batch does at this turn's block
+abbrev block : goal.At-loop-i → ℕ
+block c = get_or c.args.infos.now c.loop-i.i 0
+
+settled : (c : goal.At-loop-i) (p q : Bool) → coder_malformed (whole c.before.before.before.before.before.before.before.before.before.before) c.loop-i.state ≡ p
+    → leb (2 ^ (c.args.t.symbols - 1)) (block c) ≡ q
+    → coder_fault (whole c.before.before.before.before.before.before.before.before.before.before) c.loop-i.state (block c) ≡ cond p 14 (cond q 15 0)
+unfolding coder_fault
+settled c p q =
+    let u = whole c.before.before.before.before.before.before.before.before.before.before in
+    step_settled u (coder_words u) (coder_malformed u c.loop-i.state) (2 ^ (u.symbols - 1)) c.loop-i.state (block c)
+    c.requires.0 (c.loop-i.invariant.1 ∙ c.requires.2) p q
+
+refused : (c : goal.At-loop-i) → c.loop-i.i < length c.args.infos.now → (k : ℕ)
+    → coder_fault (whole c.before.before.before.before.before.before.before.before.before.before) c.loop-i.state (block c) ≡ k → 0 < k
+    → let a = c.args in
+    Fills (code_batch (whole c.before.before.before.before.before.before.before.before.before.before) (length a.out.now) a.state.now a.infos.now) a.out.now
+    c.loop-i.i c.loop-i.state c.loop-i.out
+unfolding code_batch
+refused c left k e some =
+    let a = c.args in
+    let u = whole c.before.before.before.before.before.before.before.before.before.before in
+    reached_refused (λ s b. code_entries (code_answer u s b)) (code_memory u) a.state.now a.infos.now a.out.now
+    c.loop-i.i c.loop-i.state c.loop-i.out c.loop-i.invariant.0 left
+    (coded_none u c.loop-i.state (block c) k e some)
+
+-- the turn's block is there, and so is its room
+inside : (c : goal.In-loop-i)
+    → (c.loop-i.i < length c.args.infos.now) × (c.loop-i.i < length c.args.out.now)
+inside c = let e = c.min-end.ensures in (omega arith, omega arith)
+
+abbrev large : goal.At-loop-i → Bool
+large c = leb (2 ^ (c.args.t.symbols - 1)) (block c)
+
+tested : (c : goal.At-loop-i) → ltb c.mask-most.result (block c) ≡ large c
+tested c =
+    let n = (facts c.before.before.before.before.before.before.before.before.before.before).n_to in
+    above-mask (c.args.t.symbols - 1) c.mask-most.result (block c) (omega arith)
+    c.mask-most.ensures
+
+pub returns-then-malformed : goal.returns-then-malformed
+returns-then-malformed c =
+    refused (goal.at.returns-then-malformed c).At-loop-i (inside (goal.at.returns-then-malformed c).In-loop-i).0 14 (settled (goal.at.returns-then-malformed c).At-loop-i true (large (goal.at.returns-then-malformed c).At-loop-i)
+    (sym c.malformed.ensures ∙ c.if-malformed.true) refl)
+    (omega arith)
+
+pub returns-then-most-info : goal.returns-then-most-info
+returns-then-most-info c =
+    refused (goal.at.returns-then-most-info c).At-loop-i (inside (goal.at.returns-then-most-info c).In-loop-i).0 15
+    (settled (goal.at.returns-then-most-info c).At-loop-i false true (sym c.malformed.ensures ∙ c.if-malformed.false)
+    (sym (tested (goal.at.returns-then-most-info c).At-loop-i) ∙ lt-ltb _ _ c.if-most-info.true)) (omega arith)
+
+-- no refusal applies
+none : (c : goal.Else-most-info)
+    → coder_fault (whole c.before.before.before.before.before.before.before.before.before.before.before.before.before.before.before) c.loop-i.state (block c.before.before.before.before.before) ≡ 0
+none c =
+    settled c.before.before.before.before.before false false (sym c.malformed.ensures ∙ c.if-malformed.false)
+    (sym (tested c.before.before.before.before.before) ∙ le-ltb _ _ c.if-most-info.false)
+
+tests : (c : goal.Else-most-info)
+    → CoderTaken (whole c.before.before.before.before.before.before.before.before.before.before.before.before.before.before.before) c.loop-i.state (block c.before.before.before.before.before)
+tests c =
+    coder-taken (whole c.before.before.before.before.before.before.before.before.before.before.before.before.before.before.before) c.loop-i.state (block c.before.before.before.before.before) (none c)
+
+pub taken-requires : goal.taken-requires
+taken-requires c =
+    let k = tests (goal.at.taken-requires c).Else-most-info in
+    let e = c.one_at-weight.ensures
+    in
+    let n = k.sizes.n_to in
+    let a = c.args in
+    let h : a.t.symbols - 1 ≤ 15 = omega arith in (
+      k.size,
+      k.sizes.m_to,
+      k.turn,
+      subst
+          (λ (w : ℕ). block (goal.at.taken-requires c).At-loop-i < w) (sym e)
+          k.info,
+      rw e (pow_mono h),
+    )
+
+-- the rows of the information's ones, looked up
+image-is : (c : goal.After-slice_known-in-loop-i-1)
+    → c.look_up-image.result ≡ combination (info_rows (whole c.before.before.before.before.before.before.before.before.before.before.before.before.before.before.before.before.before.before.before.before.before))
+    (block c.before.before.before.before.before.before.before.before.before.before.before)
+image-is c =
+    let a = c.args in
+    let w = a.t.symbols - 1 in
+    let n = (facts c.before.before.before.before.before.before.before.before.before.before.before.before.before.before.before.before.before.before.before.before.before).n_to in
+    let long = length-take-le w a.rows.now (let z = c.requires.1 in omega arith) in
+    let tables = c.lookup_of-tables in
+    c.look_up-image.ensures
+    ∙ image-by (info_rows (whole c.before.before.before.before.before.before.before.before.before.before.before.before.before.before.before.before.before.before.before.before.before)) a.rows.now w refl (omega arith) tables.result tables.ensures
+    (block c.before.before.before.before.before.before.before.before.before.before.before)
+
+block-is : (c : goal.After-slice_known-in-loop-i-1)
+    → c.taken.result ≡ coded_block (whole c.before.before.before.before.before.before.before.before.before.before.before.before.before.before.before.before.before.before.before.before.before) c.loop-i.state (block c.before.before.before.before.before.before.before.before.before.before.before)
+block-is c =
+    c.taken.ensures.block
+    ∙ block_in_numbers (whole c.before.before.before.before.before.before.before.before.before.before.before.before.before.before.before.before.before.before.before.before.before) c.loop-i.state (block c.before.before.before.before.before.before.before.before.before.before.before) c.look_up-image.result
+    (image-is c)
+    c.one_at-weight.result c.one_at-weight.ensures
+
+memory_is : (c : goal.After-slice_known-in-loop-i-1)
+    → c.taken.new.state ≡ coder_next (whole c.before.before.before.before.before.before.before.before.before.before.before.before.before.before.before.before.before.before.before.before.before) c.loop-i.state (block c.before.before.before.before.before.before.before.before.before.before.before)
+memory_is c =
+    c.taken.ensures.memory
+    ∙ memory_in_numbers (whole c.before.before.before.before.before.before.before.before.before.before.before.before.before.before.before.before.before.before.before.before.before) c.loop-i.state (block c.before.before.before.before.before.before.before.before.before.before.before)
+    c.look_up-image.result (image-is c)
+
+pub overflow_cast-out : goal.overflow_cast-out
+overflow_cast-out c =
+    let f = coded-fits (whole (goal.at.overflow_cast-out c).Start) c.loop-i.state (block (goal.at.overflow_cast-out c).At-loop-i) (none (goal.at.overflow_cast-out c).Else-most-info) in
+    let e = block-is c in
+    record { fits = omega arith }
+
+pub loop-i-preserved : goal.loop-i-preserved
+loop-i-preserved c =
+    let a = c.args in
+    let u = whole (goal.at.loop-i-preserved c).Start in
+    let s = c.loop-i.state in
+    let e = memory_is c in (
+      subst (λ (m : List ℕ).
+          Reached (made u) a.state.now a.infos.now a.out.now (c.loop-i.i + 1) m
+          (set c.loop-i.out c.loop-i.i c.taken.result))
+          (sym (e ∙ (codes u s (block (goal.at.loop-i-preserved c).At-loop-i) (none (goal.at.loop-i-preserved c).Else-most-info)).1))
+          (reached_next (λ s b. code_entries (code_answer u s b)) (code_memory u) a.state.now a.infos.now
+          a.out.now c.loop-i.i s c.loop-i.out c.loop-i.invariant.0
+          (inside (goal.at.loop-i-preserved c).In-loop-i).0
+          (inside (goal.at.loop-i-preserved c).In-loop-i).1
+          c.taken.result
+          (coded_one u s (block (goal.at.loop-i-preserved c).At-loop-i) (none (goal.at.loop-i-preserved c).Else-most-info) ∙ ap (λ (x : ℕ). x ∷ []) (sym (block-is c)))),
+      ap length e ∙ coder-length u s (block (goal.at.loop-i-preserved c).At-loop-i) ∙ c.loop-i.invariant.1,
+    )
+
+pub returns : goal.returns
+unfolding code_batch
+returns c =
+    let a = c.args in
+    let u = whole (goal.at.returns c).Start in
+    reached_all (λ s b. code_entries (code_answer u s b)) (code_memory u) a.state.now a.infos.now a.out.now
+    c.loop-i.i c.loop-i.state c.loop-i.out c.loop-i.invariant.0
+    (let e = c.min-end.ensures in omega arith)

@@ -1,0 +1,88 @@
+-- `link::decode::fault`: the tests of 12 to 15 in their order. Assumes nothing.
+use mathlib.Core.Path.{◌≡◌, sym, ◌∙◌}
+use mathlib.Core.Bool.{Bool, true, false, cond}
+use Prim.Native.Nat.{◌-◌, ◌^◌}
+use native.Mathlib.Omega.{arith}
+use borrow.Author.Rules.{rules}
+use borrow.Author.Tests.{lt-ltb, le-ltb, not-true, not-false}
+use lib.Dec.{ltb}
+use Rattle.span.proofs.Masks.{above-mask}
+use Rattle.tables.specs.Table.{fit}
+use Rattle.tables.specs.Lent.{with_rows, lent}
+use Rattle.tables.proofs.Lent.{LentFits, lent-facts}
+use Rattle.link.specs.Memory.{decoder_words}
+use Rattle.link.specs.Refusals.{decoder_malformed, decoder_fault}
+use Rattle.link.proofs.Refusals.{number_12, number_13, number_14, number_15}
+use Rattle.link.proofs.Room.{fit-room}
+use Rattle.link.proofs.decode.fault.Goals as goal
+use Rattle.link.proofs.decode.fault.Goals.{After-mask, Else-not-lent_fits}
+
+pub returns-then-not-lent_fits : goal.returns-then-not-lent_fits
+unfolding decoder_fault
+returns-then-not-lent_fits c =
+    let a = c.args in
+    number_12 decoder_words (λ u. 2 ^ u.symbols) decoder_malformed a.t a.rows.now a.state.now a.block
+    (sym c.lent_fits.ensures ∙ not-true _ c.if-not-lent_fits.true)
+
+fitted : (c : goal.Else-not-lent_fits) → let a = c.args in fit (lent a.t a.rows.now) ≡ true
+fitted c = sym c.lent_fits.ensures ∙ not-false _ c.if-not-lent_fits.false
+
+facts : (c : goal.Else-not-lent_fits) → let a = c.args in LentFits a.t a.rows.now
+facts c = let a = c.args in lent-facts a.t a.rows.now (fitted c)
+
+pub overflow_mul-t : goal.overflow_mul-t
+overflow_mul-t c =
+    let a = c.args in
+    let z = facts (goal.at.overflow_mul-t c).Else-not-lent_fits in
+    let m = fit-room (with_rows a.t a.rows.now) z.N_to z.m_to in
+    record { fits = omega arith }
+
+pub overflow_add-t : goal.overflow_add-t
+overflow_add-t c = let z = facts (goal.at.overflow_add-t c).Else-not-lent_fits in record { fits = omega arith }
+
+pub overflow_add-t-2 : goal.overflow_add-t-2
+overflow_add-t-2 c =
+    let a = c.args in
+    let z = facts (goal.at.overflow_add-t-2 c).Else-not-lent_fits in
+    let m = fit-room (with_rows a.t a.rows.now) z.N_to z.m_to in
+    record { fits = omega arith }
+
+pub returns-then-state-t : goal.returns-then-state-t
+unfolding decoder_fault
+returns-then-state-t c =
+    let a = c.args in
+    number_13 decoder_words (λ u. 2 ^ u.symbols) decoder_malformed a.t a.rows.now a.state.now a.block
+    (fitted (goal.at.returns-then-state-t c).Else-not-lent_fits) c.if-state-t.true
+
+pub malformed-requires : goal.malformed-requires
+malformed-requires c =
+    let z = facts (goal.at.malformed-requires c).Else-not-lent_fits in
+    (z.n_from, z.n_to, z.N_from, z.N_to, z.m_from, z.m_to, c.if-state-t.false)
+
+pub returns-then-malformed : goal.returns-then-malformed
+unfolding decoder_fault
+returns-then-malformed c =
+    let a = c.args in
+    number_14 decoder_words (λ u. 2 ^ u.symbols) decoder_malformed a.t a.rows.now a.state.now a.block
+    (fitted (goal.at.returns-then-malformed c).Else-not-lent_fits) c.if-state-t.false
+    (sym c.malformed.ensures ∙ c.if-malformed.true)
+
+-- once 12 to 14 are settled, 15 is left
+settled : (c : goal.After-mask) (q : Bool)
+    → let a = c.args in
+    ltb c.mask.result a.block ≡ q
+    → cond q 15 0 ≡ decoder_fault (lent a.t a.rows.now) a.state.now a.block
+unfolding decoder_fault
+settled c q out =
+    let a = c.args in
+    let z = facts c.before.before.before.before.before.before in
+    number_15 decoder_words (λ u. 2 ^ u.symbols) decoder_malformed a.t a.rows.now a.state.now a.block
+    (fitted c.before.before.before.before.before.before) c.if-state-t.false
+    (sym c.malformed.ensures ∙ c.if-malformed.false) q
+    (sym (above-mask a.t.symbols c.mask.result a.block (omega arith) c.mask.ensures) ∙ out)
+
+pub returns-then-mask-block : goal.returns-then-mask-block
+returns-then-mask-block c = settled (goal.at.returns-then-mask-block c).After-mask true (lt-ltb _ _ c.if-mask-block.true)
+
+pub returns : goal.returns
+returns c = settled (goal.at.returns c).After-mask false (le-ltb _ _ c.if-mask-block.false)

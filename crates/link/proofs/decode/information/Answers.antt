@@ -1,0 +1,9 @@
+-- `link::decode::information`: the block below its parity symbol. Assumes nothing.
+use Prim.Native.Nat.{◌-◌}
+use native.Mathlib.Omega.{arith}
+use borrow.Author.Rules.{rules}
+use Rattle.span.proofs.Masks.{masked_low}
+use Rattle.link.proofs.decode.information.Goals as goal
+
+pub returns : goal.returns
+returns c = let a = c.args in masked_low (a.n - 1) _ a.block (omega arith) c.mask.ensures

@@ -1,0 +1,48 @@
+-- `link::decode::least_error`: the relation has a one at n, and the error block below it. Assumes nothing.
+use mathlib.Core.Path.{◌≡◌, sym, ap, ◌∙◌}
+use Prim.Native.Nat.{ℕ, ◌-◌, ◌*◌, ◌%◌, ◌^◌, ◌<◌}
+use native.Mathlib.Nat.{one-mul}
+use native.Mathlib.Omega.{arith}
+use mathlib.Core.Bool.{true}
+use borrow.Author.Rules.{rules}
+use lib.ListN.{length}
+use Rattle.span.specs.declared.eliminate.Least.TheVariants.{Found}
+use Rattle.tables.specs.Table.{code_rows}
+use Rattle.tables.proofs.Fit.{code-length}
+use Rattle.span.proofs.Masks.{bit_shifted}
+use Rattle.link.proofs.Error.{error_found, error_missing}
+use Rattle.link.proofs.decode.least_error.Goals as goal
+
+-- the one at n
+one_at : (n : ℕ) → n < 64 → 1 * 2 ^ n % 2 ^ 64 ≡ 2 ^ n
+one_at n h = bit_shifted true n h ∙ one-mul (2 ^ n)
+
+pub overflow_sub-result : goal.overflow_sub-result
+overflow_sub-result c =
+    let a = c.args in
+    let R = code_rows a.n a.rows.now in
+    let size : length R ≡ a.n = code-length a.n a.rows.now (omega arith) (omega arith) in
+    let one = one_at a.n (omega arith) in
+    let f = error_found R c.error_words-words.result a.n a.x size (omega arith) c.error_words-words.ensures
+    c.relation-1.given.0.0
+    (sym c.least_relation-relation.ensures ∙ c.relation-1.given.1) in
+    omega arith
+
+pub returns-in-Found : goal.returns-in-Found
+returns-in-Found c =
+    let a = c.args in
+    let R = code_rows a.n a.rows.now in
+    let size : length R ≡ a.n = code-length a.n a.rows.now (omega arith) (omega arith) in
+    let f = error_found R c.error_words-words.result a.n a.x size (omega arith) c.error_words-words.ensures
+    c.relation-1.given.0.0
+    (sym c.least_relation-relation.ensures ∙ c.relation-1.given.1) in
+    sym (f.1 ∙ ap (λ (y : ℕ). Found (c.relation-1.given.0.0 - y)) (sym (one_at a.n (omega arith))))
+
+pub returns : goal.returns
+returns c =
+    let a = c.args in
+    let R = code_rows a.n a.rows.now in
+    let size : length R ≡ a.n = code-length a.n a.rows.now (omega arith) (omega arith) in
+    sym (error_missing R c.error_words-words.result a.n a.x size (omega arith)
+    c.error_words-words.ensures
+    (sym c.least_relation-relation.ensures ∙ c.enum_told-1.given.1))

@@ -1,0 +1,203 @@
+-- `link::decode::taken`: the four lines in the words of the turn's stream (`StepWords`). Assumes nothing.
+use mathlib.Core.Path.{◌≡◌, sym, ap, ap₂, subst, ◌∙◌}
+use Prim.Native.Nat.{ℕ, ◌-◌, ◌/◌, ◌^◌, ◌≤◌, ◌<◌}
+use native.Mathlib.Omega.{arith}
+use borrow.Author.Rules.{rules}
+use borrow.Author.Tests.{lt-ltb, le-ltb}
+use lib.Bits.{bit_xor}
+use lib.Dec.{ltb}
+use lib.ListN.{length}
+use Rattle.span.specs.declared.eliminate.Least.{Least}
+use Rattle.span.specs.Word.{◌⊕◌}
+use Rattle.span.specs.Combination.{combination}
+use Rattle.span.proofs.Word.{xor-code}
+use Rattle.tables.specs.declared.table.Table.{Table}
+use Rattle.tables.specs.Table.{rows_of}
+use Rattle.tables.specs.Lent.{with_rows}
+use Rattle.tables.proofs.Fit.{code-length}
+use Rattle.link.specs.declared.decode.Mark.{Mark}
+use Rattle.link.specs.declared.decode.DecodeAnswer.TheVariants.{Delivery, NothingYet}
+use Rattle.link.specs.Memory.{turn_of, fill_of, delay_of, pending_of, syndrome_of}
+use Rattle.link.specs.Step.{information, error_of, mark_of}
+use Rattle.link.specs.Decoder.{advanced, decoder_register, decoder_next, delivered, delivery}
+use Rattle.link.proofs.Refusals.{picked, passed}
+use Rattle.link.proofs.Decoder.{DecoderTaken, decoder-taken}
+use Rattle.link.proofs.Entry.{delivered-fits}
+use Rattle.link.proofs.Error.{error_lt}
+use Rattle.link.proofs.Room.{fit-room, terms_room, keep_room}
+use Rattle.link.proofs.StepWords.{register_is, memory_is, info_is, mark_is}
+use Rattle.link.proofs.decode.taken.Goals as goal
+use Rattle.link.proofs.decode.taken.Goals.{After-keep-oldest, Start}
+
+abbrev whole : goal.Start → Table
+whole c = with_rows c.args.t c.args.rows.now
+
+-- what the tests of the step said
+tests : (c : goal.Start) → DecoderTaken (whole c) c.args.state.now c.args.received
+tests c = decoder-taken (whole c) c.args.state.now c.args.received c.requires.0
+
+width : (c : goal.Start) → c.args.t.symbols - 1 ≤ length c.args.rows.now
+width c = let n = (tests c).sizes.n_to in let l = c.requires.1 in omega arith
+
+pub bounds-state-1 : goal.bounds-state-1
+bounds-state-1 c = let k = (tests (goal.at.bounds-state-1 c).Start).size in omega arith
+
+pub overflow_sub-t : goal.overflow_sub-t
+overflow_sub-t c = let k = (tests (goal.at.overflow_sub-t c).Start).sizes.N_from in omega arith
+
+pub one_at-requires : goal.one_at-requires
+one_at-requires c = let k = (tests (goal.at.one_at-requires c).Start).sizes.N_to in omega arith
+
+pub image-requires : goal.image-requires
+image-requires c =
+    let k = tests (goal.at.image-requires c).Start in
+    let n = k.sizes.n_from in
+    (omega arith, k.sizes.n_to, width (goal.at.image-requires c).Start, k.block)
+
+pub terms-x-requires : goal.terms-x-requires
+terms-x-requires c =
+    let a = c.args in
+    let r = terms_room (whole (goal.at.terms-x-requires c).Start) a.state.now a.received (tests (goal.at.terms-x-requires c).Start) in
+    let e = sym c.one_at.ensures in
+    let s = a.state.now in (
+      r.0,
+      r.1,
+      subst (λ (x : ℕ). syndrome_of (whole (goal.at.terms-x-requires c).Start) s (turn_of s) < x) e r.2,
+      subst (λ (x : ℕ). x ≤ 2 ^ 63) e
+          r.3,
+      r.4,
+    )
+
+pub explain-requires : goal.explain-requires
+explain-requires c =
+    let k = tests (goal.at.explain-requires c).Start in
+    (k.sizes.n_from, k.sizes.n_to, width (goal.at.explain-requires c).Start)
+
+pub overflow_sub-n : goal.overflow_sub-n
+overflow_sub-n c =
+    let k = (tests (goal.at.overflow_sub-n c).Start).sizes.n_from in
+    omega arith
+
+pub one_at-requires-2 : goal.one_at-requires-2
+one_at-requires-2 c =
+    let k = (tests (goal.at.one_at-requires-2 c).Start).sizes.n_to in
+    omega arith
+
+pub judged-v-requires : goal.judged-v-requires
+judged-v-requires c =
+    let a = c.args in
+    let k = tests (goal.at.judged-v-requires c).Start in
+    let size : length (rows_of (whole (goal.at.judged-v-requires c).Start)) ≡ a.t.symbols =
+    code-length a.t.symbols a.rows.now (let n = k.sizes.n_from in omega arith) (width (goal.at.judged-v-requires c).Start) in
+    subst (λ (f : Least). error_of f < 2 ^ 16) (sym c.explain.ensures)
+    (error_lt (rows_of (whole (goal.at.judged-v-requires c).Start)) _ (let n = k.sizes.n_to in omega arith))
+
+pub information-requires : goal.information-requires
+information-requires c = let k = (tests (goal.at.information-requires c).Start).sizes
+    in
+    (let n = k.n_from in omega arith, k.n_to)
+
+pub keep-oldest-requires : goal.keep-oldest-requires
+keep-oldest-requires c =
+    let a = c.args in
+    keep_room (whole (goal.at.keep-oldest-requires c).Start) a.state.now a.received (tests (goal.at.keep-oldest-requires c).Start)
+
+pub overflow_sub-t-2 : goal.overflow_sub-t-2
+overflow_sub-t-2 c = let k = (tests (goal.at.overflow_sub-t-2 c).Start).sizes.N_from in omega arith
+
+pub overflow_mul-t : goal.overflow_mul-t
+overflow_mul-t c =
+    let k = (tests (goal.at.overflow_mul-t c).Start).sizes in
+    let m = fit-room (whole (goal.at.overflow_mul-t c).Start) k.N_to k.m_to in
+    record { fits = omega arith }
+
+abbrev register : goal.After-keep-oldest → ℕ
+register c = c.terms-x.result.register
+
+joined : (c : goal.After-keep-oldest)
+    → let a = c.args in
+    c.terms-x.result.w
+    ≡ pending_of (whole c.before.before.before.before.before.before.before.before.before.before.before.before.before.before) a.state.now (turn_of a.state.now) ⊕ combination (rows_of (whole c.before.before.before.before.before.before.before.before.before.before.before.before.before.before))
+    a.received
+joined c =
+    let a = c.args in
+    c.terms-x.ensures.w
+    ∙ ap (λ (x : ℕ). pending_of (whole c.before.before.before.before.before.before.before.before.before.before.before.before.before.before) a.state.now (turn_of a.state.now) ⊕ x)
+    c.image.ensures
+
+registered : (c : goal.After-keep-oldest)
+    → let a = c.args in
+    register c ≡ decoder_register (whole c.before.before.before.before.before.before.before.before.before.before.before.before.before.before) a.state.now a.received
+registered c =
+    let a = c.args in
+    register_is (whole c.before.before.before.before.before.before.before.before.before.before.before.before.before.before) a.state.now a.received _ (width c.before.before.before.before.before.before.before.before.before.before.before.before.before.before) (joined c) (register c)
+    c.one_at.result
+    c.terms-x.ensures.register
+    c.one_at.ensures
+
+kept : (c : goal.After-keep-oldest)
+    → let a = c.args in
+    c.keep-oldest.new.state ≡ decoder_next (whole c.before.before.before.before.before.before.before.before.before.before.before.before.before.before) a.state.now a.received
+kept c =
+    let a = c.args in
+    let e = c.explain in
+    c.keep-oldest.ensures.memory
+    ∙ ap₂ (λ (k i : ℕ). advanced a.t.span a.t.depth a.state.now
+    (c.terms-x.result.w / 2) k i)
+    c.judged-v.ensures.kept c.information.ensures
+    ∙ memory_is (whole c.before.before.before.before.before.before.before.before.before.before.before.before.before.before) a.state.now a.received _ (width c.before.before.before.before.before.before.before.before.before.before.before.before.before.before) (joined c) (register c) (registered c)
+    e.result e.ensures
+
+pub returns-then-fill-t : goal.returns-then-fill-t
+unfolding delivery
+returns-then-fill-t c =
+    let a = c.args in
+    let t = whole (goal.at.returns-then-fill-t c).Start in
+    let s = a.state.now in (
+      picked (ltb (fill_of s) (delay_of t)) NothingYet (Delivery (delivered t s a.received))
+          (lt-ltb (fill_of s) (delay_of t) c.if-fill-t.true),
+      kept (goal.at.returns-then-fill-t c).After-keep-oldest,
+    )
+
+pub information-requires-2 : goal.information-requires-2
+information-requires-2 c = let k = (tests (goal.at.information-requires-2 c).Start).sizes in (let n = k.n_from in omega arith, k.n_to)
+
+corrected : (c : goal.After-information-2)
+    → let a = c.args in
+    bit_xor c.keep-oldest.result c.information-2.result
+    ≡ (delivered (whole c.before.before.before.before.before.before.before.before.before.before.before.before.before.before.before.before.before.before.before.before) a.state.now a.received).info
+corrected c =
+    let a = c.args in
+    let s = a.state.now in
+    let e = c.explain in
+    xor-code c.keep-oldest.result c.information-2.result
+    ∙ ap₂ ◌⊕◌ c.keep-oldest.ensures.oldest
+    (c.information-2.ensures ∙ ap (information a.t.symbols)
+    c.judged-v.ensures.error)
+    ∙ info_is (whole c.before.before.before.before.before.before.before.before.before.before.before.before.before.before.before.before.before.before.before.before) s a.received _ (width c.before.before.before.before.before.before.before.before.before.before.before.before.before.before.before.before.before.before.before.before) (joined c.before.before.before.before.before.before) (register c.before.before.before.before.before.before) (registered c.before.before.before.before.before.before)
+    e.result e.ensures
+
+pub overflow_cast-result : goal.overflow_cast-result
+overflow_cast-result c =
+    let a = c.args in
+    let l = delivered-fits (whole (goal.at.overflow_cast-result c).Start) a.state.now a.received c.requires.0 in
+    let e = corrected c in
+    record { fits = omega arith }
+
+pub returns : goal.returns
+unfolding delivery
+returns c =
+    let a = c.args in
+    let t = whole (goal.at.returns c).Start in
+    let s = a.state.now in
+    let e = c.explain in
+    let mark = c.judged-v.ensures.mark
+    ∙ ap (λ (k : ℕ). mark_of k e.result (register (goal.at.returns c).After-keep-oldest))
+    c.one_at-2.ensures
+    ∙ mark_is t s a.received _ (width (goal.at.returns c).Start) (joined (goal.at.returns c).After-keep-oldest) (register (goal.at.returns c).After-keep-oldest) (registered (goal.at.returns c).After-keep-oldest) e.result
+    e.ensures in (
+      ap₂ (λ (i : ℕ) (m : Mark). Delivery (record { info = i; mark = m })) (corrected c) mark
+          ∙ passed (ltb (fill_of s) (delay_of t)) NothingYet (Delivery (delivered t s a.received))
+          (le-ltb (fill_of s) (delay_of t) c.if-fill-t.false),
+      kept (goal.at.returns c).After-keep-oldest,
+    )

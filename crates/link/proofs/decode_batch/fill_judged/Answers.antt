@@ -1,0 +1,240 @@
+use mathlib.Core.Path.{◌≡◌, sym, ap, subst, ◌∙◌}
+use mathlib.Core.List.{List, [], ◌∷◌}
+use Prim.Native.Nat.{ℕ, ◌-◌, ◌*◌, ◌^◌, ◌≤◌, ◌<◌}
+use native.Mathlib.Omega.{arith}
+use borrow.Author.Rules.{rules, scaled_Fits}
+use lib.Dec.{leb, ltb}
+use lib.ListN.{length, get_or}
+use Rattle.tables.specs.declared.table.Table.{Table}
+use Rattle.tables.specs.Lent.{with_rows}
+use Rattle.link.proofs.Going.{Going, going_start, going_all, turn_declined, turn_taken, turn_next}
+use Rattle.span.specs.declared.eliminate.Least.{Least}
+use Rattle.span.specs.Word.{◌⊕◌}
+use Rattle.span.specs.Combination.{combination, Below, counted}
+use Rattle.span.specs.Dual.{least_by}
+use Rattle.span.proofs.Duals.{least_by_lem}
+use Rattle.span.proofs.Masks.{above-mask}
+use Rattle.tables.specs.Table.{info_rows, rows_of}
+use Rattle.tables.proofs.Fit.{Fits, fit-facts, code-length}
+use Rattle.link.specs.Memory.{turn_of, pending_of, syndrome_of}
+use Rattle.link.specs.Batch.{decode_entries}
+use Rattle.link.specs.Refusals.{decoder_fault}
+use Rattle.link.specs.Step.{found, error_of, mark_of}
+use Rattle.link.specs.Decoder.{decoder_next, delivery}
+use Rattle.link.proofs.Decoder.{decoder-taken}
+use Rattle.link.proofs.Error.{error_lt}
+use Rattle.link.proofs.CodeWords.{first_words, counted_words, image-by, code_below}
+use Rattle.link.proofs.Room.{terms_room, keep_room, oldest_lt}
+use Rattle.link.proofs.StepWords.{step_words}
+use Rattle.link.proofs.decode_batch.fill_judged.Goals as goal
+use Rattle.link.proofs.decode_batch.fill_judged.Goals.{After-least_by-found, After-terms-x, At-loop-i, Else-declines, In-loop-i, Start}
+
+abbrev whole : goal.Start → Table
+whole c = with_rows c.args.t c.args.rows.now
+
+facts : (c : goal.Start)
+    → Fits c.args.t.symbols c.args.t.span c.args.t.depth (info_rows (whole c))
+facts c = fit-facts (whole c) c.requires.0
+
+width : (c : goal.Start) → c.args.t.symbols - 1 ≤ length c.args.rows.now
+width c = let n = (facts c).n_to in let l = c.requires.1 in omega arith
+
+size : (c : goal.Start) → length (rows_of (whole c)) ≡ c.args.t.symbols
+size c =
+    code-length c.args.t.symbols c.args.rows.now (let n = (facts c).n_from in omega arith) (width c)
+
+-- what owning a slice tells: it has fewer than 2^63 bytes
+taken-bytes : (c : goal.Start) → length c.args.out.now * 4 < 2 ^ 63
+taken-bytes c = omega arith
+
+handed-bytes : (c : goal.Start) → length c.args.blocks.now * 2 < 2 ^ 63
+handed-bytes c = omega arith
+
+pub error_words-words-requires : goal.error_words-words-requires
+error_words-words-requires c =
+    let z = facts (goal.at.error_words-words-requires c).Start in
+    (z.n_from, z.n_to, width (goal.at.error_words-words-requires c).Start)
+
+pub overflow_sub-t : goal.overflow_sub-t
+overflow_sub-t c = let z = (facts (goal.at.overflow_sub-t c).Start).N_from in omega arith
+
+pub one_at-top-requires : goal.one_at-top-requires
+one_at-top-requires c = let z = (facts (goal.at.one_at-top-requires c).Start).N_to in omega arith
+
+pub overflow_sub-t-2 : goal.overflow_sub-t-2
+overflow_sub-t-2 c = let z = (facts (goal.at.overflow_sub-t-2 c).Start).n_from in omega arith
+
+pub one_at-weight-requires : goal.one_at-weight-requires
+one_at-weight-requires c = let z = (facts (goal.at.one_at-weight-requires c).Start).n_to in omega arith
+
+pub loop-i-init : goal.loop-i-init
+loop-i-init c =
+    going_start (whole (goal.at.loop-i-init c).Start) c.args.state.now c.args.blocks.now c.args.out.now
+
+-- the turn's block is there, and so is its room
+inside : (c : goal.In-loop-i)
+    → (c.loop-i.i < length c.args.blocks.now) × (c.loop-i.i < length c.args.out.now)
+inside c = let e = c.min-end.ensures in (omega arith, omega arith)
+
+pub offset_bounds-blocks-i : goal.offset_bounds-blocks-i
+offset_bounds-blocks-i c =
+    scaled_Fits c.loop-i.i (length c.args.blocks.now) 2 (inside c).0 (handed-bytes (goal.at.offset_bounds-blocks-i c).Start)
+
+pub overflow_cast-received : goal.overflow_cast-received
+overflow_cast-received c =
+    record { fits = omega (arith, c.shared_slice_known-in-loop-i-1.given c.loop-i.i) }
+
+pub declines-requires : goal.declines-requires
+declines-requires c =
+    let z = facts (goal.at.declines-requires c).Start in
+    (z.n_from, z.n_to, z.N_from, z.N_to, z.m_from, z.m_to, c.loop-i.invariant.size ∙ c.requires.2)
+
+abbrev block : goal.At-loop-i → ℕ
+block c = get_or c.args.blocks.now c.loop-i.i 0
+
+-- the largest block
+abbrev largest : goal.At-loop-i → ℕ
+largest c = c.mask-most.result
+
+tested : (c : goal.At-loop-i)
+    → ltb (largest c) (block c) ≡ leb (2 ^ c.args.t.symbols) (block c)
+tested c =
+    let n = (facts c.before.before.before.before.before.before.before.before.before.before.before.before.before.before.before.before.before.before).n_to in
+    above-mask c.args.t.symbols (largest c) (block c) (omega arith)
+    c.mask-most.ensures
+
+pub returns-then-declines : goal.returns-then-declines
+returns-then-declines c =
+    let a = c.args in
+    turn_declined (whole (goal.at.returns-then-declines c).Start) a.state.now a.blocks.now a.out.now c.loop-i.i c.loop-i.state
+    c.loop-i.out c.loop-i.invariant c.requires.0 c.requires.2 (inside (goal.at.returns-then-declines c).In-loop-i).0
+    (largest (goal.at.returns-then-declines c).At-loop-i) (tested (goal.at.returns-then-declines c).At-loop-i) (sym c.declines.ensures ∙ c.if-declines.true)
+
+-- no refusal applies
+none : (c : goal.Else-declines)
+    → decoder_fault (whole c.before.before.before.before.before.before.before.before.before.before.before.before.before.before.before.before.before.before.before.before.before.before) c.loop-i.state (block c.before.before.before.before) ≡ 0
+none c =
+    let a = c.args in
+    turn_taken (whole c.before.before.before.before.before.before.before.before.before.before.before.before.before.before.before.before.before.before.before.before.before.before) a.state.now a.blocks.now a.out.now c.loop-i.i c.loop-i.state
+    c.loop-i.out c.loop-i.invariant c.requires.0 c.requires.2 (inside c.before.before.before).0
+    (largest c.before.before.before.before) (tested c.before.before.before.before) (sym c.declines.ensures ∙ c.if-declines.false)
+
+pub terms-x-requires : goal.terms-x-requires
+terms-x-requires c =
+    let s = c.loop-i.state in
+    let u = whole (goal.at.terms-x-requires c).Start in
+    let r = terms_room u s (block (goal.at.terms-x-requires c).At-loop-i) (decoder-taken u s (block (goal.at.terms-x-requires c).At-loop-i) (none (goal.at.terms-x-requires c).Else-declines)) in
+    let e = sym c.one_at-top.ensures in (
+      r.0,
+      r.1,
+      subst (λ (x : ℕ). syndrome_of u s (turn_of s) < x) e r.2,
+      subst (λ (x : ℕ). x ≤ 2 ^ 63) e r.3,
+      r.4,
+    )
+
+-- w, by the tables of the rows
+joined : (c : goal.After-terms-x)
+    → let s = c.loop-i.state in
+    c.terms-x.result.w ≡ pending_of (whole c.before.before.before.before.before.before.before.before.before.before.before.before.before.before.before.before.before.before.before.before.before.before.before.before.before) s (turn_of s) ⊕ combination (rows_of (whole c.before.before.before.before.before.before.before.before.before.before.before.before.before.before.before.before.before.before.before.before.before.before.before.before.before)) (block c.before.before.before.before.before.before.before)
+joined c =
+    let u = whole c.before.before.before.before.before.before.before.before.before.before.before.before.before.before.before.before.before.before.before.before.before.before.before.before.before in
+    let s = c.loop-i.state in
+    let ws = c.error_words-words in
+    let tables = c.lookup_of-tables in
+    let z = size c.before.before.before.before.before.before.before.before.before.before.before.before.before.before.before.before.before.before.before.before.before.before.before.before.before in
+    let n = (facts c.before.before.before.before.before.before.before.before.before.before.before.before.before.before.before.before.before.before.before.before.before.before.before.before.before).n_to in
+    c.terms-x.ensures.w
+    ∙ ap (λ (x : ℕ). pending_of u s (turn_of s) ⊕ x) (c.look_up.ensures
+    ∙ image-by (rows_of u) ws.result u.symbols (first_words (rows_of u) ws.result u.symbols 0 z ws.ensures)
+    (omega arith) tables.result tables.ensures (block c.before.before.before.before.before.before.before))
+
+-- the least error, by the dual basis
+explained : (c : goal.After-least_by-found)
+    → c.least_by-found.result ≡ found (rows_of (whole c.before.before.before.before.before.before.before.before.before.before.before.before.before.before.before.before.before.before.before.before.before.before.before.before.before.before.before.before.before))
+    c.terms-x.result.register
+explained c =
+    let n = (facts c.before.before.before.before.before.before.before.before.before.before.before.before.before.before.before.before.before.before.before.before.before.before.before.before.before.before.before.before.before).n_to in
+    let b = c.dual_basis-b in
+    let w = c.error_words-words in
+    let z = size c.before.before.before.before.before.before.before.before.before.before.before.before.before.before.before.before.before.before.before.before.before.before.before.before.before.before.before.before.before in
+    let R = rows_of (whole c.before.before.before.before.before.before.before.before.before.before.before.before.before.before.before.before.before.before.before.before.before.before.before.before.before.before.before.before.before) in
+    let words = counted c.args.t.symbols w.result in
+    let same : words ≡ R = counted_words R w.result c.args.t.symbols 0 z w.ensures (omega arith) in
+    let x = c.terms-x.result.register in
+    c.least_by-found.ensures
+    ∙ ap (λ (o : ℕ). least_by b.result o x)
+    c.together-ones.ensures
+    ∙ least_by_lem words (rw same (omega arith)) (subst (Below 64) (sym same) (code_below (whole c.before.before.before.before.before.before.before.before.before.before.before.before.before.before.before.before.before.before.before.before.before.before.before.before.before.before.before.before.before) (facts c.before.before.before.before.before.before.before.before.before.before.before.before.before.before.before.before.before.before.before.before.before.before.before.before.before.before.before.before.before)))
+    b.result b.ensures x
+    ∙ ap (λ (ws : List ℕ). found ws x) same
+
+pub judged-requires : goal.judged-requires
+judged-requires c =
+    subst (λ (f : Least). error_of f < 2 ^ 16) (sym (explained (goal.at.judged-requires c).After-least_by-found))
+    (error_lt (rows_of (whole (goal.at.judged-requires c).Start)) c.terms-x.result.register
+    (let z = size (goal.at.judged-requires c).Start in let n = (facts (goal.at.judged-requires c).Start).n_to in omega arith))
+
+pub take_block-requires : goal.take_block-requires
+take_block-requires c =
+    let s = c.loop-i.state in
+    let k = decoder-taken (whole (goal.at.take_block-requires c).Start) s (block (goal.at.take_block-requires c).At-loop-i)
+    (none (goal.at.take_block-requires c).Else-declines) in
+    let r = keep_room (whole (goal.at.take_block-requires c).Start) s (block (goal.at.take_block-requires c).At-loop-i) k in
+    let n = k.sizes.n_from in
+    (r.0, r.1, r.2, r.3, omega arith, k.sizes.n_to, r.4, oldest_lt (whole (goal.at.take_block-requires c).Start) s (block (goal.at.take_block-requires c).At-loop-i) k)
+
+-- the entry's place
+written : (c : goal.After-slice_known-in-loop-i-1)
+    → c.loop-i.i < length c.loop-i.out
+written c =
+    let r = inside c.before.before.before.before.before.before.before.before.before.before.before.before.before.before.before in
+    let z = c.loop-i.invariant.reached.size in
+    omega arith
+
+pub offset_bounds-out-i : goal.offset_bounds-out-i
+offset_bounds-out-i c =
+    scaled_Fits c.loop-i.i (length c.args.out.now) 4 (inside (goal.at.offset_bounds-out-i c).In-loop-i).1 (taken-bytes (goal.at.offset_bounds-out-i c).Start)
+
+pub bounds-out-i : goal.bounds-out-i
+bounds-out-i c = written c
+
+pub overflow_add-i : goal.overflow_add-i
+overflow_add-i c =
+    let bytes = taken-bytes (goal.at.overflow_add-i c).Start in
+    record { fits = omega (arith, (inside (goal.at.overflow_add-i c).In-loop-i).1) }
+
+-- the step's entry and memory
+stepped : (c : goal.After-slice_known-in-loop-i-1)
+    → (c.take_block.new.state ≡ decoder_next (whole c.before.before.before.before.before.before.before.before.before.before.before.before.before.before.before.before.before.before.before.before.before.before.before.before.before.before.before.before.before.before.before.before.before.before) c.loop-i.state (block c.before.before.before.before.before.before.before.before.before.before.before.before.before.before.before.before))
+    × (c.take_block.result ∷ []
+    ≡ decode_entries (delivery (whole c.before.before.before.before.before.before.before.before.before.before.before.before.before.before.before.before.before.before.before.before.before.before.before.before.before.before.before.before.before.before.before.before.before.before) c.loop-i.state (block c.before.before.before.before.before.before.before.before.before.before.before.before.before.before.before.before)))
+stepped c =
+    let f = c.least_by-found in
+    let o = c.one_at-top in
+    let p = c.one_at-weight in
+    let j = c.judged in
+    let b = c.take_block in
+    step_words (whole c.before.before.before.before.before.before.before.before.before.before.before.before.before.before.before.before.before.before.before.before.before.before.before.before.before.before.before.before.before.before.before.before.before.before) c.loop-i.state (block c.before.before.before.before.before.before.before.before.before.before.before.before.before.before.before.before) c.terms-x.result.w (width c.before.before.before.before.before.before.before.before.before.before.before.before.before.before.before.before.before.before.before.before.before.before.before.before.before.before.before.before.before.before.before.before.before.before) (joined c.before.before.before.before.before.before.before.before.before)
+    c.terms-x.result.register o.result c.terms-x.ensures.register o.ensures f.result
+    (explained c.before.before.before.before.before) j.result.error j.result.kept j.result.mark (
+      j.ensures.error,
+      (
+        j.ensures.kept,
+        j.ensures.mark ∙ ap (λ (k : ℕ). mark_of k f.result c.terms-x.result.register) p.ensures,
+      ),
+    ) b.result b.new.state b.ensures
+
+pub loop-i-preserved : goal.loop-i-preserved
+loop-i-preserved c =
+    let a = c.args in
+    let i = inside (goal.at.loop-i-preserved c).In-loop-i in
+    turn_next (whole (goal.at.loop-i-preserved c).Start) a.state.now a.blocks.now a.out.now c.loop-i.i c.loop-i.state c.loop-i.out
+    c.loop-i.invariant c.requires.0 c.requires.2 i.0 i.1 (none (goal.at.loop-i-preserved c).Else-declines)
+    c.take_block.new.state
+    (stepped c).0 c.take_block.result (stepped c).1
+
+pub returns : goal.returns
+returns c =
+    let a = c.args in
+    going_all (whole (goal.at.returns c).Start) a.state.now a.blocks.now a.out.now c.loop-i.i c.loop-i.state c.loop-i.out
+    c.loop-i.invariant (let e = c.min-end.ensures in omega arith)

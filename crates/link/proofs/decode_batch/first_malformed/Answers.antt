@@ -1,0 +1,10 @@
+-- `link::decode_batch::first_malformed`: the streams are looked at in the first m blocks. Assumes nothing.
+use borrow.Author.Rules.{rules}
+use borrow.Author.Tests.{lt-ltb, le-ltb}
+use Rattle.link.proofs.decode_batch.first_malformed.Goals as goal
+
+pub returns-then-i-depth : goal.returns-then-i-depth
+returns-then-i-depth c = rw (lt-ltb _ _ c.if-i-depth.true) c.malformed.ensures
+
+pub returns : goal.returns
+returns c = rw (le-ltb _ _ c.if-i-depth.false)

@@ -1,0 +1,16 @@
+-- `link::start::clear`: zeros, stored in turn. Assumes nothing.
+use mathlib.Core.Path.{sym}
+use mathlib.Core.List.{List}
+use Prim.Native.Nat.{ℕ, ◌-◌}
+use native.Mathlib.Omega.{arith}
+use borrow.Author.Rules.{rules}
+use lib.ListN.{length, replicate, length-replicate}
+use Rattle.span.proofs.Stored.{Storing, storing-first, storing-next, storing-all}
+use Rattle.tables.proofs.Fit.{zeros-at}
+use Rattle.link.proofs.start.clear.Given as goal
+
+abbrev pub invariant-loop-i : goal.invariant-loop-i
+invariant-loop-i l = Storing (zeros l.initial.state) l.initial.state l.state l.i
+
+abbrev pub decreases-loop-i : goal.decreases-loop-i
+decreases-loop-i l = length l.initial.state - l.i

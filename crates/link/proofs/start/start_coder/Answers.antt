@@ -1,0 +1,30 @@
+-- `link::start::start_coder`: 12, or what the length decides. Assumes nothing.
+use mathlib.Core.Path.{◌≡◌, sym, ◌∙◌}
+use mathlib.Core.Bool.{true}
+use native.Mathlib.Omega.{arith}
+use borrow.Author.Rules.{rules}
+use Rattle.tables.specs.Table.{fit}
+use Rattle.tables.proofs.Fit.{fit-facts}
+use Rattle.link.specs.Memory.{coder_words}
+use Rattle.link.proofs.Starting.{unfit-so, starts_fit}
+use Rattle.link.proofs.start.start_coder.Goals as goal
+use Rattle.link.proofs.start.start_coder.Goals.{Then-fits}
+
+fitted : (c : goal.Then-fits) → fit c.args.t ≡ true
+fitted c = sym c.fits2.ensures ∙ c.if-fits.true
+
+pub overflow_add-t : goal.overflow_add-t
+overflow_add-t c =
+    let z = fit-facts c.args.t (fitted (goal.at.overflow_add-t c).Then-fits) in
+    record { fits = omega arith }
+
+pub returns-then-fits : goal.returns-then-fits
+returns-then-fits c =
+    let a = c.args in
+    starts_fit a.t (coder_words a.t) a.state.now c.start.result
+    c.start.new.state (fitted (goal.at.returns-then-fits c).Then-fits) c.start.ensures
+
+pub returns-else-fits : goal.returns-else-fits
+returns-else-fits c =
+    let a = c.args in
+    unfit-so a.t (coder_words a.t) a.state.now (sym c.fits2.ensures ∙ c.if-fits.false)

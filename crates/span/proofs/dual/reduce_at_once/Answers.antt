@@ -1,0 +1,45 @@
+use Rattle.std.proofs.Common.{◌≡◌, ℕ, ◌+◌, get_or, ap, ◌∙◌, add-one, arith, rules}
+use Rattle.span.specs.declared.eliminate.Basis.{Basis}
+use Rattle.span.specs.declared.eliminate.Reduced.{Reduced}
+use Rattle.span.specs.Word.{◌⊕◌, odd, sel, digit, common_parity}
+use Rattle.span.specs.Basis.{basis}
+use Rattle.span.specs.Dual.{at_once_to, at_once}
+use Rattle.span.proofs.Word.{odd-digit}
+use Rattle.span.proofs.dual.reduce_at_once.Goals as goal
+
+one_more : (b : Basis) (i x rest coefficients on v q : ℕ)
+    → ◌≡◌ {A = Reduced} (record { rest = rest; coefficients = coefficients }) (at_once_to b i x)
+    → on ≡ digit (common_parity 64 x (get_or b.checks i 0))
+    → v ≡ sel (odd on) (get_or b.vectors i 0)
+    → q ≡ sel (odd on) (get_or b.coefficients i 0)
+    → ◌≡◌ {A = Reduced} (record { rest = rest ⊕ v; coefficients = coefficients ⊕ q }) (at_once_to b (i + 1) x)
+unfolding at_once_to
+one_more b i x rest coefficients on v q e on-is v-is q-is =
+    let s = common_parity 64 x (get_or b.checks i 0) in
+    let on-odd : odd on ≡ s = ap odd on-is ∙ odd-digit s in
+    rw (add-one i, ← e, v-is, q-is, on-odd)
+
+pub loop-i-init : goal.loop-i-init
+unfolding at_once_to
+loop-i-init c = search rules
+
+pub loop-i-preserved : goal.loop-i-preserved
+unfolding ◌⊕◌
+loop-i-preserved c =
+    let a = c.args in (
+      omega arith,
+      one_more (basis a.size a.vectors.now a.checks.now a.coefficients.now) c.loop-i.i
+          a.x c.loop-i.rest
+          c.loop-i.removed c.parity-on.result
+          c.select-rest.result c.select-removed.result
+          c.loop-i.invariant.1 c.parity-on.ensures
+          c.select-rest.ensures c.select-removed.ensures,
+    )
+
+pub returns : goal.returns
+unfolding at_once
+returns c =
+    let a = c.args in
+    c.loop-i.invariant.1
+    ∙ ap (λ (i : ℕ). at_once_to (basis a.size a.vectors.now a.checks.now a.coefficients.now) i a.x)
+    (omega arith)

@@ -1,0 +1,17 @@
+-- `tables::read::judged`: what is read is the judgement of a fit table. Assumes nothing.
+use borrow.Author.Rules.{rules}
+use mathlib.Core.Path.{sym, ◌∙◌}
+use mathlib.Core.Logic.{⊎_elim}
+use native.Mathlib.Omega.{arith}
+use Rattle.tables.proofs.Reading.{clash_read, sound-read}
+use Rattle.tables.proofs.read.judged.Goals as goal
+
+pub returns-in-Clash : goal.returns-in-Clash
+returns-in-Clash c =
+    rw c.zero_table.ensures
+    (sym (clash_read c.args.t _ _ _ (sym c.judge-judgement.ensures ∙ c.judgement-1.given.1)))
+
+pub returns : goal.returns
+returns c =
+    sym (sound-read c.args.t c.judge-judgement.result c.requires (sym c.judge-judgement.ensures)
+    (λ l e0 e1 e. ⊎_elim (λ z. omega arith) (λ z. omega arith) (rw e at c.in-Clash.keys2)))
