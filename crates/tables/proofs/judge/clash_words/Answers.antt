@@ -12,10 +12,7 @@ use Rattle.span.proofs.Word.{shifted-zero}
 use Rattle.tables.specs.Table.{code_rows}
 use Rattle.tables.proofs.Fit.{code-length}
 use Rattle.tables.proofs.judge.clash_words.Goals as goal
-
-abbrev Filled : ℕ → ℕ → ℕ → List ℕ → ℕ → List ℕ → Type 0
-Filled n N l rows i words =
-    (k : ℕ) → k < i → (get_or words k 0 ≡ shifted N l (get_or rows k 0)) × (get_or words (n + k) 0 ≡ get_or rows k 0)
+use Rattle.tables.proofs.judge.clash_words.Invariants.{Filled}
 
 -- one more row, stored twice
 filled_more : (n N l : ℕ) (rows : List ℕ) (i : ℕ) (words : List ℕ) (s r : ℕ) → i < n → n + i < length words

@@ -29,14 +29,13 @@ loop-l-init c = (omega arith, λ k e0 e1 h cl. let z = cl.shift_from in omega ar
 
 pub returns-in-Found : goal.returns-in-Found
 returns-in-Found c =
-    let found = c.found-1 in
     let r = c.least_relation-found in
     let w = c.clash_words-words in
     let a = c.args in
     let N = a.span in
     let n = a.n in
     let R = code_rows n a.rows.now in
-    let e = found.given.0.0 in
+    let e = c.in-Found.c in
     let size : length R ≡ n = code-length n a.rows.now (omega arith) (omega arith) in
     let small : min n 64 ≡ n = omega arith in
     let same = r.ensures ∙ clash_counted N R c.loop-l.l n w.result w.ensures size (omega arith) in
@@ -46,7 +45,7 @@ returns-in-Found c =
     let least =
     subst (λ (x : ℕ). LeastAt N R c.loop-l.l (e / 2 ^ n) x) (sym low)
     (subst (λ (k : ℕ). LeastAt N R c.loop-l.l (e / 2 ^ k) (e % 2 ^ k)) size
-    (clash_found N R c.loop-l.l c.loop-l.invariant.0 (omega arith) e (sym same ∙ found.given.1)))
+    (clash_found N R c.loop-l.l c.loop-l.invariant.0 (omega arith) e (sym same ∙ c.in-Found.is)))
     in
     sym (ap judgement_of ((first-clash N R _ _ _).1 (first-at N R _ _ _ c.loop-l.invariant.1 least)))
 
@@ -61,7 +60,7 @@ loop-l-preserved c =
     ∙ clash_counted a.span R c.loop-l.l a.n w.result w.ensures size (omega arith) in (
       omega arith,
       none_more a.span R c.loop-l.l c.loop-l.invariant.1
-          (clash_missing a.span R c.loop-l.l (sym same ∙ c.enum_told-1.given.1)),
+          (clash_missing a.span R c.loop-l.l (sym same ∙ c.in_default.is)),
     )
 
 pub returns : goal.returns

@@ -29,9 +29,9 @@ pub loop-i-preserved : goal.loop-i-preserved
 loop-i-preserved c =
     let n = c.args.n in (
       omega arith,
-      ap (λ (ws : List ℕ). set ws c.loop-i.i c.Made-row.result) c.loop-i.invariant.1
+      ap (λ (ws : List ℕ). set ws c.loop-i.i c.made_row.result) c.loop-i.invariant.1
           ∙ ap (set (made_rows columns n c.loop-i.i ++ replicate (15 - c.loop-i.i) 0) c.loop-i.i)
-          c.Made-row.ensures
+          c.made_row.ensures
           ∙ row_more n c.loop-i.i (omega arith),
     )
 

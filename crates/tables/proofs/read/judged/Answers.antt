@@ -9,9 +9,9 @@ use Rattle.tables.proofs.read.judged.Goals as goal
 pub returns-in-Clash : goal.returns-in-Clash
 returns-in-Clash c =
     rw c.zero_table.ensures
-    (sym (clash_read c.args.t _ _ _ (sym c.judge-judgement.ensures ∙ c.judgement-1.given.1)))
+    (sym (clash_read c.args.t _ _ _ (sym c.judge-judgement.ensures ∙ c.in-Clash.is)))
 
 pub returns : goal.returns
 returns c =
     sym (sound-read c.args.t c.judge-judgement.result c.requires (sym c.judge-judgement.ensures)
-    (λ l e0 e1 e. ⊎_elim (λ z. omega arith) (λ z. omega arith) (rw e at c.in-Clash.keys2)))
+    c.in_default.not-Clash)

@@ -15,7 +15,7 @@ use Rattle.tables.proofs.Format.{reaches_done, reaches_next}
 use Rattle.tables.proofs.Progress.{Good, good-begun, good-after, good-bounds, parse-fit}
 use Rattle.tables.proofs.Reading.{read_by}
 use Rattle.tables.proofs.read.read.Goals as goal
-use Rattle.tables.proofs.read.read.Goals.{After-size-at, Else-number-ne0}
+use Rattle.tables.proofs.read.read.Goals.{In-loop-number, After-size-at, Else-number-ne0}
 
 pub fault-number-requires : goal.fault-number-requires
 fault-number-requires c = rw c.zero_table.ensures (omega arith, omega arith, omega arith)
@@ -31,79 +31,75 @@ loop-number-init c =
     )
 
 -- a record that the loop goes on with: it is sound, no end, and whole
-module _ (c : tie.Then1 invariant-loop decreases-loop) where
-  abbrev here : tie.At-loop invariant-loop decreases-loop
-  here = c.before.before
-
+module _ (c : goal.In-loop-number) where
   abbrev rest : List ℕ
-  rest = drop here.loop.at here.before.before.before.before.args.bytes.now
+  rest = drop c.loop-number.at c.args.bytes.now
 
-  sound : fault here.loop.g rest ≡ 0
+  sound : fault c.loop-number.g rest ≡ 0
   sound =
-      sym here.loop.inv.3
-      ∙ eqb-true here.loop.number 0
-      (and_left (eqb here.loop.number 0) (not (eqb c.before.byte.result 0)) c.if1.true)
+      sym c.loop-number.invariant.3
+      ∙ eqb-true c.loop-number.number 0
+      (and_left (eqb c.loop-number.number 0) (not (eqb c.byte.result 0)) c.loop-number-test.true)
 
   goes_on : kind rest ≢ 0
   goes_on e =
-      eqb-false c.before.byte.result 0
-      (not-true _ (and_right (eqb here.loop.number 0) (not (eqb c.before.byte.result 0)) c.if1.true))
-      (c.before.byte.ensures ∙ e)
+      eqb-false c.byte.result 0
+      (not-true _ (and_right (eqb c.loop-number.number 0) (not (eqb c.byte.result 0)) c.loop-number-test.true))
+      (c.byte.ensures ∙ e)
 
-  inside : here.loop.at + size (kind rest) ≤ length here.before.before.before.before.args.bytes.now
+  inside : c.loop-number.at + size (kind rest) ≤ length c.args.bytes.now
   inside =
-      let whole = sound-whole here.loop.g rest (fault-sound here.loop.g rest sound) in
-      let len = length-drop here.loop.at here.before.before.before.before.args.bytes.now in
+      let whole = sound-whole c.loop-number.g rest (fault-sound c.loop-number.g rest sound) in
+      let len = length-drop c.loop-number.at c.args.bytes.now in
       let some = size-some (kind rest) in
       omega arith
 
 pub after-g-requires : goal.after-g-requires
 after-g-requires c =
-    let l = here c in
-    let b = good-bounds l.loop.g l.loop.inv.1 in
-    (l.loop.inv.0, b.0, sound c, goes_on c)
+    let b = good-bounds c.loop-number.g c.loop-number.invariant.1 in
+    let t = (goal.at.after-g-requires c).In-loop-number in
+    (c.loop-number.invariant.0, b.0, sound t, goes_on t)
 
-long : (c : goal.After-size-at) → c.size-at.result ≡ size (kind (rest c))
+long : (c : goal.After-size-at) → c.size-at.result ≡ size (kind (rest (goal.at.overflow_add-at c).In-loop-number))
 long c = c.size-at.ensures ∙ ap size c.byte-in-loop-number.ensures
 
-good : (c : goal.After-size-at) → Good c.after.result
+good : (c : goal.After-size-at) → Good c.after-g.result
 good c =
-    rw c.after.ensures (good-after (here c).loop.g (rest c) (here c).loop.invariant.1
-    (fault-sound (here c).loop.g (rest c) (sound c)) (goes_on c))
+    let t = (goal.at.overflow_add-at c).In-loop-number in
+    rw c.after-g.ensures (good-after c.loop-number.g (rest t) c.loop-number.invariant.1
+    (fault-sound c.loop-number.g (rest t) (sound t)) (goes_on t))
 
 pub overflow_add-at : goal.overflow_add-at
 overflow_add-at c =
-    let i = inside c in
+    let i = inside (goal.at.overflow_add-at c).In-loop-number in
     let n = long c in
     omega arith
 
 pub fault-number-requires-in-loop-number : goal.fault-number-requires-in-loop-number
 fault-number-requires-in-loop-number c =
-    let i = inside c in
+    let i = inside (goal.at.fault-number-requires-in-loop-number c).In-loop-number in
     let n = long c in
-    let b = good-bounds c.after.result (good c) in
+    let b = good-bounds c.after-g.result (good c) in
     omega arith
 
 pub loop-number-smaller : goal.loop-number-smaller
 loop-number-smaller c =
-    let i = inside c in
+    let t = (goal.at.loop-number-smaller c).In-loop-number in
+    let i = inside t in
     let n = long (goal.at.loop-number-smaller c).After-size-at in
-    let some = size-some (kind (rest c)) in
+    let some = size-some (kind (rest t)) in
     omega arith
 
 pub loop-number-preserved : goal.loop-number-preserved
 loop-number-preserved c =
-    let l = here c in
-    let i = inside c in
+    let t = (goal.at.loop-number-preserved c).In-loop-number in
+    let i = inside t in
     let n = long (goal.at.loop-number-preserved c).After-size-at in
-    let some = size-some (kind (rest c)) in (
+    let some = size-some (kind (rest t)) in (
       omega arith,
       good (goal.at.loop-number-preserved c).After-size-at,
-      rw (
-        c.after.ensures,
-        n,
-      ) (reaches_next l.before.before.before.before.args.bytes.now l.loop.at l.loop.g l.loop.inv.2
-          (omega arith) (sound c) (goes_on c)),
+      rw (c.after-g.ensures, n) (reaches_next c.args.bytes.now c.loop-number.at c.loop-number.g
+          c.loop-number.invariant.2 (omega arith) (sound t) (goes_on t)),
       c.fault-number-in-loop-number.ensures,
     )
 

@@ -67,11 +67,11 @@ unfolding fit
 returns-then-not-sizes_fit c =
     let a = c.args in
     ap (λ (s : Bool). s && rows_fit a.span (take (a.symbols - 1) a.rows.now))
-    (sym (not-true _ c.if-not-sizes_fit.true) ∙ c.sizes_fit.ensures)
+    (sym (c.if-not-sizes_fit.true) ∙ c.sizes_fit.ensures)
 
 sizes : (c : goal.Else-not-sizes_fit) → let a = c.args in
     sizes_fit a.symbols a.span a.depth ≡ true
-sizes c = sym c.sizes_fit.ensures ∙ not-false _ c.if-not-sizes_fit.false
+sizes c = sym c.sizes_fit.ensures ∙ c.if-not-sizes_fit.false
 
 pub overflow_sub-symbols : goal.overflow_sub-symbols
 overflow_sub-symbols c =

@@ -14,25 +14,25 @@ use Rattle.tables.proofs.write.put.Goals as goal
 
 pub returns-then-out-length : goal.returns-then-out-length
 returns-then-out-length c =
-    let a = c.args in (
-      rw (lt-ltb (length a.out.now) (written_length a.t) (omega arith)),
-      refl,
-    )
+    let a = c.args in record {
+      answer = rw (lt-ltb (length a.out.now) (written_length a.t) (omega arith));
+      buffer = refl;
+    }
 
 pub shape_of-out : goal.shape_of-out
 shape_of-out c =
     let rows = c.put_rows in
     let sizes = c.put_sizes in
-    length-set rows.new.out _ _ ∙ rows.auto.1.0 ∙ sizes.auto.1.0
+    length-set rows.new.out _ _ ∙ rows.auto.out ∙ sizes.auto.out
 
 pub returns : goal.returns
 returns c =
     let a = c.args in
     let rows = c.put_rows in
-    let sizes = c.put_sizes in (
-      rw (le-ltb (length a.out.now) (written_length a.t) (omega arith)),
-      ap (λ (o : List ℕ). set o (written_length a.t - 1) 0)
+    let sizes = c.put_sizes in record {
+      answer = rw (le-ltb (length a.out.now) (written_length a.t) (omega arith));
+      buffer = ap (λ (o : List ℕ). set o (written_length a.t - 1) 0)
           (rows.ensures
           ∙ ap (λ (o : List ℕ). sets o 4 (row_records a.t (ascending 1 (a.t.symbols - 1)))) sizes.ensures)
-          ∙ written-stored a.t a.out.now (omega arith) (omega arith),
-    )
+          ∙ written-stored a.t a.out.now (omega arith) (omega arith);
+    }

@@ -25,12 +25,12 @@ loop-j-smaller c = omega arith
 pub loop-j-preserved : goal.loop-j-preserved
 loop-j-preserved c =
     let l = c.loop-j in
-    let t = c.args.t1 in
+    let t = c.args.t in
     let p = c.put_row in (
       omega arith,
       omega arith,
       omega arith,
-      p.auto.0 ∙ l.invariant.3,
+      p.auto.out ∙ l.invariant.3,
       ap (λ (o : List ℕ). sets o (l.at + 10) (row_records t (ascending (l.j + 1) (t.symbols - (l.j + 1)))))
           p.ensures
           ∙ row-stored t l.out l.at l.j t.symbols (omega arith)
@@ -43,5 +43,5 @@ shape_of-out c = c.loop-j.invariant.3
 pub returns : goal.returns
 returns c =
     let l = c.loop-j in
-    let t = c.args.t1 in
+    let t = c.args.t in
     rows-stored t l.out l.at l.j t.symbols (omega arith) ∙ l.invariant.4
