@@ -1,5 +1,6 @@
 // Tables of the code: fitness, judging, reading, writing and making.
 #![tactic(auto)]
+
 mod judge;
 pub mod make;
 pub mod read;

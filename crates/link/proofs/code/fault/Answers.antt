@@ -60,9 +60,9 @@ settled : (c : goal.After-mask) (q : Bool)
 unfolding coder_fault
 settled c q out =
     let a = c.args in
-    let z = lent-facts _ _ (fitted c.before.before.before.before.before.before) in
+    let z = lent-facts _ _ (fitted (goal.at.NONE c).Else-not-lent_fits) in
     number_15 coder_words (λ u. 2 ^ (u.symbols - 1)) coder_malformed a.t a.rows.now a.state.now a.block
-    (fitted c.before.before.before.before.before.before) c.if-state-t.false
+    (fitted (goal.at.NONE c).Else-not-lent_fits) c.if-state-t.false
     (sym c.malformed.ensures ∙ c.if-malformed.false) q
     (sym (above-mask (a.t.symbols - 1) c.mask.result a.block (omega arith) c.mask.ensures) ∙ out)
 

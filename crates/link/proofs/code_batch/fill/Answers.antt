@@ -31,12 +31,9 @@ use Rattle.link.proofs.code_batch.fill.Goals.{At-loop-i, Else-most-info, In-loop
 abbrev made : Table → ℕ → List ℕ → List ℕ → Batch
 made u = batch (λ s b. code_entries (code_answer u s b)) (code_memory u)
 
-abbrev whole : goal.Start → Table
-whole c = with_rows c.args.t c.args.rows.now
-
 facts : (c : goal.Start)
-    → Fits c.args.t.symbols c.args.t.span c.args.t.depth (info_rows (whole c))
-facts c = fit-facts (whole c) c.requires.0
+    → Fits c.args.t.symbols c.args.t.span c.args.t.depth (info_rows ((with_rows c.args.t c.args.rows.now)))
+facts c = fit-facts ((with_rows c.args.t c.args.rows.now)) c.requires.0
 
 pub overflow_sub-width : goal.overflow_sub-width
 overflow_sub-width c = let n = (facts (goal.at.overflow_sub-width c).Start).n_from in omega arith
@@ -62,49 +59,42 @@ malformed-requires c =
     let z = facts (goal.at.malformed-requires c).Start in
     (c.loop-i.invariant.1 ∙ c.requires.2, z.N_to, (let h = z.N_from in omega arith), z.m_to)
 
--- what the batch does at this turn's block
-abbrev block : goal.At-loop-i → ℕ
-block c = get_or c.args.infos.now c.loop-i.i 0
-
-settled : (c : goal.At-loop-i) (p q : Bool) → coder_malformed (whole c.before.before.before.before.before.before.before.before.before.before) c.loop-i.state ≡ p
-    → leb (2 ^ (c.args.t.symbols - 1)) (block c) ≡ q
-    → coder_fault (whole c.before.before.before.before.before.before.before.before.before.before) c.loop-i.state (block c) ≡ cond p 14 (cond q 15 0)
+settled : (c : goal.At-loop-i) (p q : Bool) → coder_malformed ((with_rows c.args.t c.args.rows.now)) c.loop-i.state ≡ p
+    → leb (2 ^ (c.args.t.symbols - 1)) ((get_or c.args.infos.now c.loop-i.i 0)) ≡ q
+    → coder_fault ((with_rows c.args.t c.args.rows.now)) c.loop-i.state ((get_or c.args.infos.now c.loop-i.i 0)) ≡ cond p 14 (cond q 15 0)
 unfolding coder_fault
 settled c p q =
-    let u = whole c.before.before.before.before.before.before.before.before.before.before in
-    step_settled u (coder_words u) (coder_malformed u c.loop-i.state) (2 ^ (u.symbols - 1)) c.loop-i.state (block c)
+    let u = (with_rows c.args.t c.args.rows.now) in
+    step_settled u (coder_words u) (coder_malformed u c.loop-i.state) (2 ^ (u.symbols - 1)) c.loop-i.state ((get_or c.args.infos.now c.loop-i.i 0))
     c.requires.0 (c.loop-i.invariant.1 ∙ c.requires.2) p q
 
 refused : (c : goal.At-loop-i) → c.loop-i.i < length c.args.infos.now → (k : ℕ)
-    → coder_fault (whole c.before.before.before.before.before.before.before.before.before.before) c.loop-i.state (block c) ≡ k → 0 < k
+    → coder_fault ((with_rows c.args.t c.args.rows.now)) c.loop-i.state ((get_or c.args.infos.now c.loop-i.i 0)) ≡ k → 0 < k
     → let a = c.args in
-    Fills (code_batch (whole c.before.before.before.before.before.before.before.before.before.before) (length a.out.now) a.state.now a.infos.now) a.out.now
+    Fills (code_batch ((with_rows c.args.t c.args.rows.now)) (length a.out.now) a.state.now a.infos.now) a.out.now
     c.loop-i.i c.loop-i.state c.loop-i.out
 unfolding code_batch
 refused c left k e some =
     let a = c.args in
-    let u = whole c.before.before.before.before.before.before.before.before.before.before in
+    let u = (with_rows c.args.t c.args.rows.now) in
     reached_refused (λ s b. code_entries (code_answer u s b)) (code_memory u) a.state.now a.infos.now a.out.now
     c.loop-i.i c.loop-i.state c.loop-i.out c.loop-i.invariant.0 left
-    (coded_none u c.loop-i.state (block c) k e some)
+    (coded_none u c.loop-i.state ((get_or c.args.infos.now c.loop-i.i 0)) k e some)
 
 -- the turn's block is there, and so is its room
 inside : (c : goal.In-loop-i)
     → (c.loop-i.i < length c.args.infos.now) × (c.loop-i.i < length c.args.out.now)
 inside c = let e = c.min-end.ensures in (omega arith, omega arith)
 
-abbrev large : goal.At-loop-i → Bool
-large c = leb (2 ^ (c.args.t.symbols - 1)) (block c)
-
-tested : (c : goal.At-loop-i) → ltb c.mask-most.result (block c) ≡ large c
+tested : (c : goal.At-loop-i) → ltb c.mask-most.result ((get_or c.args.infos.now c.loop-i.i 0)) ≡ (leb (2 ^ (c.args.t.symbols - 1)) ((get_or c.args.infos.now c.loop-i.i 0)))
 tested c =
-    let n = (facts c.before.before.before.before.before.before.before.before.before.before).n_to in
-    above-mask (c.args.t.symbols - 1) c.mask-most.result (block c) (omega arith)
+    let n = (facts (goal.at.NONE c).Start).n_to in
+    above-mask (c.args.t.symbols - 1) c.mask-most.result ((get_or c.args.infos.now c.loop-i.i 0)) (omega arith)
     c.mask-most.ensures
 
 pub returns-then-malformed : goal.returns-then-malformed
 returns-then-malformed c =
-    refused (goal.at.returns-then-malformed c).At-loop-i (inside (goal.at.returns-then-malformed c).In-loop-i).0 14 (settled (goal.at.returns-then-malformed c).At-loop-i true (large (goal.at.returns-then-malformed c).At-loop-i)
+    refused (goal.at.returns-then-malformed c).At-loop-i (inside (goal.at.returns-then-malformed c).In-loop-i).0 14 (settled (goal.at.returns-then-malformed c).At-loop-i true ((leb (2 ^ (c.args.t.symbols - 1)) ((get_or c.args.infos.now c.loop-i.i 0))))
     (sym c.malformed.ensures ∙ c.if-malformed.true) refl)
     (omega arith)
 
@@ -116,15 +106,15 @@ returns-then-most-info c =
 
 -- no refusal applies
 none : (c : goal.Else-most-info)
-    → coder_fault (whole c.before.before.before.before.before.before.before.before.before.before.before.before.before.before.before) c.loop-i.state (block c.before.before.before.before.before) ≡ 0
+    → coder_fault ((with_rows c.args.t c.args.rows.now)) c.loop-i.state ((get_or c.args.infos.now c.loop-i.i 0)) ≡ 0
 none c =
-    settled c.before.before.before.before.before false false (sym c.malformed.ensures ∙ c.if-malformed.false)
-    (sym (tested c.before.before.before.before.before) ∙ le-ltb _ _ c.if-most-info.false)
+    settled (goal.at.NONE c).At-loop-i false false (sym c.malformed.ensures ∙ c.if-malformed.false)
+    (sym (tested (goal.at.NONE c).At-loop-i) ∙ le-ltb _ _ c.if-most-info.false)
 
 tests : (c : goal.Else-most-info)
-    → CoderTaken (whole c.before.before.before.before.before.before.before.before.before.before.before.before.before.before.before) c.loop-i.state (block c.before.before.before.before.before)
+    → CoderTaken ((with_rows c.args.t c.args.rows.now)) c.loop-i.state ((get_or c.args.infos.now c.loop-i.i 0))
 tests c =
-    coder-taken (whole c.before.before.before.before.before.before.before.before.before.before.before.before.before.before.before) c.loop-i.state (block c.before.before.before.before.before) (none c)
+    coder-taken ((with_rows c.args.t c.args.rows.now)) c.loop-i.state ((get_or c.args.infos.now c.loop-i.i 0)) (none c)
 
 pub taken-requires : goal.taken-requires
 taken-requires c =
@@ -138,70 +128,70 @@ taken-requires c =
       k.sizes.m_to,
       k.turn,
       subst
-          (λ (w : ℕ). block (goal.at.taken-requires c).At-loop-i < w) (sym e)
+          (λ (w : ℕ). (get_or c.args.infos.now c.loop-i.i 0) < w) (sym e)
           k.info,
       rw e (pow_mono h),
     )
 
 -- the rows of the information's ones, looked up
 image-is : (c : goal.After-slice_known-in-loop-i-1)
-    → c.look_up-image.result ≡ combination (info_rows (whole c.before.before.before.before.before.before.before.before.before.before.before.before.before.before.before.before.before.before.before.before.before))
-    (block c.before.before.before.before.before.before.before.before.before.before.before)
+    → c.look_up-image.result ≡ combination (info_rows ((with_rows c.args.t c.args.rows.now)))
+    ((get_or c.args.infos.now c.loop-i.i 0))
 image-is c =
     let a = c.args in
     let w = a.t.symbols - 1 in
-    let n = (facts c.before.before.before.before.before.before.before.before.before.before.before.before.before.before.before.before.before.before.before.before.before).n_to in
+    let n = (facts (goal.at.overflow_cast-out c).Start).n_to in
     let long = length-take-le w a.rows.now (let z = c.requires.1 in omega arith) in
     let tables = c.lookup_of-tables in
     c.look_up-image.ensures
-    ∙ image-by (info_rows (whole c.before.before.before.before.before.before.before.before.before.before.before.before.before.before.before.before.before.before.before.before.before)) a.rows.now w refl (omega arith) tables.result tables.ensures
-    (block c.before.before.before.before.before.before.before.before.before.before.before)
+    ∙ image-by (info_rows ((with_rows c.args.t c.args.rows.now))) a.rows.now w refl (omega arith) tables.result tables.ensures
+    ((get_or c.args.infos.now c.loop-i.i 0))
 
 block-is : (c : goal.After-slice_known-in-loop-i-1)
-    → c.taken.result ≡ coded_block (whole c.before.before.before.before.before.before.before.before.before.before.before.before.before.before.before.before.before.before.before.before.before) c.loop-i.state (block c.before.before.before.before.before.before.before.before.before.before.before)
+    → c.taken.result ≡ coded_block ((with_rows c.args.t c.args.rows.now)) c.loop-i.state ((get_or c.args.infos.now c.loop-i.i 0))
 block-is c =
     c.taken.ensures.block
-    ∙ block_in_numbers (whole c.before.before.before.before.before.before.before.before.before.before.before.before.before.before.before.before.before.before.before.before.before) c.loop-i.state (block c.before.before.before.before.before.before.before.before.before.before.before) c.look_up-image.result
+    ∙ block_in_numbers ((with_rows c.args.t c.args.rows.now)) c.loop-i.state ((get_or c.args.infos.now c.loop-i.i 0)) c.look_up-image.result
     (image-is c)
     c.one_at-weight.result c.one_at-weight.ensures
 
 memory_is : (c : goal.After-slice_known-in-loop-i-1)
-    → c.taken.new.state ≡ coder_next (whole c.before.before.before.before.before.before.before.before.before.before.before.before.before.before.before.before.before.before.before.before.before) c.loop-i.state (block c.before.before.before.before.before.before.before.before.before.before.before)
+    → c.taken.new.state ≡ coder_next ((with_rows c.args.t c.args.rows.now)) c.loop-i.state ((get_or c.args.infos.now c.loop-i.i 0))
 memory_is c =
     c.taken.ensures.memory
-    ∙ memory_in_numbers (whole c.before.before.before.before.before.before.before.before.before.before.before.before.before.before.before.before.before.before.before.before.before) c.loop-i.state (block c.before.before.before.before.before.before.before.before.before.before.before)
+    ∙ memory_in_numbers ((with_rows c.args.t c.args.rows.now)) c.loop-i.state ((get_or c.args.infos.now c.loop-i.i 0))
     c.look_up-image.result (image-is c)
 
 pub overflow_cast-out : goal.overflow_cast-out
 overflow_cast-out c =
-    let f = coded-fits (whole (goal.at.overflow_cast-out c).Start) c.loop-i.state (block (goal.at.overflow_cast-out c).At-loop-i) (none (goal.at.overflow_cast-out c).Else-most-info) in
+    let f = coded-fits ((with_rows c.args.t c.args.rows.now)) c.loop-i.state ((get_or c.args.infos.now c.loop-i.i 0)) (none (goal.at.overflow_cast-out c).Else-most-info) in
     let e = block-is c in
     record { fits = omega arith }
 
 pub loop-i-preserved : goal.loop-i-preserved
 loop-i-preserved c =
     let a = c.args in
-    let u = whole (goal.at.loop-i-preserved c).Start in
+    let u = (with_rows c.args.t c.args.rows.now) in
     let s = c.loop-i.state in
     let e = memory_is c in (
       subst (λ (m : List ℕ).
           Reached (made u) a.state.now a.infos.now a.out.now (c.loop-i.i + 1) m
           (set c.loop-i.out c.loop-i.i c.taken.result))
-          (sym (e ∙ (codes u s (block (goal.at.loop-i-preserved c).At-loop-i) (none (goal.at.loop-i-preserved c).Else-most-info)).1))
+          (sym (e ∙ (codes u s ((get_or c.args.infos.now c.loop-i.i 0)) (none (goal.at.loop-i-preserved c).Else-most-info)).1))
           (reached_next (λ s b. code_entries (code_answer u s b)) (code_memory u) a.state.now a.infos.now
           a.out.now c.loop-i.i s c.loop-i.out c.loop-i.invariant.0
           (inside (goal.at.loop-i-preserved c).In-loop-i).0
           (inside (goal.at.loop-i-preserved c).In-loop-i).1
           c.taken.result
-          (coded_one u s (block (goal.at.loop-i-preserved c).At-loop-i) (none (goal.at.loop-i-preserved c).Else-most-info) ∙ ap (λ (x : ℕ). x ∷ []) (sym (block-is c)))),
-      ap length e ∙ coder-length u s (block (goal.at.loop-i-preserved c).At-loop-i) ∙ c.loop-i.invariant.1,
+          (coded_one u s ((get_or c.args.infos.now c.loop-i.i 0)) (none (goal.at.loop-i-preserved c).Else-most-info) ∙ ap (λ (x : ℕ). x ∷ []) (sym (block-is c)))),
+      ap length e ∙ coder-length u s ((get_or c.args.infos.now c.loop-i.i 0)) ∙ c.loop-i.invariant.1,
     )
 
 pub returns : goal.returns
 unfolding code_batch
 returns c =
     let a = c.args in
-    let u = whole (goal.at.returns c).Start in
+    let u = (with_rows c.args.t c.args.rows.now) in
     reached_all (λ s b. code_entries (code_answer u s b)) (code_memory u) a.state.now a.infos.now a.out.now
     c.loop-i.i c.loop-i.state c.loop-i.out c.loop-i.invariant.0
     (let e = c.min-end.ensures in omega arith)

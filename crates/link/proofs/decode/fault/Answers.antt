@@ -75,9 +75,9 @@ settled : (c : goal.After-mask) (q : Bool)
 unfolding decoder_fault
 settled c q out =
     let a = c.args in
-    let z = facts c.before.before.before.before.before.before in
+    let z = facts (goal.at.NONE c).Else-not-lent_fits in
     number_15 decoder_words (λ u. 2 ^ u.symbols) decoder_malformed a.t a.rows.now a.state.now a.block
-    (fitted c.before.before.before.before.before.before) c.if-state-t.false
+    (fitted (goal.at.NONE c).Else-not-lent_fits) c.if-state-t.false
     (sym c.malformed.ensures ∙ c.if-malformed.false) q
     (sym (above-mask a.t.symbols c.mask.result a.block (omega arith) c.mask.ensures) ∙ out)
 

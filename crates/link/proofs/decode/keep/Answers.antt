@@ -42,16 +42,13 @@ module _ (N m : ℕ) (s : List ℕ) (room : stream_at (table 0 N m []) (turn_of 
         ∙ ap₂ (λ (i j : ℕ). set (set (take at s ++ ((pending ∷ kept ∷ (drop (at + 3) (take end s) ++ (young ∷ [])))
         ++ drop end s)) 1 i) 0 j) f u
 
-abbrev sizes : goal.Start → Table
-sizes c = table 0 c.args.span c.args.depth []
-
 -- the turn's part lies inside, and nothing overflows
 room : (c : goal.Start)
-    → (stream_at (sizes c) (turn_of c.args.state.now) + (c.args.span + 1) ≤ length c.args.state.now)
-    × (length c.args.state.now ≤ 4162) × (delay_of (sizes c) ≤ 4096)
+    → (stream_at ((table 0 c.args.span c.args.depth [])) (turn_of c.args.state.now) + (c.args.span + 1) ≤ length c.args.state.now)
+    × (length c.args.state.now ≤ 4162) × (delay_of ((table 0 c.args.span c.args.depth [])) ≤ 4096)
 room c =
-    let most = fit-room (sizes c) c.requires.3 c.requires.1 in
-    let inside = turn-room (sizes c) (turn_of c.args.state.now) c.requires.0 in
+    let most = fit-room ((table 0 c.args.span c.args.depth [])) c.requires.3 c.requires.1 in
+    let inside = turn-room ((table 0 c.args.span c.args.depth [])) (turn_of c.args.state.now) c.requires.0 in
     let size = c.requires.4 in
     (omega arith, omega arith, most.1)
 

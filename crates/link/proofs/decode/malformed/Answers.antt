@@ -30,12 +30,9 @@ late t s r turn fill e =
     (syndrome_of t s (turn_of s)) || some_above (delayed_bound t) s (stream_at t (turn_of s) + 2) (t.span - 1))
     (sym (ap₂ ◌||◌ (lt-leb t.depth (turn_of s) turn) (le-ltb (delay_of t) (fill_of s) fill)))
 
-abbrev sizes : goal.Start → Table
-sizes c = table c.args.n c.args.span c.args.depth []
-
 -- the turn's part lies inside, and nothing overflows
-room : (c : goal.Start) → (decoder_words (sizes c) ≤ 4162) × (delay_of (sizes c) ≤ 4096)
-room c = fit-room (sizes c) c.requires.3 c.requires.5
+room : (c : goal.Start) → (decoder_words ((table c.args.n c.args.span c.args.depth [])) ≤ 4162) × (delay_of ((table c.args.n c.args.span c.args.depth [])) ≤ 4096)
+room c = fit-room ((table c.args.n c.args.span c.args.depth [])) c.requires.3 c.requires.5
 
 pub returns-then-depth-turn : goal.returns-then-depth-turn
 returns-then-depth-turn c = simp (le-leb _ _ c.if-depth-turn.true)
@@ -54,22 +51,22 @@ returns-then-depth-span c =
 pub overflow_mul-turn : goal.overflow_mul-turn
 overflow_mul-turn c =
     let m = room (goal.at.overflow_mul-turn c).Start in
-    let l = turn-room (sizes (goal.at.overflow_mul-turn c).Start) (turn_of c.args.state.now) (omega arith) in
+    let l = turn-room ((table c.args.n c.args.span c.args.depth [])) (turn_of c.args.state.now) (omega arith) in
     record { fits = omega arith }
 
 pub overflow_add-turn : goal.overflow_add-turn
 overflow_add-turn c =
     let m = room (goal.at.overflow_add-turn c).Start in
-    let l = turn-room (sizes (goal.at.overflow_add-turn c).Start) (turn_of c.args.state.now) (omega arith) in
+    let l = turn-room ((table c.args.n c.args.span c.args.depth [])) (turn_of c.args.state.now) (omega arith) in
     record { fits = omega arith }
 
 pub stream_malformed-requires : goal.stream_malformed-requires
 stream_malformed-requires c =
-    let l = turn-room (sizes (goal.at.stream_malformed-requires c).Start) (turn_of c.args.state.now) (omega arith) in
+    let l = turn-room ((table c.args.n c.args.span c.args.depth [])) (turn_of c.args.state.now) (omega arith) in
     let size = c.requires.6 in
     (omega arith, c.requires.0, c.requires.1, c.requires.2, c.requires.3)
 
 pub returns : goal.returns
 returns c =
-    late (sizes (goal.at.returns c).Start) c.args.state.now c.stream_malformed.result (omega arith) (omega arith)
+    late ((table c.args.n c.args.span c.args.depth [])) c.args.state.now c.stream_malformed.result (omega arith) (omega arith)
     c.stream_malformed.ensures

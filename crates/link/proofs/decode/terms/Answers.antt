@@ -10,19 +10,16 @@ use Rattle.span.proofs.Word.{xor-code}
 use Rattle.link.proofs.Coder.{sel-most}
 use Rattle.link.proofs.decode.terms.Goals as goal
 
-abbrev at : goal.After-select → ℕ
-at c = let a = c.args in 2 + get_or a.state.now 0 0 * (a.span + 1)
-
 pub overflow_add-result-2 : goal.overflow_add-result-2
 overflow_add-result-2 c =
     let a = c.args in
-    let l = sel-most (odd (bit_xor (get_or a.state.now (at c) 0) a.image)) a.top in
+    let l = sel-most (odd (bit_xor (get_or a.state.now ((let a = c.args in 2 + get_or a.state.now 0 0 * (a.span + 1))) 0) a.image)) a.top in
     let e = c.select.ensures in
     record { fits = omega arith }
 
 pub returns : goal.returns
 returns c =
     let a = c.args in (
-      xor-code (get_or a.state.now (at c) 0) a.image,
-      ap (λ (x : ℕ). get_or a.state.now (at c + 1) 0 + x) c.select.ensures,
+      xor-code (get_or a.state.now ((let a = c.args in 2 + get_or a.state.now 0 0 * (a.span + 1))) 0) a.image,
+      ap (λ (x : ℕ). get_or a.state.now ((let a = c.args in 2 + get_or a.state.now 0 0 * (a.span + 1)) + 1) 0 + x) c.select.ensures,
     )

@@ -13,15 +13,12 @@ use Rattle.link.proofs.Going.{come-all, decode-size}
 use Rattle.link.proofs.decode_batch.fill.Goals as goal
 use Rattle.link.proofs.decode_batch.fill.Goals.{Start}
 
-abbrev whole : goal.Start → Table
-whole c = with_rows c.args.t c.args.rows.now
-
 pub returns-then-min-i : goal.returns-then-min-i
 returns-then-min-i c =
     let a = c.args in
     let f = c.fill_clean-i in
     let e = c.min.ensures in
-    come-all (whole (goal.at.returns-then-min-i c).Start) a.state.now a.blocks.now a.out.now f.result f.new.state
+    come-all ((with_rows c.args.t c.args.rows.now)) a.state.now a.blocks.now a.out.now f.result f.new.state
     f.new.out f.ensures.0 (omega arith)
 
 pub fill_judged-requires : goal.fill_judged-requires
@@ -33,14 +30,14 @@ rested : (c : goal.After-slice_known-6-1)
     → let a = c.args in
     let f = c.fill_clean-i in
     let j = c.fill_judged in
-    Fills (decode_batch (whole c.before.before.before.before.before.before.before.before.before.before.before.before.before.before.before.before.before.before.before.before.before) (length a.out.now) a.state.now a.blocks.now) a.out.now
+    Fills (decode_batch ((with_rows c.args.t c.args.rows.now)) (length a.out.now) a.state.now a.blocks.now) a.out.now
     (f.result + j.result) j.new.state
     (put_mid f.result (length f.last.1.1.1.1.0 - f.result) f.last.1.1.1.1.0 j.new.out)
 rested c =
     let a = c.args in
     let f = c.fill_clean-i in
     let j = c.fill_judged in
-    reached_rest (decode_batch (whole c.before.before.before.before.before.before.before.before.before.before.before.before.before.before.before.before.before.before.before.before.before)) a.state.now a.blocks.now a.out.now f.result
+    reached_rest (decode_batch ((with_rows c.args.t c.args.rows.now))) a.state.now a.blocks.now a.out.now f.result
     f.last.1.1.0 f.last.1.1.1.1.0 f.ensures.0 j.result j.new.state j.new.out
     j.ensures
 
@@ -51,7 +48,7 @@ taken-bytes c = omega arith
 pub overflow_add-result : goal.overflow_add-result
 overflow_add-result c =
     let a = c.args in
-    let most = decode-size (whole (goal.at.overflow_add-result c).Start) (length a.out.now) a.state.now a.blocks.now in
+    let most = decode-size ((with_rows c.args.t c.args.rows.now)) (length a.out.now) a.state.now a.blocks.now in
     let bytes = taken-bytes (goal.at.overflow_add-result c).Start in
     record { fits = omega (arith, (rested c).count) }
 

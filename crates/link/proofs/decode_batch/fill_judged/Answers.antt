@@ -29,17 +29,14 @@ use Rattle.link.proofs.StepWords.{step_words}
 use Rattle.link.proofs.decode_batch.fill_judged.Goals as goal
 use Rattle.link.proofs.decode_batch.fill_judged.Goals.{After-least_by-found, After-terms-x, At-loop-i, Else-declines, In-loop-i, Start}
 
-abbrev whole : goal.Start → Table
-whole c = with_rows c.args.t c.args.rows.now
-
 facts : (c : goal.Start)
-    → Fits c.args.t.symbols c.args.t.span c.args.t.depth (info_rows (whole c))
-facts c = fit-facts (whole c) c.requires.0
+    → Fits c.args.t.symbols c.args.t.span c.args.t.depth (info_rows ((with_rows c.args.t c.args.rows.now)))
+facts c = fit-facts ((with_rows c.args.t c.args.rows.now)) c.requires.0
 
 width : (c : goal.Start) → c.args.t.symbols - 1 ≤ length c.args.rows.now
 width c = let n = (facts c).n_to in let l = c.requires.1 in omega arith
 
-size : (c : goal.Start) → length (rows_of (whole c)) ≡ c.args.t.symbols
+size : (c : goal.Start) → length (rows_of ((with_rows c.args.t c.args.rows.now))) ≡ c.args.t.symbols
 size c =
     code-length c.args.t.symbols c.args.rows.now (let n = (facts c).n_from in omega arith) (width c)
 
@@ -69,7 +66,7 @@ one_at-weight-requires c = let z = (facts (goal.at.one_at-weight-requires c).Sta
 
 pub loop-i-init : goal.loop-i-init
 loop-i-init c =
-    going_start (whole (goal.at.loop-i-init c).Start) c.args.state.now c.args.blocks.now c.args.out.now
+    going_start ((with_rows c.args.t c.args.rows.now)) c.args.state.now c.args.blocks.now c.args.out.now
 
 -- the turn's block is there, and so is its room
 inside : (c : goal.In-loop-i)
@@ -89,41 +86,34 @@ declines-requires c =
     let z = facts (goal.at.declines-requires c).Start in
     (z.n_from, z.n_to, z.N_from, z.N_to, z.m_from, z.m_to, c.loop-i.invariant.size ∙ c.requires.2)
 
-abbrev block : goal.At-loop-i → ℕ
-block c = get_or c.args.blocks.now c.loop-i.i 0
-
--- the largest block
-abbrev largest : goal.At-loop-i → ℕ
-largest c = c.mask-most.result
-
 tested : (c : goal.At-loop-i)
-    → ltb (largest c) (block c) ≡ leb (2 ^ c.args.t.symbols) (block c)
+    → ltb ((c.mask-most.result)) ((get_or c.args.blocks.now c.loop-i.i 0)) ≡ leb (2 ^ c.args.t.symbols) ((get_or c.args.blocks.now c.loop-i.i 0))
 tested c =
-    let n = (facts c.before.before.before.before.before.before.before.before.before.before.before.before.before.before.before.before.before.before).n_to in
-    above-mask c.args.t.symbols (largest c) (block c) (omega arith)
+    let n = (facts (goal.at.NONE c).Start).n_to in
+    above-mask c.args.t.symbols ((c.mask-most.result)) ((get_or c.args.blocks.now c.loop-i.i 0)) (omega arith)
     c.mask-most.ensures
 
 pub returns-then-declines : goal.returns-then-declines
 returns-then-declines c =
     let a = c.args in
-    turn_declined (whole (goal.at.returns-then-declines c).Start) a.state.now a.blocks.now a.out.now c.loop-i.i c.loop-i.state
+    turn_declined ((with_rows c.args.t c.args.rows.now)) a.state.now a.blocks.now a.out.now c.loop-i.i c.loop-i.state
     c.loop-i.out c.loop-i.invariant c.requires.0 c.requires.2 (inside (goal.at.returns-then-declines c).In-loop-i).0
-    (largest (goal.at.returns-then-declines c).At-loop-i) (tested (goal.at.returns-then-declines c).At-loop-i) (sym c.declines.ensures ∙ c.if-declines.true)
+    ((c.mask-most.result)) (tested (goal.at.returns-then-declines c).At-loop-i) (sym c.declines.ensures ∙ c.if-declines.true)
 
 -- no refusal applies
 none : (c : goal.Else-declines)
-    → decoder_fault (whole c.before.before.before.before.before.before.before.before.before.before.before.before.before.before.before.before.before.before.before.before.before.before) c.loop-i.state (block c.before.before.before.before) ≡ 0
+    → decoder_fault ((with_rows c.args.t c.args.rows.now)) c.loop-i.state ((get_or c.args.blocks.now c.loop-i.i 0)) ≡ 0
 none c =
     let a = c.args in
-    turn_taken (whole c.before.before.before.before.before.before.before.before.before.before.before.before.before.before.before.before.before.before.before.before.before.before) a.state.now a.blocks.now a.out.now c.loop-i.i c.loop-i.state
-    c.loop-i.out c.loop-i.invariant c.requires.0 c.requires.2 (inside c.before.before.before).0
-    (largest c.before.before.before.before) (tested c.before.before.before.before) (sym c.declines.ensures ∙ c.if-declines.false)
+    turn_taken ((with_rows c.args.t c.args.rows.now)) a.state.now a.blocks.now a.out.now c.loop-i.i c.loop-i.state
+    c.loop-i.out c.loop-i.invariant c.requires.0 c.requires.2 (inside (goal.at.NONE c).In-loop-i).0
+    ((c.mask-most.result)) (tested (goal.at.NONE c).At-loop-i) (sym c.declines.ensures ∙ c.if-declines.false)
 
 pub terms-x-requires : goal.terms-x-requires
 terms-x-requires c =
     let s = c.loop-i.state in
-    let u = whole (goal.at.terms-x-requires c).Start in
-    let r = terms_room u s (block (goal.at.terms-x-requires c).At-loop-i) (decoder-taken u s (block (goal.at.terms-x-requires c).At-loop-i) (none (goal.at.terms-x-requires c).Else-declines)) in
+    let u = (with_rows c.args.t c.args.rows.now) in
+    let r = terms_room u s ((get_or c.args.blocks.now c.loop-i.i 0)) (decoder-taken u s ((get_or c.args.blocks.now c.loop-i.i 0)) (none (goal.at.terms-x-requires c).Else-declines)) in
     let e = sym c.one_at-top.ensures in (
       r.0,
       r.1,
@@ -135,59 +125,59 @@ terms-x-requires c =
 -- w, by the tables of the rows
 joined : (c : goal.After-terms-x)
     → let s = c.loop-i.state in
-    c.terms-x.result.w ≡ pending_of (whole c.before.before.before.before.before.before.before.before.before.before.before.before.before.before.before.before.before.before.before.before.before.before.before.before.before) s (turn_of s) ⊕ combination (rows_of (whole c.before.before.before.before.before.before.before.before.before.before.before.before.before.before.before.before.before.before.before.before.before.before.before.before.before)) (block c.before.before.before.before.before.before.before)
+    c.terms-x.result.w ≡ pending_of ((with_rows c.args.t c.args.rows.now)) s (turn_of s) ⊕ combination (rows_of ((with_rows c.args.t c.args.rows.now))) ((get_or c.args.blocks.now c.loop-i.i 0))
 joined c =
-    let u = whole c.before.before.before.before.before.before.before.before.before.before.before.before.before.before.before.before.before.before.before.before.before.before.before.before.before in
+    let u = (with_rows c.args.t c.args.rows.now) in
     let s = c.loop-i.state in
     let ws = c.error_words-words in
     let tables = c.lookup_of-tables in
-    let z = size c.before.before.before.before.before.before.before.before.before.before.before.before.before.before.before.before.before.before.before.before.before.before.before.before.before in
-    let n = (facts c.before.before.before.before.before.before.before.before.before.before.before.before.before.before.before.before.before.before.before.before.before.before.before.before.before).n_to in
+    let z = size (goal.at.NONE c).Start in
+    let n = (facts (goal.at.NONE c).Start).n_to in
     c.terms-x.ensures.w
     ∙ ap (λ (x : ℕ). pending_of u s (turn_of s) ⊕ x) (c.look_up.ensures
     ∙ image-by (rows_of u) ws.result u.symbols (first_words (rows_of u) ws.result u.symbols 0 z ws.ensures)
-    (omega arith) tables.result tables.ensures (block c.before.before.before.before.before.before.before))
+    (omega arith) tables.result tables.ensures ((get_or c.args.blocks.now c.loop-i.i 0)))
 
 -- the least error, by the dual basis
 explained : (c : goal.After-least_by-found)
-    → c.least_by-found.result ≡ found (rows_of (whole c.before.before.before.before.before.before.before.before.before.before.before.before.before.before.before.before.before.before.before.before.before.before.before.before.before.before.before.before.before))
+    → c.least_by-found.result ≡ found (rows_of ((with_rows c.args.t c.args.rows.now)))
     c.terms-x.result.register
 explained c =
-    let n = (facts c.before.before.before.before.before.before.before.before.before.before.before.before.before.before.before.before.before.before.before.before.before.before.before.before.before.before.before.before.before).n_to in
+    let n = (facts (goal.at.NONE c).Start).n_to in
     let b = c.dual_basis-b in
     let w = c.error_words-words in
-    let z = size c.before.before.before.before.before.before.before.before.before.before.before.before.before.before.before.before.before.before.before.before.before.before.before.before.before.before.before.before.before in
-    let R = rows_of (whole c.before.before.before.before.before.before.before.before.before.before.before.before.before.before.before.before.before.before.before.before.before.before.before.before.before.before.before.before.before) in
+    let z = size (goal.at.NONE c).Start in
+    let R = rows_of ((with_rows c.args.t c.args.rows.now)) in
     let words = counted c.args.t.symbols w.result in
     let same : words ≡ R = counted_words R w.result c.args.t.symbols 0 z w.ensures (omega arith) in
     let x = c.terms-x.result.register in
     c.least_by-found.ensures
     ∙ ap (λ (o : ℕ). least_by b.result o x)
     c.together-ones.ensures
-    ∙ least_by_lem words (rw same (omega arith)) (subst (Below 64) (sym same) (code_below (whole c.before.before.before.before.before.before.before.before.before.before.before.before.before.before.before.before.before.before.before.before.before.before.before.before.before.before.before.before.before) (facts c.before.before.before.before.before.before.before.before.before.before.before.before.before.before.before.before.before.before.before.before.before.before.before.before.before.before.before.before.before)))
+    ∙ least_by_lem words (rw same (omega arith)) (subst (Below 64) (sym same) (code_below ((with_rows c.args.t c.args.rows.now)) (facts (goal.at.NONE c).Start)))
     b.result b.ensures x
     ∙ ap (λ (ws : List ℕ). found ws x) same
 
 pub judged-requires : goal.judged-requires
 judged-requires c =
     subst (λ (f : Least). error_of f < 2 ^ 16) (sym (explained (goal.at.judged-requires c).After-least_by-found))
-    (error_lt (rows_of (whole (goal.at.judged-requires c).Start)) c.terms-x.result.register
+    (error_lt (rows_of ((with_rows c.args.t c.args.rows.now))) c.terms-x.result.register
     (let z = size (goal.at.judged-requires c).Start in let n = (facts (goal.at.judged-requires c).Start).n_to in omega arith))
 
 pub take_block-requires : goal.take_block-requires
 take_block-requires c =
     let s = c.loop-i.state in
-    let k = decoder-taken (whole (goal.at.take_block-requires c).Start) s (block (goal.at.take_block-requires c).At-loop-i)
+    let k = decoder-taken ((with_rows c.args.t c.args.rows.now)) s ((get_or c.args.blocks.now c.loop-i.i 0))
     (none (goal.at.take_block-requires c).Else-declines) in
-    let r = keep_room (whole (goal.at.take_block-requires c).Start) s (block (goal.at.take_block-requires c).At-loop-i) k in
+    let r = keep_room ((with_rows c.args.t c.args.rows.now)) s ((get_or c.args.blocks.now c.loop-i.i 0)) k in
     let n = k.sizes.n_from in
-    (r.0, r.1, r.2, r.3, omega arith, k.sizes.n_to, r.4, oldest_lt (whole (goal.at.take_block-requires c).Start) s (block (goal.at.take_block-requires c).At-loop-i) k)
+    (r.0, r.1, r.2, r.3, omega arith, k.sizes.n_to, r.4, oldest_lt ((with_rows c.args.t c.args.rows.now)) s ((get_or c.args.blocks.now c.loop-i.i 0)) k)
 
 -- the entry's place
 written : (c : goal.After-slice_known-in-loop-i-1)
     → c.loop-i.i < length c.loop-i.out
 written c =
-    let r = inside c.before.before.before.before.before.before.before.before.before.before.before.before.before.before.before in
+    let r = inside (goal.at.offset_bounds-out-i c).In-loop-i in
     let z = c.loop-i.invariant.reached.size in
     omega arith
 
@@ -205,18 +195,18 @@ overflow_add-i c =
 
 -- the step's entry and memory
 stepped : (c : goal.After-slice_known-in-loop-i-1)
-    → (c.take_block.new.state ≡ decoder_next (whole c.before.before.before.before.before.before.before.before.before.before.before.before.before.before.before.before.before.before.before.before.before.before.before.before.before.before.before.before.before.before.before.before.before.before) c.loop-i.state (block c.before.before.before.before.before.before.before.before.before.before.before.before.before.before.before.before))
+    → (c.take_block.new.state ≡ decoder_next ((with_rows c.args.t c.args.rows.now)) c.loop-i.state ((get_or c.args.blocks.now c.loop-i.i 0)))
     × (c.take_block.result ∷ []
-    ≡ decode_entries (delivery (whole c.before.before.before.before.before.before.before.before.before.before.before.before.before.before.before.before.before.before.before.before.before.before.before.before.before.before.before.before.before.before.before.before.before.before) c.loop-i.state (block c.before.before.before.before.before.before.before.before.before.before.before.before.before.before.before.before)))
+    ≡ decode_entries (delivery ((with_rows c.args.t c.args.rows.now)) c.loop-i.state ((get_or c.args.blocks.now c.loop-i.i 0))))
 stepped c =
     let f = c.least_by-found in
     let o = c.one_at-top in
     let p = c.one_at-weight in
     let j = c.judged in
     let b = c.take_block in
-    step_words (whole c.before.before.before.before.before.before.before.before.before.before.before.before.before.before.before.before.before.before.before.before.before.before.before.before.before.before.before.before.before.before.before.before.before.before) c.loop-i.state (block c.before.before.before.before.before.before.before.before.before.before.before.before.before.before.before.before) c.terms-x.result.w (width c.before.before.before.before.before.before.before.before.before.before.before.before.before.before.before.before.before.before.before.before.before.before.before.before.before.before.before.before.before.before.before.before.before.before) (joined c.before.before.before.before.before.before.before.before.before)
+    step_words ((with_rows c.args.t c.args.rows.now)) c.loop-i.state ((get_or c.args.blocks.now c.loop-i.i 0)) c.terms-x.result.w (width (goal.at.offset_bounds-out-i c).Start) (joined (goal.at.offset_bounds-out-i c).After-terms-x)
     c.terms-x.result.register o.result c.terms-x.ensures.register o.ensures f.result
-    (explained c.before.before.before.before.before) j.result.error j.result.kept j.result.mark (
+    (explained (goal.at.offset_bounds-out-i c).After-least_by-found) j.result.error j.result.kept j.result.mark (
       j.ensures.error,
       (
         j.ensures.kept,
@@ -228,7 +218,7 @@ pub loop-i-preserved : goal.loop-i-preserved
 loop-i-preserved c =
     let a = c.args in
     let i = inside (goal.at.loop-i-preserved c).In-loop-i in
-    turn_next (whole (goal.at.loop-i-preserved c).Start) a.state.now a.blocks.now a.out.now c.loop-i.i c.loop-i.state c.loop-i.out
+    turn_next ((with_rows c.args.t c.args.rows.now)) a.state.now a.blocks.now a.out.now c.loop-i.i c.loop-i.state c.loop-i.out
     c.loop-i.invariant c.requires.0 c.requires.2 i.0 i.1 (none (goal.at.loop-i-preserved c).Else-declines)
     c.take_block.new.state
     (stepped c).0 c.take_block.result (stepped c).1
@@ -236,5 +226,5 @@ loop-i-preserved c =
 pub returns : goal.returns
 returns c =
     let a = c.args in
-    going_all (whole (goal.at.returns c).Start) a.state.now a.blocks.now a.out.now c.loop-i.i c.loop-i.state c.loop-i.out
+    going_all ((with_rows c.args.t c.args.rows.now)) a.state.now a.blocks.now a.out.now c.loop-i.i c.loop-i.state c.loop-i.out
     c.loop-i.invariant (let e = c.min-end.ensures in omega arith)

@@ -20,14 +20,11 @@ use Rattle.link.specs.Batch.{decode_entry}
 use Rattle.link.proofs.Refusals.{picked, passed}
 use Rattle.link.proofs.Room.{fit-room}
 use Rattle.link.proofs.decode_batch.take_block.Goals as goal
-use Rattle.link.proofs.decode_batch.take_block.Goals.{After-information-2, After-keep-oldest, Start}
-
-abbrev sizes : goal.Start → Table
-sizes c = table c.args.n c.args.span c.args.depth []
+use Rattle.link.proofs.decode_batch.take_block.Goals.{After-information-2, After-keep-oldest}
 
 pub overflow_mul-depth : goal.overflow_mul-depth
 overflow_mul-depth c =
-    let m = fit-room (sizes (goal.at.overflow_mul-depth c).Start) c.requires.3 c.requires.1 in
+    let m = fit-room ((table c.args.n c.args.span c.args.depth [])) c.requires.3 c.requires.1 in
     record { fits = omega arith }
 
 kept : (c : goal.After-keep-oldest)
@@ -42,7 +39,7 @@ kept c =
 pub returns-then-fill-depth : goal.returns-then-fill-depth
 returns-then-fill-depth c =
     let s = c.args.state.now in (
-      picked (ltb (fill_of s) (delay_of (sizes (goal.at.returns-then-fill-depth c).Start))) 0 _ (lt-ltb (fill_of s) (delay_of (sizes (goal.at.returns-then-fill-depth c).Start)) c.if-fill-depth.true),
+      picked (ltb (fill_of s) (delay_of ((table c.args.n c.args.span c.args.depth [])))) 0 _ (lt-ltb (fill_of s) (delay_of ((table c.args.n c.args.span c.args.depth []))) c.if-fill-depth.true),
       kept (goal.at.returns-then-fill-depth c).After-keep-oldest,
     )
 
@@ -50,7 +47,7 @@ returns-then-fill-depth c =
 corrected : (c : goal.After-information-2)
     → let a = c.args in
     bit_xor c.keep-oldest.result c.information-2.result
-    ≡ delayed_of (sizes c.before.before.before.before.before.before.before.before.before.before) a.state.now (turn_of a.state.now) 0 ⊕ information a.n a.v.error
+    ≡ delayed_of ((table c.args.n c.args.span c.args.depth [])) a.state.now (turn_of a.state.now) 0 ⊕ information a.n a.v.error
 corrected c =
     xor-code c.keep-oldest.result c.information-2.result ∙ ap₂ ◌⊕◌ c.keep-oldest.ensures.oldest
     c.information-2.ensures
@@ -60,7 +57,7 @@ entry-requires c =
     let a = c.args in
     let n = c.requires.5 in
     let low : information a.n a.v.error < 2 ^ (a.n - 1) = mod-lt a.v.error (pow_pos (a.n - 1)) in
-    let l = xor_lt (a.n - 1) (delayed_of (sizes (goal.at.entry-requires c).Start) a.state.now (turn_of a.state.now) 0)
+    let l = xor_lt (a.n - 1) (delayed_of ((table c.args.n c.args.span c.args.depth [])) a.state.now (turn_of a.state.now) 0)
     (information a.n a.v.error) c.requires.7 low in
     let h : a.n - 1 ≤ 16 = omega arith in
     let most = pow_mono h in
@@ -71,7 +68,7 @@ returns c =
     let a = c.args in
     let s = a.state.now in (
       c.entry.ensures ∙ ap (decode_entry (mark_number a.v.mark)) (corrected (goal.at.returns c).After-information-2)
-          ∙ passed (ltb (fill_of s) (delay_of (sizes (goal.at.returns c).Start))) 0 _
-          (le-ltb (fill_of s) (delay_of (sizes (goal.at.returns c).Start)) c.if-fill-depth.false),
+          ∙ passed (ltb (fill_of s) (delay_of ((table c.args.n c.args.span c.args.depth [])))) 0 _
+          (le-ltb (fill_of s) (delay_of ((table c.args.n c.args.span c.args.depth []))) c.if-fill-depth.false),
       kept (goal.at.returns c).After-keep-oldest,
     )

@@ -1,18 +1,11 @@
 -- `tables::judge::clash_words`: after i turns the first i rows stand shifted from the front, and as they are from n on.
 -- Assumes nothing.
-use mathlib.Core.Path.{◌≡◌, sym, ap, ◌∙◌, subst}
-use mathlib.Core.Logic.{◌≢◌}
-use mathlib.Core.List.{List, ◌++◌, map}
-use Prim.Native.Nat.{ℕ, ◌+◌, ◌-◌, ◌≤◌, ◌<◌, min}
-use native.Mathlib.Decide.{dec_lt, ℕ_discrete}
-use native.Mathlib.Omega.{arith}
-use borrow.Author.Rules.{rules}
-use lib.ListN.{length, get_or, set, take, length-append, length-map, length-set, get_or-append, get_or-map}
-use lib.Seq.{ext_get_or, get_or-take, get_or-append-add, get_or-set_same, get_or-set_other, length-take-le}
+use mathlib.Core.Path.{◌≡◌}
+use mathlib.Core.List.{List}
+use Prim.Native.Nat.{ℕ, ◌+◌, ◌-◌, ◌≤◌, ◌<◌}
+use lib.ListN.{length, get_or}
 use Rattle.span.specs.Word.{shifted}
-use Rattle.span.proofs.Word.{shifted-zero}
 use Rattle.tables.specs.Table.{code_rows}
-use Rattle.tables.proofs.Fit.{code-length}
 use Rattle.tables.proofs.judge.clash_words.Given as goal
 
 abbrev pub Filled : ℕ → ℕ → ℕ → List ℕ → ℕ → List ℕ → Type 0

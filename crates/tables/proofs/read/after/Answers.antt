@@ -1,6 +1,5 @@
 -- `tables::read::after`: a sound record that is not the end is of sizes, or of a row in range; what it says is stored.
 -- Assumes nothing.
-use borrow.Author.Rules.{rules}
 use mathlib.Core.Path.{◌≡◌, sym, ◌∙◌}
 use native.Mathlib.Omega.{arith}
 use borrow.Author.Tests.{eq-eqb, ne_eqb}

@@ -2,7 +2,6 @@
 use mathlib.Core.Path.{sym}
 use Prim.Native.Nat.{◌+◌}
 use native.Mathlib.Omega.{arith}
-use borrow.Author.Rules.{rules}
 use lib.ListN.{drop, length-drop, get_or-eq_default}
 use lib.Seq.{get_or-drop}
 use Rattle.tables.proofs.read.byte.Goals as goal

@@ -1,11 +1,6 @@
 -- `tables::read::end_fault`: after i turns the first i rows are judged; then the two tests. Assumes nothing.
-use borrow.Author.Rules.{rules}
-use mathlib.Core.Path.{◌≡◌, refl, ap, ◌∙◌}
-use mathlib.Core.Bool.{Bool, false, ◌&&◌}
+use mathlib.Core.Path.{◌≡◌}
 use Prim.Native.Nat.{◌-◌, ◌≤◌}
-use native.Mathlib.Omega.{arith}
-use native.Mathlib.Numerals.{add-one}
-use lib.ListN.{get_or}
 use Rattle.tables.specs.Format.{all_given}
 use Rattle.tables.proofs.read.end_fault.Given as goal
 

@@ -1,5 +1,4 @@
 -- `tables::read::header_fault`: the tests in their order. Assumes nothing.
-use borrow.Author.Rules.{rules}
 use mathlib.Core.Path.{◌≡◌, refl}
 use mathlib.Core.Bool.{Bool, true, false, cond, not, beq}
 use Prim.Native.Nat.{ℕ}

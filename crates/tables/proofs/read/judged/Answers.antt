@@ -1,8 +1,5 @@
 -- `tables::read::judged`: what is read is the judgement of a fit table. Assumes nothing.
-use borrow.Author.Rules.{rules}
 use mathlib.Core.Path.{sym, ◌∙◌}
-use mathlib.Core.Logic.{⊎_elim}
-use native.Mathlib.Omega.{arith}
 use Rattle.tables.proofs.Reading.{clash_read, sound-read}
 use Rattle.tables.proofs.read.judged.Goals as goal
 

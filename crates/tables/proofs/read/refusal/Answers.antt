@@ -1,6 +1,5 @@
 -- `tables::read::refusal`: the answer beside the zero table; the place by whether the number is 9. Assumes nothing.
 use native.Mathlib.Omega.{arith}
-use borrow.Author.Rules.{rules}
 use borrow.Author.Tests.{eq-eqb, ne_eqb}
 use Rattle.tables.specs.Format.{place}
 use Rattle.tables.proofs.read.refusal.Goals as goal

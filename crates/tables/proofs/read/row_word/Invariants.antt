@@ -1,13 +1,8 @@
 -- `tables::read::row_word`: from the last byte down, the number of the bytes from k on. Assumes nothing.
-use borrow.Author.Rules.{rules}
-use mathlib.Core.Path.{◌≡◌, refl, ◌∙◌}
-use mathlib.Core.List.{List}
-use Prim.Native.Nat.{ℕ, suc, ◌+◌, ◌-◌, ◌*◌, ◌^◌, ◌≤◌, ◌<◌}
-use native.Mathlib.Omega.{arith}
-use lib.ListN.{get_or, drop}
-use lib.Seq.{get_or-drop}
+use mathlib.Core.Path.{◌≡◌}
+use Prim.Native.Nat.{◌-◌, ◌≤◌}
+use lib.ListN.{drop}
 use Rattle.tables.specs.Format.{word}
-use Rattle.tables.proofs.Format.{word_fits}
 use Rattle.tables.proofs.read.row_word.Given as goal
 
 abbrev pub invariant-loop-k : goal.invariant-loop-k

@@ -1,14 +1,10 @@
 -- `tables::write::put_rows`: what is still to be stored makes of the bytes so far all rows. Assumes nothing.
-use mathlib.Core.Path.{◌≡◌, refl, ap, ◌∙◌}
-use mathlib.Core.List.{List}
-use Prim.Native.Nat.{ℕ, ◌+◌, ◌-◌, ◌*◌, ◌≤◌}
-use native.Mathlib.Omega.{arith}
-use borrow.Author.Rules.{rules}
+use mathlib.Core.Path.{◌≡◌}
+use Prim.Native.Nat.{◌+◌, ◌-◌, ◌*◌, ◌≤◌}
 use lib.ListN.{length}
 use lib.Seq.{sets}
 use Rattle.tables.specs.Written.{row_records}
 use Rattle.tables.specs.Writing.{ascending}
-use Rattle.tables.proofs.Stores.{row-stored, rows-stored}
 use Rattle.tables.proofs.write.put_rows.Given as goal
 
 abbrev pub invariant-loop-j : goal.invariant-loop-j

@@ -1,7 +1,6 @@
 -- `tables::write::write`: the answer by the judgement. Assumes nothing.
 use mathlib.Core.Path.{refl, sym}
 use native.Mathlib.Omega.{arith}
-use borrow.Author.Rules.{rules}
 use Rattle.tables.specs.declared.judge.Judgement.TheVariants.{Sound}
 use Rattle.tables.proofs.Fit.{fit-facts}
 use Rattle.tables.proofs.Judging.{judged}
