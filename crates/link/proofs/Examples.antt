@@ -3,7 +3,6 @@ use mathlib.Core.Path.{◌≡◌, refl}
 use mathlib.Core.Bool.{xor}
 use mathlib.Core.List.{[], ◌∷◌}
 use mathlib.Core.Option.{or_else}
-use Prim.Native.Nat.{◌-◌}
 use lib.ListN.{replicate}
 use Rattle.span.specs.Word.{◌⊕◌, odd, bit, shifted}
 use Rattle.span.specs.Combination.{combination}

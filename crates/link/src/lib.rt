@@ -1,5 +1,6 @@
 // The coder and the decoder on lent memory.
 #![tactic(auto)]
+
 pub mod code;
 pub mod code_batch;
 pub mod decode;

@@ -8,5 +8,5 @@ use Rattle.link.proofs.code.code.Goals as goal
 pub returns : goal.returns
 returns c =
     let a = c.args in
-    let size : length a.t1.rows ≡ 15 = search rules in
-    rw ((lent_rows a.t1 a.t1.rows).0 size) at c.code_lent.ensures
+    let size : length a.t.rows ≡ 15 = search rules in
+    rw ((lent_rows a.t a.t.rows).0 size) at c.code_lent.ensures

@@ -2,7 +2,6 @@
 use mathlib.Core.Path.{◌≡◌, sym, ap, subst, ◌∙◌}
 use Prim.Native.Nat.{ℕ, ◌-◌, ◌≤◌, ◌<◌}
 use native.Mathlib.Omega.{arith}
-use borrow.Author.Rules.{rules}
 use lib.Pow.{pow_mono}
 use Rattle.tables.specs.declared.table.Table.{Table}
 use Rattle.tables.specs.Lent.{with_rows, lent}
@@ -55,29 +54,29 @@ taken-requires c =
 
 block-is : (c : goal.After-slice_known-2-1)
     → let a = c.args in
-    c.taken.result ≡ coded_block ((with_rows c.args.t c.args.rows.now)) a.state.now a.info
+    c.taken.result ≡ coded_block (with_rows c.args.t c.args.rows.now) a.state.now a.info
 block-is c =
     let a = c.args in
     let combined = c.combination-image in
     c.taken.ensures.block
-    ∙ block_in_numbers ((with_rows c.args.t c.args.rows.now)) a.state.now a.info combined.result combined.ensures
+    ∙ block_in_numbers (with_rows c.args.t c.args.rows.now) a.state.now a.info combined.result combined.ensures
     c.one_at.result c.one_at.ensures
 
 pub overflow_cast-result : goal.overflow_cast-result
 overflow_cast-result c =
     let a = c.args in
-    record { fits = rw (block-is c) (coded-fits ((with_rows c.args.t c.args.rows.now)) a.state.now a.info (taken-whole (goal.at.overflow_cast-result c).Else-number-ne0).none) }
+    record { fits = rw (block-is c) (coded-fits (with_rows c.args.t c.args.rows.now) a.state.now a.info (taken-whole (goal.at.overflow_cast-result c).Else-number-ne0).none) }
 
 pub returns : goal.returns
 returns c =
     let a = c.args in
     let s = a.state.now in
     let k = taken-whole (goal.at.returns c).Else-number-ne0 in
-    let e = codes ((with_rows c.args.t c.args.rows.now)) s a.info k.none in
+    let e = codes (with_rows c.args.t c.args.rows.now) s a.info k.none in
     let combined = c.combination-image in
     codes-so (lent a.t a.rows.now) s a.info (Coded c.taken.result)
     c.taken.new.state
     (ap Coded (block-is c) ∙ e.0 ∙ ap (λ (u : Table). code_answer u s a.info) (sym k.whole))
     (c.taken.ensures.memory
-    ∙ memory_in_numbers ((with_rows c.args.t c.args.rows.now)) s a.info combined.result combined.ensures
+    ∙ memory_in_numbers (with_rows c.args.t c.args.rows.now) s a.info combined.result combined.ensures
     ∙ e.1 ∙ ap (λ (u : Table). code_memory u s a.info) (sym k.whole))

@@ -3,8 +3,7 @@ use mathlib.Core.Path.{◌≡◌, sym, ◌∙◌}
 use mathlib.Core.Bool.{Bool, true, false, cond}
 use Prim.Native.Nat.{◌-◌, ◌^◌}
 use native.Mathlib.Omega.{arith}
-use borrow.Author.Rules.{rules}
-use borrow.Author.Tests.{lt-ltb, le-ltb, not-true, not-false}
+use borrow.Author.Tests.{lt-ltb, le-ltb}
 use lib.Dec.{ltb}
 use Rattle.span.proofs.Masks.{above-mask}
 use Rattle.tables.specs.Table.{fit}
@@ -21,10 +20,10 @@ unfolding coder_fault
 returns-then-not-lent_fits c =
     let a = c.args in
     number_12 coder_words (λ u. 2 ^ (u.symbols - 1)) coder_malformed a.t a.rows.now a.state.now a.block
-    (sym c.lent_fits.ensures ∙ not-true _ c.if-not-lent_fits.true)
+    (sym c.lent_fits.ensures ∙ c.if-not-lent_fits.true)
 
 fitted : (c : goal.Else-not-lent_fits) → let a = c.args in fit (lent a.t a.rows.now) ≡ true
-fitted c = sym c.lent_fits.ensures ∙ not-false _ c.if-not-lent_fits.false
+fitted c = sym c.lent_fits.ensures ∙ c.if-not-lent_fits.false
 
 pub overflow_add-t : goal.overflow_add-t
 overflow_add-t c = let z = lent-facts _ _ (fitted (goal.at.overflow_add-t c).Else-not-lent_fits) in record { fits = omega arith }
@@ -55,19 +54,20 @@ overflow_sub-t c = let z = lent-facts _ _ (fitted (goal.at.overflow_sub-t c).Els
 -- once 12 to 14 are settled, 15 is left
 settled : (c : goal.After-mask) (q : Bool)
     → let a = c.args in
-    ltb c.mask.result a.block ≡ q
+    fit (lent a.t a.rows.now) ≡ true → ltb c.mask.result a.block ≡ q
     → cond q 15 0 ≡ coder_fault (lent a.t a.rows.now) a.state.now a.block
 unfolding coder_fault
-settled c q out =
+settled c q fits out =
     let a = c.args in
-    let z = lent-facts _ _ (fitted (goal.at.NONE c).Else-not-lent_fits) in
+    let z = lent-facts _ _ fits in
     number_15 coder_words (λ u. 2 ^ (u.symbols - 1)) coder_malformed a.t a.rows.now a.state.now a.block
-    (fitted (goal.at.NONE c).Else-not-lent_fits) c.if-state-t.false
+    fits c.if-state-t.false
     (sym c.malformed.ensures ∙ c.if-malformed.false) q
     (sym (above-mask (a.t.symbols - 1) c.mask.result a.block (omega arith) c.mask.ensures) ∙ out)
 
 pub returns-then-mask-block : goal.returns-then-mask-block
-returns-then-mask-block c = settled (goal.at.returns-then-mask-block c).After-mask true (lt-ltb _ _ c.if-mask-block.true)
+returns-then-mask-block c = settled (goal.at.returns-then-mask-block c).After-mask true
+    (fitted (goal.at.returns-then-mask-block c).Else-not-lent_fits) (lt-ltb _ _ c.if-mask-block.true)
 
 pub returns : goal.returns
-returns c = settled (goal.at.returns c).After-mask false (le-ltb _ _ c.if-mask-block.false)
+returns c = settled (goal.at.returns c).After-mask false (fitted (goal.at.returns c).Else-not-lent_fits) (le-ltb _ _ c.if-mask-block.false)

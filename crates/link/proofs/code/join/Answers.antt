@@ -1,7 +1,6 @@
 -- `link::code::join`: the word that joins, and its half. Assumes nothing.
 use mathlib.Core.Path.{ap}
 use Prim.Native.Nat.{ℕ, ◌/◌}
-use borrow.Author.Rules.{rules}
 use lib.ListN.{get_or, set}
 use Rattle.span.proofs.Word.{xor-code}
 use Rattle.link.proofs.code.join.Goals as goal
@@ -10,4 +9,4 @@ pub returns : goal.returns
 returns c =
     let a = c.args in
     let e = xor-code (get_or a.part.now 0 0) a.image in
-    (e, ap (λ (w : ℕ). set a.part.now 0 (w / 2)) e)
+    record { word = e; part = ap (λ (w : ℕ). set a.part.now 0 (w / 2)) e }

@@ -4,7 +4,6 @@ use mathlib.Core.List.{List}
 use Prim.Native.Nat.{ℕ, ◌+◌, ◌-◌, ◌/◌, ◌<◌}
 use native.Mathlib.Nat.{add-zero}
 use native.Mathlib.Omega.{arith}
-use borrow.Author.Rules.{rules}
 use borrow.Rule.Slice.PartMut.{mid_of, put_mid}
 use lib.ListN.{length, get_or, set}
 use Rattle.span.specs.Word.{◌⊕◌, odd, sel}
@@ -49,9 +48,9 @@ overflow_add-result c =
 pub returns : goal.returns
 returns c =
     let a = c.args in
-    let j = c.join-w in (
-      ap (λ (x : ℕ). a.info + x) (word c),
-      ap₂ (λ (x : List ℕ) (y : ℕ). set x 0 y)
+    let j = c.join-w in record {
+      block = ap (λ (x : ℕ). a.info + x) (word c);
+      memory = ap₂ (λ (x : List ℕ) (y : ℕ). set x 0 y)
           (memory_is a.state.now a.image (omega arith) j.new.part j.ensures.part)
-          (c.next_turn.ensures.inside c.requires.2),
-    )
+          (c.next_turn.ensures.inside c.requires.2);
+    }

@@ -3,7 +3,6 @@ use mathlib.Core.Bool.{Bool, true, false, cond}
 use mathlib.Core.List.{List, [], ◌∷◌}
 use Prim.Native.Nat.{ℕ, ◌+◌, ◌-◌, ◌^◌, ◌≤◌, ◌<◌}
 use native.Mathlib.Omega.{arith}
-use borrow.Author.Rules.{rules}
 use borrow.Author.Tests.{lt-ltb, le-ltb}
 use lib.Dec.{leb, ltb}
 use lib.ListN.{length, get_or, set}
@@ -13,27 +12,25 @@ use lib.Seq.{length-take-le}
 use Rattle.span.proofs.Masks.{above-mask}
 use Rattle.tables.specs.declared.table.Table.{Table}
 use Rattle.tables.specs.Lent.{with_rows}
-use Rattle.tables.specs.Table.{info_rows}
+use Rattle.tables.specs.Table.{info_rows, fit}
 use Rattle.tables.proofs.Fit.{Fits, fit-facts}
 use Rattle.link.specs.Memory.{coder_words}
 use Rattle.link.specs.Refusals.{coder_malformed, coder_fault}
 use Rattle.link.specs.Coder.{coded_block, coder_next, code_answer, code_memory}
-use Rattle.link.proofs.Coder.{CoderTaken, coder-taken, coder-length, codes, coded-fits, block_in_numbers}
+use Rattle.link.proofs.Coder.{coder-taken, coder-length, codes, coded-fits, block_in_numbers}
 use Rattle.link.proofs.Coder.{memory_in_numbers}
-use Rattle.link.specs.Batch.{Batch, batch, code_entries, code_batch, Fills, Reached}
+use Rattle.link.specs.Batch.{code_entries, code_batch, Fills, Reached}
 use Rattle.link.proofs.Refusals.{step_settled}
 use Rattle.link.proofs.CodeWords.{image-by}
 use Rattle.link.proofs.Entries.{coded_none, coded_one}
 use Rattle.link.proofs.Reached.{reached_start, reached_next, reached_refused, reached_all}
+use Rattle.link.proofs.code_batch.fill.Invariants.{made}
 use Rattle.link.proofs.code_batch.fill.Goals as goal
 use Rattle.link.proofs.code_batch.fill.Goals.{At-loop-i, Else-most-info, In-loop-i, Start}
 
-abbrev made : Table → ℕ → List ℕ → List ℕ → Batch
-made u = batch (λ s b. code_entries (code_answer u s b)) (code_memory u)
-
 facts : (c : goal.Start)
-    → Fits c.args.t.symbols c.args.t.span c.args.t.depth (info_rows ((with_rows c.args.t c.args.rows.now)))
-facts c = fit-facts ((with_rows c.args.t c.args.rows.now)) c.requires.0
+    → Fits c.args.t.symbols c.args.t.span c.args.t.depth (info_rows (with_rows c.args.t c.args.rows.now))
+facts c = fit-facts (with_rows c.args.t c.args.rows.now) c.requires.0
 
 pub overflow_sub-width : goal.overflow_sub-width
 overflow_sub-width c = let n = (facts (goal.at.overflow_sub-width c).Start).n_from in omega arith
@@ -59,19 +56,16 @@ malformed-requires c =
     let z = facts (goal.at.malformed-requires c).Start in
     (c.loop-i.invariant.1 ∙ c.requires.2, z.N_to, (let h = z.N_from in omega arith), z.m_to)
 
-settled : (c : goal.At-loop-i) (p q : Bool) → coder_malformed ((with_rows c.args.t c.args.rows.now)) c.loop-i.state ≡ p
-    → leb (2 ^ (c.args.t.symbols - 1)) ((get_or c.args.infos.now c.loop-i.i 0)) ≡ q
-    → coder_fault ((with_rows c.args.t c.args.rows.now)) c.loop-i.state ((get_or c.args.infos.now c.loop-i.i 0)) ≡ cond p 14 (cond q 15 0)
+-- the fault of a block, by its two tests
+settled : (u : Table) (s : List ℕ) (b : ℕ) → fit u ≡ true → length s ≡ coder_words u → (p q : Bool)
+    → coder_malformed u s ≡ p → leb (2 ^ (u.symbols - 1)) b ≡ q → coder_fault u s b ≡ cond p 14 (cond q 15 0)
 unfolding coder_fault
-settled c p q =
-    let u = (with_rows c.args.t c.args.rows.now) in
-    step_settled u (coder_words u) (coder_malformed u c.loop-i.state) (2 ^ (u.symbols - 1)) c.loop-i.state ((get_or c.args.infos.now c.loop-i.i 0))
-    c.requires.0 (c.loop-i.invariant.1 ∙ c.requires.2) p q
+settled u s b = step_settled u (coder_words u) (coder_malformed u s) (2 ^ (u.symbols - 1)) s b
 
 refused : (c : goal.At-loop-i) → c.loop-i.i < length c.args.infos.now → (k : ℕ)
-    → coder_fault ((with_rows c.args.t c.args.rows.now)) c.loop-i.state ((get_or c.args.infos.now c.loop-i.i 0)) ≡ k → 0 < k
+    → coder_fault (with_rows c.args.t c.args.rows.now) c.loop-i.state (get_or c.args.infos.now c.loop-i.i 0) ≡ k → 0 < k
     → let a = c.args in
-    Fills (code_batch ((with_rows c.args.t c.args.rows.now)) (length a.out.now) a.state.now a.infos.now) a.out.now
+    Fills (code_batch (with_rows c.args.t c.args.rows.now) (length a.out.now) a.state.now a.infos.now) a.out.now
     c.loop-i.i c.loop-i.state c.loop-i.out
 unfolding code_batch
 refused c left k e some =
@@ -79,46 +73,47 @@ refused c left k e some =
     let u = (with_rows c.args.t c.args.rows.now) in
     reached_refused (λ s b. code_entries (code_answer u s b)) (code_memory u) a.state.now a.infos.now a.out.now
     c.loop-i.i c.loop-i.state c.loop-i.out c.loop-i.invariant.0 left
-    (coded_none u c.loop-i.state ((get_or c.args.infos.now c.loop-i.i 0)) k e some)
+    (coded_none u c.loop-i.state (get_or c.args.infos.now c.loop-i.i 0) k e some)
 
 -- the turn's block is there, and so is its room
 inside : (c : goal.In-loop-i)
     → (c.loop-i.i < length c.args.infos.now) × (c.loop-i.i < length c.args.out.now)
 inside c = let e = c.min-end.ensures in (omega arith, omega arith)
 
-tested : (c : goal.At-loop-i) → ltb c.mask-most.result ((get_or c.args.infos.now c.loop-i.i 0)) ≡ (leb (2 ^ (c.args.t.symbols - 1)) ((get_or c.args.infos.now c.loop-i.i 0)))
+tested : (c : goal.At-loop-i) → ltb c.mask-most.result (get_or c.args.infos.now c.loop-i.i 0) ≡ leb (2 ^ (c.args.t.symbols - 1)) (get_or c.args.infos.now c.loop-i.i 0)
 tested c =
-    let n = (facts (goal.at.NONE c).Start).n_to in
-    above-mask (c.args.t.symbols - 1) c.mask-most.result ((get_or c.args.infos.now c.loop-i.i 0)) (omega arith)
+    let n = (fit-facts (with_rows c.args.t c.args.rows.now) c.requires.0).n_to in
+    above-mask (c.args.t.symbols - 1) c.mask-most.result (get_or c.args.infos.now c.loop-i.i 0) (omega arith)
     c.mask-most.ensures
 
 pub returns-then-malformed : goal.returns-then-malformed
 returns-then-malformed c =
-    refused (goal.at.returns-then-malformed c).At-loop-i (inside (goal.at.returns-then-malformed c).In-loop-i).0 14 (settled (goal.at.returns-then-malformed c).At-loop-i true ((leb (2 ^ (c.args.t.symbols - 1)) ((get_or c.args.infos.now c.loop-i.i 0))))
+    refused (goal.at.returns-then-malformed c).At-loop-i (inside (goal.at.returns-then-malformed c).In-loop-i).0 14 (settled (with_rows c.args.t c.args.rows.now) c.loop-i.state (get_or c.args.infos.now c.loop-i.i 0) c.requires.0
+    (c.loop-i.invariant.1 ∙ c.requires.2) true _
     (sym c.malformed.ensures ∙ c.if-malformed.true) refl)
     (omega arith)
 
 pub returns-then-most-info : goal.returns-then-most-info
 returns-then-most-info c =
     refused (goal.at.returns-then-most-info c).At-loop-i (inside (goal.at.returns-then-most-info c).In-loop-i).0 15
-    (settled (goal.at.returns-then-most-info c).At-loop-i false true (sym c.malformed.ensures ∙ c.if-malformed.false)
+    (settled (with_rows c.args.t c.args.rows.now) c.loop-i.state (get_or c.args.infos.now c.loop-i.i 0) c.requires.0
+    (c.loop-i.invariant.1 ∙ c.requires.2) false true (sym c.malformed.ensures ∙ c.if-malformed.false)
     (sym (tested (goal.at.returns-then-most-info c).At-loop-i) ∙ lt-ltb _ _ c.if-most-info.true)) (omega arith)
 
 -- no refusal applies
 none : (c : goal.Else-most-info)
-    → coder_fault ((with_rows c.args.t c.args.rows.now)) c.loop-i.state ((get_or c.args.infos.now c.loop-i.i 0)) ≡ 0
-none c =
-    settled (goal.at.NONE c).At-loop-i false false (sym c.malformed.ensures ∙ c.if-malformed.false)
-    (sym (tested (goal.at.NONE c).At-loop-i) ∙ le-ltb _ _ c.if-most-info.false)
-
-tests : (c : goal.Else-most-info)
-    → CoderTaken ((with_rows c.args.t c.args.rows.now)) c.loop-i.state ((get_or c.args.infos.now c.loop-i.i 0))
-tests c =
-    coder-taken ((with_rows c.args.t c.args.rows.now)) c.loop-i.state ((get_or c.args.infos.now c.loop-i.i 0)) (none c)
+    → ltb c.mask-most.result (get_or c.args.infos.now c.loop-i.i 0)
+    ≡ leb (2 ^ (c.args.t.symbols - 1)) (get_or c.args.infos.now c.loop-i.i 0)
+    → coder_fault (with_rows c.args.t c.args.rows.now) c.loop-i.state (get_or c.args.infos.now c.loop-i.i 0) ≡ 0
+none c by-mask =
+    settled (with_rows c.args.t c.args.rows.now) c.loop-i.state (get_or c.args.infos.now c.loop-i.i 0) c.requires.0
+    (c.loop-i.invariant.1 ∙ c.requires.2) false false
+    (sym c.malformed.ensures ∙ c.if-malformed.false) (sym by-mask ∙ le-ltb _ _ c.if-most-info.false)
 
 pub taken-requires : goal.taken-requires
 taken-requires c =
-    let k = tests (goal.at.taken-requires c).Else-most-info in
+    let k = coder-taken (with_rows c.args.t c.args.rows.now) c.loop-i.state (get_or c.args.infos.now c.loop-i.i 0)
+    (none (goal.at.taken-requires c).Else-most-info (tested (goal.at.taken-requires c).At-loop-i)) in
     let e = c.one_at-weight.ensures
     in
     let n = k.sizes.n_to in
@@ -135,8 +130,8 @@ taken-requires c =
 
 -- the rows of the information's ones, looked up
 image-is : (c : goal.After-slice_known-in-loop-i-1)
-    → c.look_up-image.result ≡ combination (info_rows ((with_rows c.args.t c.args.rows.now)))
-    ((get_or c.args.infos.now c.loop-i.i 0))
+    → c.look_up-image.result ≡ combination (info_rows (with_rows c.args.t c.args.rows.now))
+    (get_or c.args.infos.now c.loop-i.i 0)
 image-is c =
     let a = c.args in
     let w = a.t.symbols - 1 in
@@ -144,27 +139,27 @@ image-is c =
     let long = length-take-le w a.rows.now (let z = c.requires.1 in omega arith) in
     let tables = c.lookup_of-tables in
     c.look_up-image.ensures
-    ∙ image-by (info_rows ((with_rows c.args.t c.args.rows.now))) a.rows.now w refl (omega arith) tables.result tables.ensures
-    ((get_or c.args.infos.now c.loop-i.i 0))
+    ∙ image-by (info_rows (with_rows c.args.t c.args.rows.now)) a.rows.now w refl (omega arith) tables.result tables.ensures
+    (get_or c.args.infos.now c.loop-i.i 0)
 
 block-is : (c : goal.After-slice_known-in-loop-i-1)
-    → c.taken.result ≡ coded_block ((with_rows c.args.t c.args.rows.now)) c.loop-i.state ((get_or c.args.infos.now c.loop-i.i 0))
+    → c.taken.result ≡ coded_block (with_rows c.args.t c.args.rows.now) c.loop-i.state (get_or c.args.infos.now c.loop-i.i 0)
 block-is c =
     c.taken.ensures.block
-    ∙ block_in_numbers ((with_rows c.args.t c.args.rows.now)) c.loop-i.state ((get_or c.args.infos.now c.loop-i.i 0)) c.look_up-image.result
+    ∙ block_in_numbers (with_rows c.args.t c.args.rows.now) c.loop-i.state (get_or c.args.infos.now c.loop-i.i 0) c.look_up-image.result
     (image-is c)
     c.one_at-weight.result c.one_at-weight.ensures
 
 memory_is : (c : goal.After-slice_known-in-loop-i-1)
-    → c.taken.new.state ≡ coder_next ((with_rows c.args.t c.args.rows.now)) c.loop-i.state ((get_or c.args.infos.now c.loop-i.i 0))
+    → c.taken.new.state ≡ coder_next (with_rows c.args.t c.args.rows.now) c.loop-i.state (get_or c.args.infos.now c.loop-i.i 0)
 memory_is c =
     c.taken.ensures.memory
-    ∙ memory_in_numbers ((with_rows c.args.t c.args.rows.now)) c.loop-i.state ((get_or c.args.infos.now c.loop-i.i 0))
+    ∙ memory_in_numbers (with_rows c.args.t c.args.rows.now) c.loop-i.state (get_or c.args.infos.now c.loop-i.i 0)
     c.look_up-image.result (image-is c)
 
 pub overflow_cast-out : goal.overflow_cast-out
 overflow_cast-out c =
-    let f = coded-fits ((with_rows c.args.t c.args.rows.now)) c.loop-i.state ((get_or c.args.infos.now c.loop-i.i 0)) (none (goal.at.overflow_cast-out c).Else-most-info) in
+    let f = coded-fits (with_rows c.args.t c.args.rows.now) c.loop-i.state (get_or c.args.infos.now c.loop-i.i 0) (none (goal.at.overflow_cast-out c).Else-most-info (tested (goal.at.overflow_cast-out c).At-loop-i)) in
     let e = block-is c in
     record { fits = omega arith }
 
@@ -177,14 +172,14 @@ loop-i-preserved c =
       subst (λ (m : List ℕ).
           Reached (made u) a.state.now a.infos.now a.out.now (c.loop-i.i + 1) m
           (set c.loop-i.out c.loop-i.i c.taken.result))
-          (sym (e ∙ (codes u s ((get_or c.args.infos.now c.loop-i.i 0)) (none (goal.at.loop-i-preserved c).Else-most-info)).1))
+          (sym (e ∙ (codes u s (get_or c.args.infos.now c.loop-i.i 0) (none (goal.at.loop-i-preserved c).Else-most-info (tested (goal.at.loop-i-preserved c).At-loop-i))).1))
           (reached_next (λ s b. code_entries (code_answer u s b)) (code_memory u) a.state.now a.infos.now
           a.out.now c.loop-i.i s c.loop-i.out c.loop-i.invariant.0
           (inside (goal.at.loop-i-preserved c).In-loop-i).0
           (inside (goal.at.loop-i-preserved c).In-loop-i).1
           c.taken.result
-          (coded_one u s ((get_or c.args.infos.now c.loop-i.i 0)) (none (goal.at.loop-i-preserved c).Else-most-info) ∙ ap (λ (x : ℕ). x ∷ []) (sym (block-is c)))),
-      ap length e ∙ coder-length u s ((get_or c.args.infos.now c.loop-i.i 0)) ∙ c.loop-i.invariant.1,
+          (coded_one u s (get_or c.args.infos.now c.loop-i.i 0) (none (goal.at.loop-i-preserved c).Else-most-info (tested (goal.at.loop-i-preserved c).At-loop-i)) ∙ ap (λ (x : ℕ). x ∷ []) (sym (block-is c)))),
+      ap length e ∙ coder-length u s (get_or c.args.infos.now c.loop-i.i 0) ∙ c.loop-i.invariant.1,
     )
 
 pub returns : goal.returns

@@ -4,8 +4,6 @@ use mathlib.Core.Bool.{true}
 use mathlib.Core.List.{List, []}
 use Prim.Native.Nat.{ℕ}
 use native.Mathlib.Omega.{arith}
-use borrow.Author.Rules.{rules}
-use borrow.Author.Tests.{not-true, not-false}
 use lib.ListN.{length}
 use Rattle.tables.specs.declared.table.Table.{Table}
 use Rattle.tables.specs.Lent.{lent}
@@ -30,10 +28,10 @@ returns-then-not-lent_fits c =
     let a = c.args in
     let u = lent a.t a.rows.now in
     idle u a.state.now a.infos.now a.out.now
-    (code_unfit u a.state.now (sym c.lent_fits.ensures ∙ not-true _ c.if-not-lent_fits.true))
+    (code_unfit u a.state.now (sym c.lent_fits.ensures ∙ c.if-not-lent_fits.true))
 
 fitted : (c : goal.Else-not-lent_fits) → let a = c.args in fit (lent a.t a.rows.now) ≡ true
-fitted c = sym c.lent_fits.ensures ∙ not-false _ c.if-not-lent_fits.false
+fitted c = sym c.lent_fits.ensures ∙ c.if-not-lent_fits.false
 
 pub overflow_add-t : goal.overflow_add-t
 overflow_add-t c = let z = lent-facts _ _ (fitted (goal.at.overflow_add-t c).Else-not-lent_fits) in record { fits = omega arith }

@@ -3,7 +3,6 @@ use mathlib.Core.Path.{◌≡◌, refl, ap, ◌∙◌}
 use mathlib.Core.List.{List, [], ◌∷◌, ◌++◌}
 use Prim.Native.Nat.{ℕ, ◌/◌, ◌≤◌}
 use native.Mathlib.Omega.{arith}
-use borrow.Author.Rules.{rules}
 use lib.ListN.{length, set, drop, length-set, length-append, length-drop}
 use Rattle.link.specs.Memory.{pushed}
 use Rattle.link.proofs.Memory.{pushed-some}
@@ -35,4 +34,4 @@ shape_of-part c =
     ap length (part-next c) ∙ omega arith
 
 pub returns : goal.returns
-returns c = (refl, part-next c)
+returns c = record { oldest = refl; part = part-next c }

@@ -1,7 +1,6 @@
 -- `link::decode::decode_lent`: a refusal, or a step that is taken, which has fifteen rows. Assumes nothing.
 use mathlib.Core.Path.{sym, ap, ◌∙◌}
 use native.Mathlib.Omega.{arith}
-use borrow.Author.Rules.{rules}
 use Rattle.tables.specs.declared.table.Table.{Table}
 use Rattle.tables.specs.Lent.{with_rows, lent}
 use Rattle.link.specs.Refusals.{decoder_fault}

@@ -1,6 +1,5 @@
 -- `link::decode::explain`: the register 0 is the image of 0. Assumes nothing.
 use mathlib.Core.Path.{sym, ap, ◌∙◌}
-use borrow.Author.Rules.{rules}
 use Rattle.tables.specs.Table.{code_rows}
 use Rattle.link.specs.Step.{found}
 use Rattle.link.proofs.Error.{zero-found}

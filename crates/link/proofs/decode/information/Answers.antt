@@ -1,7 +1,6 @@
 -- `link::decode::information`: the block below its parity symbol. Assumes nothing.
 use Prim.Native.Nat.{◌-◌}
 use native.Mathlib.Omega.{arith}
-use borrow.Author.Rules.{rules}
 use Rattle.span.proofs.Masks.{masked_low}
 use Rattle.link.proofs.decode.information.Goals as goal
 

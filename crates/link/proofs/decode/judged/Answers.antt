@@ -3,7 +3,6 @@ use mathlib.Core.Path.{subst}
 use mathlib.Core.Bool.{true, false}
 use Prim.Native.Nat.{◌^◌, ◌<◌}
 use native.Mathlib.Omega.{arith}
-use borrow.Author.Rules.{rules}
 use Rattle.span.specs.declared.eliminate.Least.{Least}
 use Rattle.span.proofs.Word.{odd-of}
 use Rattle.link.specs.Step.{error_of}
@@ -11,9 +10,9 @@ use Rattle.link.proofs.Error.{verdict-found, verdict-doubtful, verdict-held}
 use Rattle.link.proofs.decode.judged.Goals as goal
 
 -- an error block has 16 bits at most
-error-fits : (c : goal.In-Found) → c.found-1.given.0.0 < 2 ^ 16
+error-fits : (c : goal.In-Found) → c.in-Found.e < 2 ^ 16
 error-fits c =
-    subst (λ (f : Least). error_of f < 2 ^ 16) c.found-1.given.1 c.requires
+    subst (λ (f : Least). error_of f < 2 ^ 16) c.in-Found.is c.requires
 
 pub overflow_cast-result : goal.overflow_cast-result
 overflow_cast-result c = record { fits = error-fits c }
@@ -24,16 +23,18 @@ mark_found-requires c = error-fits c
 pub returns-in-Found : goal.returns-in-Found
 returns-in-Found c =
     let a = c.args in
-    let g = c.found-1.given in
-    verdict-found a.weight a.found a.x g.0.0 c.mark_found.result g.1 c.mark_found.ensures
+    let v = verdict-found a.weight a.found a.x c.in-Found.e c.mark_found.result c.in-Found.is c.mark_found.ensures in
+    record { error = v.0; kept = v.1.0; mark = v.1.1 }
 
 pub returns-then-x-eq1 : goal.returns-then-x-eq1
 returns-then-x-eq1 c =
     let a = c.args in
-    verdict-doubtful a.weight a.found a.x c.enum_told-1.given.1 (odd-of true a.x c.if-x-eq1.true)
+    let v = verdict-doubtful a.weight a.found a.x c.in_default.is (odd-of true a.x c.if-x-eq1.true) in
+    record { error = v.0; kept = v.1.0; mark = v.1.1 }
 
 pub returns : goal.returns
 returns c =
     let a = c.args in
-    verdict-held a.weight a.found a.x c.enum_told-1.given.1
-    (odd-of false a.x (let z = c.if-x-eq1.false in omega arith))
+    let v = verdict-held a.weight a.found a.x c.in_default.is
+    (odd-of false a.x (let z = c.if-x-eq1.false in omega arith)) in
+    record { error = v.0; kept = v.1.0; mark = v.1.1 }

@@ -7,7 +7,6 @@ use native.Mathlib.Omega.{arith}
 use borrow.Author.Rules.{rules}
 use borrow.Rule.Slice.PartMut.{mid_of, put_mid}
 use lib.ListN.{length, get_or, set, take, drop, length-set}
-use Rattle.tables.specs.declared.table.Table.{Table}
 use Rattle.tables.specs.Table.{table}
 use Rattle.link.specs.Memory.{turn_of, stream_at, delayed_of, delay_of, fill_of, fill_next, next_turn}
 use Rattle.link.specs.Decoder.{advanced}
@@ -44,11 +43,11 @@ module _ (N m : ℕ) (s : List ℕ) (room : stream_at (table 0 N m []) (turn_of 
 
 -- the turn's part lies inside, and nothing overflows
 room : (c : goal.Start)
-    → (stream_at ((table 0 c.args.span c.args.depth [])) (turn_of c.args.state.now) + (c.args.span + 1) ≤ length c.args.state.now)
-    × (length c.args.state.now ≤ 4162) × (delay_of ((table 0 c.args.span c.args.depth [])) ≤ 4096)
+    → (stream_at (table 0 c.args.span c.args.depth []) (turn_of c.args.state.now) + (c.args.span + 1) ≤ length c.args.state.now)
+    × (length c.args.state.now ≤ 4162) × (delay_of (table 0 c.args.span c.args.depth []) ≤ 4096)
 room c =
-    let most = fit-room ((table 0 c.args.span c.args.depth [])) c.requires.3 c.requires.1 in
-    let inside = turn-room ((table 0 c.args.span c.args.depth [])) (turn_of c.args.state.now) c.requires.0 in
+    let most = fit-room (table 0 c.args.span c.args.depth []) c.requires.3 c.requires.1 in
+    let inside = turn-room (table 0 c.args.span c.args.depth []) (turn_of c.args.state.now) c.requires.0 in
     let size = c.requires.4 in
     (omega arith, omega arith, most.1)
 
@@ -77,9 +76,9 @@ returns c =
     let a = c.args in
     let s = a.state.now in
     let r = room (goal.at.returns c).Start in
-    let d = c.advance-oldest in (
-      d.ensures.oldest ∙ oldest-is a.span a.depth s r.0 c.requires.2,
-      memory_is a.span a.depth s r.0 c.requires.2 (a.w / 2) a.kept a.youngest d.new.part
+    let d = c.advance-oldest in record {
+      oldest = d.ensures.oldest ∙ oldest-is a.span a.depth s r.0 c.requires.2;
+      memory = memory_is a.span a.depth s r.0 c.requires.2 (a.w / 2) a.kept a.youngest d.new.part
           d.ensures.part c.next_fill.result c.next_turn.result c.next_fill.ensures
-          (c.next_turn.ensures.inside c.requires.0),
-    )
+          (c.next_turn.ensures.inside c.requires.0);
+    }

@@ -4,7 +4,6 @@ use Prim.Native.Nat.{ℕ, ◌-◌, ◌*◌, ◌%◌, ◌^◌, ◌<◌}
 use native.Mathlib.Nat.{one-mul}
 use native.Mathlib.Omega.{arith}
 use mathlib.Core.Bool.{true}
-use borrow.Author.Rules.{rules}
 use lib.ListN.{length}
 use Rattle.span.specs.declared.eliminate.Least.TheVariants.{Found}
 use Rattle.tables.specs.Table.{code_rows}
@@ -24,8 +23,8 @@ overflow_sub-result c =
     let size : length R ≡ a.n = code-length a.n a.rows.now (omega arith) (omega arith) in
     let one = one_at a.n (omega arith) in
     let f = error_found R c.error_words-words.result a.n a.x size (omega arith) c.error_words-words.ensures
-    c.relation-1.given.0.0
-    (sym c.least_relation-relation.ensures ∙ c.relation-1.given.1) in
+    c.in-Found.c
+    (sym c.least_relation-relation.ensures ∙ c.in-Found.is) in
     omega arith
 
 pub returns-in-Found : goal.returns-in-Found
@@ -34,9 +33,9 @@ returns-in-Found c =
     let R = code_rows a.n a.rows.now in
     let size : length R ≡ a.n = code-length a.n a.rows.now (omega arith) (omega arith) in
     let f = error_found R c.error_words-words.result a.n a.x size (omega arith) c.error_words-words.ensures
-    c.relation-1.given.0.0
-    (sym c.least_relation-relation.ensures ∙ c.relation-1.given.1) in
-    sym (f.1 ∙ ap (λ (y : ℕ). Found (c.relation-1.given.0.0 - y)) (sym (one_at a.n (omega arith))))
+    c.in-Found.c
+    (sym c.least_relation-relation.ensures ∙ c.in-Found.is) in
+    sym (f.1 ∙ ap (λ (y : ℕ). Found (c.in-Found.c - y)) (sym (one_at a.n (omega arith))))
 
 pub returns : goal.returns
 returns c =
@@ -45,4 +44,4 @@ returns c =
     let size : length R ≡ a.n = code-length a.n a.rows.now (omega arith) (omega arith) in
     sym (error_missing R c.error_words-words.result a.n a.x size (omega arith)
     c.error_words-words.ensures
-    (sym c.least_relation-relation.ensures ∙ c.enum_told-1.given.1))
+    (sym c.least_relation-relation.ensures ∙ c.in_default.is))

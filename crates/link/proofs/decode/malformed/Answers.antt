@@ -4,7 +4,6 @@ use mathlib.Core.Bool.{Bool, ◌||◌}
 use mathlib.Core.List.{List, []}
 use Prim.Native.Nat.{ℕ, ◌+◌, ◌-◌, ◌*◌, ◌^◌, ◌≤◌, ◌<◌}
 use native.Mathlib.Omega.{arith}
-use borrow.Author.Rules.{rules}
 use borrow.Author.Tests.{le-leb, lt-leb, lt-ltb, le-ltb}
 use lib.Dec.{leb}
 use lib.ListN.{get_or}
@@ -31,8 +30,8 @@ late t s r turn fill e =
     (sym (ap₂ ◌||◌ (lt-leb t.depth (turn_of s) turn) (le-ltb (delay_of t) (fill_of s) fill)))
 
 -- the turn's part lies inside, and nothing overflows
-room : (c : goal.Start) → (decoder_words ((table c.args.n c.args.span c.args.depth [])) ≤ 4162) × (delay_of ((table c.args.n c.args.span c.args.depth [])) ≤ 4096)
-room c = fit-room ((table c.args.n c.args.span c.args.depth [])) c.requires.3 c.requires.5
+room : (c : goal.Start) → (decoder_words (table c.args.n c.args.span c.args.depth []) ≤ 4162) × (delay_of (table c.args.n c.args.span c.args.depth []) ≤ 4096)
+room c = fit-room (table c.args.n c.args.span c.args.depth []) c.requires.3 c.requires.5
 
 pub returns-then-depth-turn : goal.returns-then-depth-turn
 returns-then-depth-turn c = simp (le-leb _ _ c.if-depth-turn.true)
@@ -51,22 +50,22 @@ returns-then-depth-span c =
 pub overflow_mul-turn : goal.overflow_mul-turn
 overflow_mul-turn c =
     let m = room (goal.at.overflow_mul-turn c).Start in
-    let l = turn-room ((table c.args.n c.args.span c.args.depth [])) (turn_of c.args.state.now) (omega arith) in
+    let l = turn-room (table c.args.n c.args.span c.args.depth []) (turn_of c.args.state.now) (omega arith) in
     record { fits = omega arith }
 
 pub overflow_add-turn : goal.overflow_add-turn
 overflow_add-turn c =
     let m = room (goal.at.overflow_add-turn c).Start in
-    let l = turn-room ((table c.args.n c.args.span c.args.depth [])) (turn_of c.args.state.now) (omega arith) in
+    let l = turn-room (table c.args.n c.args.span c.args.depth []) (turn_of c.args.state.now) (omega arith) in
     record { fits = omega arith }
 
 pub stream_malformed-requires : goal.stream_malformed-requires
 stream_malformed-requires c =
-    let l = turn-room ((table c.args.n c.args.span c.args.depth [])) (turn_of c.args.state.now) (omega arith) in
+    let l = turn-room (table c.args.n c.args.span c.args.depth []) (turn_of c.args.state.now) (omega arith) in
     let size = c.requires.6 in
     (omega arith, c.requires.0, c.requires.1, c.requires.2, c.requires.3)
 
 pub returns : goal.returns
 returns c =
-    late ((table c.args.n c.args.span c.args.depth [])) c.args.state.now c.stream_malformed.result (omega arith) (omega arith)
+    late (table c.args.n c.args.span c.args.depth []) c.args.state.now c.stream_malformed.result (omega arith) (omega arith)
     c.stream_malformed.ensures

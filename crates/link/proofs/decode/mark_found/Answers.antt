@@ -1,5 +1,4 @@
 -- `link::decode::mark_found`: no error, the parity symbol alone, or another block. Assumes nothing.
-use borrow.Author.Rules.{rules}
 use Rattle.link.proofs.Error.{mark_clean, mark_parity, mark_corrected}
 use Rattle.link.proofs.decode.mark_found.Goals as goal
 

@@ -1,5 +1,4 @@
 -- `link::decode::next_fill`: by its one test. Assumes nothing.
-use borrow.Author.Rules.{rules}
 use borrow.Author.Tests.{lt-ltb, le-ltb}
 use Rattle.link.proofs.decode.next_fill.Goals as goal
 

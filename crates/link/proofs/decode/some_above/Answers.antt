@@ -1,8 +1,6 @@
 use mathlib.Core.Path.{◌≡◌, ap, ◌∙◌}
-use Prim.Native.Nat.{◌-◌, ◌^◌, ◌≤◌}
+use Prim.Native.Nat.{◌^◌}
 use native.Mathlib.Omega.{arith}
-use borrow.Author.Rules.{rules}
-use lib.Dec.{leb}
 use Rattle.link.specs.Refusals.{some_above}
 use Rattle.span.proofs.Masks.{above-mask}
 use Rattle.link.proofs.Malformed.{above-none, above-or}

@@ -1,13 +1,9 @@
 -- `link::decode::some_above`: the ones of the first i words together are above the bound exactly if one of them is.
 -- Assumes nothing.
-use mathlib.Core.Path.{◌≡◌, ap, ◌∙◌}
+use mathlib.Core.Path.{◌≡◌}
 use Prim.Native.Nat.{◌-◌, ◌^◌, ◌≤◌}
-use native.Mathlib.Omega.{arith}
-use borrow.Author.Rules.{rules}
 use lib.Dec.{leb}
 use Rattle.link.specs.Refusals.{some_above}
-use Rattle.span.proofs.Masks.{above-mask}
-use Rattle.link.proofs.Malformed.{above-none, above-or}
 use Rattle.link.proofs.decode.some_above.Given as goal
 
 abbrev pub invariant-loop-i : goal.invariant-loop-i

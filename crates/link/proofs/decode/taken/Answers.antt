@@ -2,7 +2,6 @@
 use mathlib.Core.Path.{◌≡◌, sym, ap, ap₂, subst, ◌∙◌}
 use Prim.Native.Nat.{ℕ, ◌-◌, ◌/◌, ◌^◌, ◌≤◌, ◌<◌}
 use native.Mathlib.Omega.{arith}
-use borrow.Author.Rules.{rules}
 use borrow.Author.Tests.{lt-ltb, le-ltb}
 use lib.Bits.{bit_xor}
 use lib.Dec.{ltb}
@@ -11,7 +10,6 @@ use Rattle.span.specs.declared.eliminate.Least.{Least}
 use Rattle.span.specs.Word.{◌⊕◌}
 use Rattle.span.specs.Combination.{combination}
 use Rattle.span.proofs.Word.{xor-code}
-use Rattle.tables.specs.declared.table.Table.{Table}
 use Rattle.tables.specs.Table.{rows_of}
 use Rattle.tables.specs.Lent.{with_rows}
 use Rattle.tables.proofs.Fit.{code-length}
@@ -30,8 +28,8 @@ use Rattle.link.proofs.decode.taken.Goals as goal
 use Rattle.link.proofs.decode.taken.Goals.{After-keep-oldest, Start}
 
 -- what the tests of the step said
-tests : (c : goal.Start) → DecoderTaken ((with_rows c.args.t c.args.rows.now)) c.args.state.now c.args.received
-tests c = decoder-taken ((with_rows c.args.t c.args.rows.now)) c.args.state.now c.args.received c.requires.0
+tests : (c : goal.Start) → DecoderTaken (with_rows c.args.t c.args.rows.now) c.args.state.now c.args.received
+tests c = decoder-taken (with_rows c.args.t c.args.rows.now) c.args.state.now c.args.received c.requires.0
 
 width : (c : goal.Start) → c.args.t.symbols - 1 ≤ length c.args.rows.now
 width c = let n = (tests c).sizes.n_to in let l = c.requires.1 in omega arith
@@ -54,12 +52,12 @@ image-requires c =
 pub terms-x-requires : goal.terms-x-requires
 terms-x-requires c =
     let a = c.args in
-    let r = terms_room ((with_rows c.args.t c.args.rows.now)) a.state.now a.received (tests (goal.at.terms-x-requires c).Start) in
+    let r = terms_room (with_rows c.args.t c.args.rows.now) a.state.now a.received (tests (goal.at.terms-x-requires c).Start) in
     let e = sym c.one_at.ensures in
     let s = a.state.now in (
       r.0,
       r.1,
-      subst (λ (x : ℕ). syndrome_of ((with_rows c.args.t c.args.rows.now)) s (turn_of s) < x) e r.2,
+      subst (λ (x : ℕ). syndrome_of (with_rows c.args.t c.args.rows.now) s (turn_of s) < x) e r.2,
       subst (λ (x : ℕ). x ≤ 2 ^ 63) e
           r.3,
       r.4,
@@ -84,10 +82,10 @@ pub judged-v-requires : goal.judged-v-requires
 judged-v-requires c =
     let a = c.args in
     let k = tests (goal.at.judged-v-requires c).Start in
-    let size : length (rows_of ((with_rows c.args.t c.args.rows.now))) ≡ a.t.symbols =
+    let size : length (rows_of (with_rows c.args.t c.args.rows.now)) ≡ a.t.symbols =
     code-length a.t.symbols a.rows.now (let n = k.sizes.n_from in omega arith) (width (goal.at.judged-v-requires c).Start) in
     subst (λ (f : Least). error_of f < 2 ^ 16) (sym c.explain.ensures)
-    (error_lt (rows_of ((with_rows c.args.t c.args.rows.now))) _ (let n = k.sizes.n_to in omega arith))
+    (error_lt (rows_of (with_rows c.args.t c.args.rows.now)) _ (let n = k.sizes.n_to in omega arith))
 
 pub information-requires : goal.information-requires
 information-requires c = let k = (tests (goal.at.information-requires c).Start).sizes
@@ -97,7 +95,7 @@ information-requires c = let k = (tests (goal.at.information-requires c).Start).
 pub keep-oldest-requires : goal.keep-oldest-requires
 keep-oldest-requires c =
     let a = c.args in
-    keep_room ((with_rows c.args.t c.args.rows.now)) a.state.now a.received (tests (goal.at.keep-oldest-requires c).Start)
+    keep_room (with_rows c.args.t c.args.rows.now) a.state.now a.received (tests (goal.at.keep-oldest-requires c).Start)
 
 pub overflow_sub-t-2 : goal.overflow_sub-t-2
 overflow_sub-t-2 c = let k = (tests (goal.at.overflow_sub-t-2 c).Start).sizes.N_from in omega arith
@@ -105,41 +103,41 @@ overflow_sub-t-2 c = let k = (tests (goal.at.overflow_sub-t-2 c).Start).sizes.N_
 pub overflow_mul-t : goal.overflow_mul-t
 overflow_mul-t c =
     let k = (tests (goal.at.overflow_mul-t c).Start).sizes in
-    let m = fit-room ((with_rows c.args.t c.args.rows.now)) k.N_to k.m_to in
+    let m = fit-room (with_rows c.args.t c.args.rows.now) k.N_to k.m_to in
     record { fits = omega arith }
 
 joined : (c : goal.After-keep-oldest)
     → let a = c.args in
     c.terms-x.result.w
-    ≡ pending_of ((with_rows c.args.t c.args.rows.now)) a.state.now (turn_of a.state.now) ⊕ combination (rows_of ((with_rows c.args.t c.args.rows.now)))
+    ≡ pending_of (with_rows c.args.t c.args.rows.now) a.state.now (turn_of a.state.now) ⊕ combination (rows_of (with_rows c.args.t c.args.rows.now))
     a.received
 joined c =
     let a = c.args in
     c.terms-x.ensures.w
-    ∙ ap (λ (x : ℕ). pending_of ((with_rows c.args.t c.args.rows.now)) a.state.now (turn_of a.state.now) ⊕ x)
+    ∙ ap (λ (x : ℕ). pending_of (with_rows c.args.t c.args.rows.now) a.state.now (turn_of a.state.now) ⊕ x)
     c.image.ensures
 
 registered : (c : goal.After-keep-oldest)
     → let a = c.args in
-    (c.terms-x.result.register) ≡ decoder_register ((with_rows c.args.t c.args.rows.now)) a.state.now a.received
-registered c =
+    a.t.symbols - 1 ≤ length a.rows.now → c.terms-x.result.register ≡ decoder_register (with_rows c.args.t c.args.rows.now) a.state.now a.received
+registered c w =
     let a = c.args in
-    register_is ((with_rows c.args.t c.args.rows.now)) a.state.now a.received _ (width (goal.at.NONE c).Start) (joined c) ((c.terms-x.result.register))
+    register_is (with_rows c.args.t c.args.rows.now) a.state.now a.received _ w (joined c) c.terms-x.result.register
     c.one_at.result
     c.terms-x.ensures.register
     c.one_at.ensures
 
 kept : (c : goal.After-keep-oldest)
     → let a = c.args in
-    c.keep-oldest.new.state ≡ decoder_next ((with_rows c.args.t c.args.rows.now)) a.state.now a.received
-kept c =
+    a.t.symbols - 1 ≤ length a.rows.now → c.keep-oldest.new.state ≡ decoder_next (with_rows c.args.t c.args.rows.now) a.state.now a.received
+kept c w =
     let a = c.args in
     let e = c.explain in
     c.keep-oldest.ensures.memory
     ∙ ap₂ (λ (k i : ℕ). advanced a.t.span a.t.depth a.state.now
     (c.terms-x.result.w / 2) k i)
     c.judged-v.ensures.kept c.information.ensures
-    ∙ memory_is ((with_rows c.args.t c.args.rows.now)) a.state.now a.received _ (width (goal.at.NONE c).Start) (joined c) ((c.terms-x.result.register)) (registered c)
+    ∙ memory_is (with_rows c.args.t c.args.rows.now) a.state.now a.received _ w (joined c) c.terms-x.result.register (registered c w)
     e.result e.ensures
 
 pub returns-then-fill-t : goal.returns-then-fill-t
@@ -147,11 +145,11 @@ unfolding delivery
 returns-then-fill-t c =
     let a = c.args in
     let t = (with_rows c.args.t c.args.rows.now) in
-    let s = a.state.now in (
-      picked (ltb (fill_of s) (delay_of t)) NothingYet (Delivery (delivered t s a.received))
-          (lt-ltb (fill_of s) (delay_of t) c.if-fill-t.true),
-      kept (goal.at.returns-then-fill-t c).After-keep-oldest,
-    )
+    let s = a.state.now in record {
+      answer = picked (ltb (fill_of s) (delay_of t)) NothingYet (Delivery (delivered t s a.received))
+          (lt-ltb (fill_of s) (delay_of t) c.if-fill-t.true);
+      memory = kept (goal.at.returns-then-fill-t c).After-keep-oldest (width (goal.at.returns-then-fill-t c).Start);
+    }
 
 pub information-requires-2 : goal.information-requires-2
 information-requires-2 c = let k = (tests (goal.at.information-requires-2 c).Start).sizes in (let n = k.n_from in omega arith, k.n_to)
@@ -159,7 +157,7 @@ information-requires-2 c = let k = (tests (goal.at.information-requires-2 c).Sta
 corrected : (c : goal.After-information-2)
     → let a = c.args in
     bit_xor c.keep-oldest.result c.information-2.result
-    ≡ (delivered ((with_rows c.args.t c.args.rows.now)) a.state.now a.received).info
+    ≡ (delivered (with_rows c.args.t c.args.rows.now) a.state.now a.received).info
 corrected c =
     let a = c.args in
     let s = a.state.now in
@@ -168,13 +166,13 @@ corrected c =
     ∙ ap₂ ◌⊕◌ c.keep-oldest.ensures.oldest
     (c.information-2.ensures ∙ ap (information a.t.symbols)
     c.judged-v.ensures.error)
-    ∙ info_is ((with_rows c.args.t c.args.rows.now)) s a.received _ (width (goal.at.overflow_cast-result c).Start) (joined (goal.at.overflow_cast-result c).After-keep-oldest) ((c.terms-x.result.register)) (registered (goal.at.overflow_cast-result c).After-keep-oldest)
+    ∙ info_is (with_rows c.args.t c.args.rows.now) s a.received _ (width (goal.at.overflow_cast-result c).Start) (joined (goal.at.overflow_cast-result c).After-keep-oldest) c.terms-x.result.register (registered (goal.at.overflow_cast-result c).After-keep-oldest (width (goal.at.overflow_cast-result c).Start))
     e.result e.ensures
 
 pub overflow_cast-result : goal.overflow_cast-result
 overflow_cast-result c =
     let a = c.args in
-    let l = delivered-fits ((with_rows c.args.t c.args.rows.now)) a.state.now a.received c.requires.0 in
+    let l = delivered-fits (with_rows c.args.t c.args.rows.now) a.state.now a.received c.requires.0 in
     let e = corrected c in
     record { fits = omega arith }
 
@@ -186,12 +184,12 @@ returns c =
     let s = a.state.now in
     let e = c.explain in
     let mark = c.judged-v.ensures.mark
-    ∙ ap (λ (k : ℕ). mark_of k e.result ((c.terms-x.result.register)))
+    ∙ ap (λ (k : ℕ). mark_of k e.result c.terms-x.result.register)
     c.one_at-2.ensures
-    ∙ mark_is t s a.received _ (width (goal.at.returns c).Start) (joined (goal.at.returns c).After-keep-oldest) ((c.terms-x.result.register)) (registered (goal.at.returns c).After-keep-oldest) e.result
-    e.ensures in (
-      ap₂ (λ (i : ℕ) (m : Mark). Delivery (record { info = i; mark = m })) (corrected c) mark
+    ∙ mark_is t s a.received _ (width (goal.at.returns c).Start) (joined (goal.at.returns c).After-keep-oldest) c.terms-x.result.register (registered (goal.at.returns c).After-keep-oldest (width (goal.at.returns c).Start)) e.result
+    e.ensures in record {
+      answer = ap₂ (λ (i : ℕ) (m : Mark). Delivery (record { info = i; mark = m })) (corrected c) mark
           ∙ passed (ltb (fill_of s) (delay_of t)) NothingYet (Delivery (delivered t s a.received))
-          (le-ltb (fill_of s) (delay_of t) c.if-fill-t.false),
-      kept (goal.at.returns c).After-keep-oldest,
-    )
+          (le-ltb (fill_of s) (delay_of t) c.if-fill-t.false);
+      memory = kept (goal.at.returns c).After-keep-oldest (width (goal.at.returns c).Start);
+    }

@@ -1,6 +1,5 @@
 -- `link::decode_batch::declines`: a stream that is looked at, and then the block. Assumes nothing.
 use mathlib.Core.Path.{sym, ◌∙◌}
-use borrow.Author.Rules.{rules}
 use Rattle.link.proofs.decode_batch.declines.Goals as goal
 
 pub returns-then-first_malformed : goal.returns-then-first_malformed

@@ -1,18 +1,17 @@
 -- `link::decode_batch::entry`: mark by mark. Assumes nothing.
-use borrow.Author.Rules.{rules}
 use Rattle.link.proofs.decode_batch.entry.Goals as goal
 
 pub returns-in-Clean : goal.returns-in-Clean
-returns-in-Clean c = rw c.enum_told-1.given.1
+returns-in-Clean c = rw c.in-Clean.is
 
 pub returns-in-Held : goal.returns-in-Held
-returns-in-Held c = rw c.enum_told-in-Held-1.given.1
+returns-in-Held c = rw c.in-Held.is
 
 pub returns-in-Corrected : goal.returns-in-Corrected
-returns-in-Corrected c = rw c.enum_told-in-Corrected-1.given.1
+returns-in-Corrected c = rw c.in-Corrected.is
 
 pub returns-in-Parity : goal.returns-in-Parity
-returns-in-Parity c = rw c.enum_told-in-Parity-1.given.1
+returns-in-Parity c = rw c.in-Parity.is
 
 pub returns-in-Doubtful : goal.returns-in-Doubtful
-returns-in-Doubtful c = rw c.enum_told-in-Doubtful-1.given.1
+returns-in-Doubtful c = rw c.in-Doubtful.is

@@ -2,10 +2,8 @@
 use mathlib.Core.Path.{◌∙◌}
 use Prim.Native.Nat.{◌+◌, ◌-◌, ◌*◌, ◌^◌, ◌<◌}
 use native.Mathlib.Omega.{arith}
-use borrow.Author.Rules.{rules}
 use borrow.Rule.Slice.PartMut.{put_mid}
 use lib.ListN.{length}
-use Rattle.tables.specs.declared.table.Table.{Table}
 use Rattle.tables.specs.Lent.{with_rows}
 use Rattle.link.specs.Batch.{decode_batch, Fills}
 use Rattle.link.proofs.Reached.{reached_rest}
@@ -18,7 +16,7 @@ returns-then-min-i c =
     let a = c.args in
     let f = c.fill_clean-i in
     let e = c.min.ensures in
-    come-all ((with_rows c.args.t c.args.rows.now)) a.state.now a.blocks.now a.out.now f.result f.new.state
+    come-all (with_rows c.args.t c.args.rows.now) a.state.now a.blocks.now a.out.now f.result f.new.state
     f.new.out f.ensures.0 (omega arith)
 
 pub fill_judged-requires : goal.fill_judged-requires
@@ -30,15 +28,15 @@ rested : (c : goal.After-slice_known-6-1)
     → let a = c.args in
     let f = c.fill_clean-i in
     let j = c.fill_judged in
-    Fills (decode_batch ((with_rows c.args.t c.args.rows.now)) (length a.out.now) a.state.now a.blocks.now) a.out.now
+    Fills (decode_batch (with_rows c.args.t c.args.rows.now) (length a.out.now) a.state.now a.blocks.now) a.out.now
     (f.result + j.result) j.new.state
-    (put_mid f.result (length f.last.1.1.1.1.0 - f.result) f.last.1.1.1.1.0 j.new.out)
+    (put_mid f.result (length f.new.out - f.result) f.new.out j.new.out)
 rested c =
     let a = c.args in
     let f = c.fill_clean-i in
     let j = c.fill_judged in
-    reached_rest (decode_batch ((with_rows c.args.t c.args.rows.now))) a.state.now a.blocks.now a.out.now f.result
-    f.last.1.1.0 f.last.1.1.1.1.0 f.ensures.0 j.result j.new.state j.new.out
+    reached_rest (decode_batch (with_rows c.args.t c.args.rows.now)) a.state.now a.blocks.now a.out.now f.result
+    f.new.state f.new.out f.ensures.0 j.result j.new.state j.new.out
     j.ensures
 
 -- what owning a slice tells: it has fewer than 2^63 bytes
@@ -48,7 +46,7 @@ taken-bytes c = omega arith
 pub overflow_add-result : goal.overflow_add-result
 overflow_add-result c =
     let a = c.args in
-    let most = decode-size ((with_rows c.args.t c.args.rows.now)) (length a.out.now) a.state.now a.blocks.now in
+    let most = decode-size (with_rows c.args.t c.args.rows.now) (length a.out.now) a.state.now a.blocks.now in
     let bytes = taken-bytes (goal.at.overflow_add-result c).Start in
     record { fits = omega (arith, (rested c).count) }
 

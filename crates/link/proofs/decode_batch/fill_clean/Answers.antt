@@ -1,18 +1,19 @@
+use mathlib.Core.Bool.{true}
 use mathlib.Core.Path.{◌≡◌, refl, sym, ap, subst, ◌∙◌}
-use mathlib.Core.List.{[], ◌∷◌}
+use mathlib.Core.List.{List, [], ◌∷◌}
 use Prim.Native.Nat.{ℕ, ◌-◌, ◌*◌, ◌^◌, ◌≤◌, ◌<◌}
 use native.Mathlib.Omega.{arith}
-use borrow.Author.Rules.{rules, scaled_Fits}
+use borrow.Author.Rules.{scaled_Fits}
 use lib.Dec.{leb, ltb}
 use lib.ListN.{length, get_or}
 use Rattle.tables.specs.declared.table.Table.{Table}
 use Rattle.tables.specs.Lent.{with_rows}
-use Rattle.link.proofs.Going.{Going, going_start, turn_taken, turn_next}
+use Rattle.link.proofs.Going.{going_start, turn_taken, turn_next}
 use Rattle.span.specs.declared.eliminate.Least.TheVariants.{Found}
 use Rattle.span.specs.Word.{◌⊕◌}
 use Rattle.span.specs.Combination.{combination}
 use Rattle.span.proofs.Masks.{above-mask}
-use Rattle.tables.specs.Table.{info_rows, rows_of}
+use Rattle.tables.specs.Table.{info_rows, rows_of, fit}
 use Rattle.tables.proofs.Fit.{Fits, fit-facts, code-length}
 use Rattle.link.specs.declared.decode.Mark.TheVariants.{Clean}
 use Rattle.link.specs.Memory.{turn_of, pending_of, syndrome_of}
@@ -28,16 +29,17 @@ use Rattle.link.proofs.StepWords.{step_words}
 use Rattle.link.proofs.decode_batch.fill_clean.Goals as goal
 use Rattle.link.proofs.decode_batch.fill_clean.Goals.{After-terms-x, At-loop-i, Else-declines, In-loop-i, Start}
 
-facts : (c : goal.Start)
-    → Fits c.args.t.symbols c.args.t.span c.args.t.depth (info_rows ((with_rows c.args.t c.args.rows.now)))
-facts c = fit-facts ((with_rows c.args.t c.args.rows.now)) c.requires.0
+facts : (t : Table) (rows : List ℕ) → fit (with_rows t rows) ≡ true
+    → Fits t.symbols t.span t.depth (info_rows (with_rows t rows))
+facts t rows f = fit-facts (with_rows t rows) f
 
-width : (c : goal.Start) → c.args.t.symbols - 1 ≤ length c.args.rows.now
-width c = let n = (facts c).n_to in let l = c.requires.1 in omega arith
+width : (t : Table) (rows : List ℕ) → fit (with_rows t rows) ≡ true → length rows ≡ 15
+    → t.symbols - 1 ≤ length rows
+width t rows f l = let n = (facts t rows f).n_to in omega arith
 
-size : (c : goal.Start) → length (rows_of ((with_rows c.args.t c.args.rows.now))) ≡ c.args.t.symbols
-size c =
-    code-length c.args.t.symbols c.args.rows.now (let n = (facts c).n_from in omega arith) (width c)
+size : (t : Table) (rows : List ℕ) → fit (with_rows t rows) ≡ true → length rows ≡ 15
+    → length (rows_of (with_rows t rows)) ≡ t.symbols
+size t rows f l = code-length t.symbols rows (let n = (facts t rows f).n_from in omega arith) (width t rows f l)
 
 -- what owning a slice tells: it has fewer than 2^63 bytes
 taken-bytes : (c : goal.Start) → length c.args.out.now * 4 < 2 ^ 63
@@ -45,19 +47,19 @@ taken-bytes c = omega arith
 
 pub error_words-words-requires : goal.error_words-words-requires
 error_words-words-requires c =
-    let z = facts (goal.at.error_words-words-requires c).Start in
-    (z.n_from, z.n_to, width (goal.at.error_words-words-requires c).Start)
+    let z = facts c.args.t c.args.rows.now c.requires.0 in
+    (z.n_from, z.n_to, width c.args.t c.args.rows.now c.requires.0 c.requires.1)
 
 pub overflow_sub-t : goal.overflow_sub-t
-overflow_sub-t c = let z = (facts (goal.at.overflow_sub-t c).Start).N_from in
+overflow_sub-t c = let z = (facts c.args.t c.args.rows.now c.requires.0).N_from in
     omega arith
 
 pub one_at-top-requires : goal.one_at-top-requires
-one_at-top-requires c = let z = (facts (goal.at.one_at-top-requires c).Start).N_to in omega arith
+one_at-top-requires c = let z = (facts c.args.t c.args.rows.now c.requires.0).N_to in omega arith
 
 pub loop-i-init : goal.loop-i-init
 loop-i-init c =
-    going_start ((with_rows c.args.t c.args.rows.now)) c.args.state.now c.args.blocks.now c.args.out.now
+    going_start (with_rows c.args.t c.args.rows.now) c.args.state.now c.args.blocks.now c.args.out.now
 
 pub overflow_cast-received : goal.overflow_cast-received
 overflow_cast-received c =
@@ -65,7 +67,7 @@ overflow_cast-received c =
 
 pub declines-requires : goal.declines-requires
 declines-requires c =
-    let z = facts (goal.at.declines-requires c).Start in
+    let z = facts c.args.t c.args.rows.now c.requires.0 in
     (z.n_from, z.n_to, z.N_from, z.N_to, z.m_from, z.m_to, c.loop-i.invariant.size ∙ c.requires.2)
 
 -- the turn's block is there, and so is its room
@@ -73,17 +75,17 @@ inside : (c : goal.In-loop-i)
     → (c.loop-i.i < length c.args.blocks.now) × (c.loop-i.i < length c.args.out.now)
 inside c = let e = c.min-end.ensures in (omega arith, omega arith)
 
-tested : (c : goal.At-loop-i) → ltb c.mask-most.result ((get_or c.args.blocks.now c.loop-i.i 0)) ≡ leb
-    (2 ^ c.args.t.symbols) ((get_or c.args.blocks.now c.loop-i.i 0))
+tested : (c : goal.At-loop-i) → ltb c.mask-most.result (get_or c.args.blocks.now c.loop-i.i 0) ≡ leb
+    (2 ^ c.args.t.symbols) (get_or c.args.blocks.now c.loop-i.i 0)
 tested c =
-    let n = (facts (goal.at.NONE c).Start).n_to in
-    above-mask c.args.t.symbols c.mask-most.result ((get_or c.args.blocks.now c.loop-i.i 0)) (omega arith)
+    let n = (facts c.args.t c.args.rows.now c.requires.0).n_to in
+    above-mask c.args.t.symbols c.mask-most.result (get_or c.args.blocks.now c.loop-i.i 0) (omega arith)
     c.mask-most.ensures
 
 -- where the loop has come to
 come : (c : goal.At-loop-i)
     → let a = c.args in
-    Reached (decode_batch ((with_rows c.args.t c.args.rows.now))) a.state.now a.blocks.now a.out.now c.loop-i.i c.loop-i.state
+    Reached (decode_batch (with_rows c.args.t c.args.rows.now)) a.state.now a.blocks.now a.out.now c.loop-i.i c.loop-i.state
     c.loop-i.out
     × (length c.loop-i.state ≡ length a.state.now)
 unfolding decode_batch
@@ -93,19 +95,22 @@ pub returns-then-declines : goal.returns-then-declines
 returns-then-declines c = come (goal.at.returns-then-declines c).At-loop-i
 
 -- no refusal applies
-none : (c : goal.Else-declines)
-    → decoder_fault ((with_rows c.args.t c.args.rows.now)) c.loop-i.state ((get_or c.args.blocks.now c.loop-i.i 0)) ≡ 0
-none c =
+none : (c : goal.Else-declines) → c.loop-i.i < length c.args.blocks.now
+    → ltb c.mask-most.result (get_or c.args.blocks.now c.loop-i.i 0)
+    ≡ leb (2 ^ c.args.t.symbols) (get_or c.args.blocks.now c.loop-i.i 0)
+    → decoder_fault (with_rows c.args.t c.args.rows.now) c.loop-i.state (get_or c.args.blocks.now c.loop-i.i 0) ≡ 0
+none c left by-mask =
     let a = c.args in
-    turn_taken ((with_rows c.args.t c.args.rows.now)) a.state.now a.blocks.now a.out.now c.loop-i.i c.loop-i.state
-    c.loop-i.out c.loop-i.invariant c.requires.0 c.requires.2 (inside (goal.at.NONE c).In-loop-i).0
-    c.mask-most.result (tested (goal.at.NONE c).At-loop-i) (sym c.declines.ensures ∙ c.if-declines.false)
+    turn_taken (with_rows c.args.t c.args.rows.now) a.state.now a.blocks.now a.out.now c.loop-i.i c.loop-i.state
+    c.loop-i.out c.loop-i.invariant c.requires.0 c.requires.2 left
+    c.mask-most.result by-mask (sym c.declines.ensures ∙ c.if-declines.false)
 
 pub terms-x-requires : goal.terms-x-requires
 terms-x-requires c =
     let s = c.loop-i.state in
     let u = (with_rows c.args.t c.args.rows.now) in
-    let r = terms_room u s ((get_or c.args.blocks.now c.loop-i.i 0)) (decoder-taken u s ((get_or c.args.blocks.now c.loop-i.i 0)) (none (goal.at.terms-x-requires c).Else-declines)) in
+    let r = terms_room u s (get_or c.args.blocks.now c.loop-i.i 0) (decoder-taken u s (get_or c.args.blocks.now c.loop-i.i 0) (none (goal.at.terms-x-requires c).Else-declines (inside (goal.at.terms-x-requires c).In-loop-i).0
+    (tested (goal.at.terms-x-requires c).At-loop-i))) in
     let e = sym c.one_at-top.ensures in (
       r.0,
       r.1,
@@ -117,18 +122,18 @@ terms-x-requires c =
 -- w, by the tables of the rows
 joined : (c : goal.After-terms-x)
     → let s = c.loop-i.state in
-    c.terms-x.result.w ≡ pending_of ((with_rows c.args.t c.args.rows.now)) s (turn_of s) ⊕ combination (rows_of ((with_rows c.args.t c.args.rows.now))) ((get_or c.args.blocks.now c.loop-i.i 0))
+    c.terms-x.result.w ≡ pending_of (with_rows c.args.t c.args.rows.now) s (turn_of s) ⊕ combination (rows_of (with_rows c.args.t c.args.rows.now)) (get_or c.args.blocks.now c.loop-i.i 0)
 joined c =
     let u = (with_rows c.args.t c.args.rows.now) in
     let s = c.loop-i.state in
     let ws = c.error_words-words in
     let tables = c.lookup_of-tables in
-    let z = size (goal.at.NONE c).Start in
-    let n = (facts (goal.at.NONE c).Start).n_to in
+    let z = size c.args.t c.args.rows.now c.requires.0 c.requires.1 in
+    let n = (facts c.args.t c.args.rows.now c.requires.0).n_to in
     c.terms-x.ensures.w
     ∙ ap (λ (x : ℕ). pending_of u s (turn_of s) ⊕ x) (c.look_up.ensures
     ∙ image-by (rows_of u) ws.result u.symbols (first_words (rows_of u) ws.result u.symbols 0 z ws.ensures)
-    (omega arith) tables.result tables.ensures ((get_or c.args.blocks.now c.loop-i.i 0)))
+    (omega arith) tables.result tables.ensures (get_or c.args.blocks.now c.loop-i.i 0))
 
 pub returns-then-x-ne0 : goal.returns-then-x-ne0
 returns-then-x-ne0 c = come (goal.at.returns-then-x-ne0 c).At-loop-i
@@ -136,11 +141,12 @@ returns-then-x-ne0 c = come (goal.at.returns-then-x-ne0 c).At-loop-i
 pub take_block-requires : goal.take_block-requires
 take_block-requires c =
     let s = c.loop-i.state in
-    let k = decoder-taken ((with_rows c.args.t c.args.rows.now)) s ((get_or c.args.blocks.now c.loop-i.i 0))
-    (none (goal.at.take_block-requires c).Else-declines) in
-    let r = keep_room ((with_rows c.args.t c.args.rows.now)) s ((get_or c.args.blocks.now c.loop-i.i 0)) k in
+    let k = decoder-taken (with_rows c.args.t c.args.rows.now) s (get_or c.args.blocks.now c.loop-i.i 0)
+    (none (goal.at.take_block-requires c).Else-declines (inside (goal.at.take_block-requires c).In-loop-i).0
+    (tested (goal.at.take_block-requires c).At-loop-i)) in
+    let r = keep_room (with_rows c.args.t c.args.rows.now) s (get_or c.args.blocks.now c.loop-i.i 0) k in
     let n = k.sizes.n_from in
-    (r.0, r.1, r.2, r.3, omega arith, k.sizes.n_to, r.4, oldest_lt ((with_rows c.args.t c.args.rows.now)) s ((get_or c.args.blocks.now c.loop-i.i 0)) k)
+    (r.0, r.1, r.2, r.3, omega arith, k.sizes.n_to, r.4, oldest_lt (with_rows c.args.t c.args.rows.now) s (get_or c.args.blocks.now c.loop-i.i 0) k)
 
 pub offset_bounds-out-i : goal.offset_bounds-out-i
 offset_bounds-out-i c =
@@ -148,29 +154,31 @@ offset_bounds-out-i c =
 
 -- the register 0 is the image of 0
 explained : (c : goal.After-slice_known-in-loop-i-1)
-    → Found 0 ≡ found (rows_of ((with_rows c.args.t c.args.rows.now))) c.terms-x.result.register
+    → Found 0 ≡ found (rows_of (with_rows c.args.t c.args.rows.now)) c.terms-x.result.register
 explained c =
-    let R = rows_of ((with_rows c.args.t c.args.rows.now)) in
+    let R = rows_of (with_rows c.args.t c.args.rows.now) in
     sym (ap (found R) c.if-x-ne0.false ∙ zero-found R)
 
 -- the step's entry and memory
 stepped : (c : goal.After-slice_known-in-loop-i-1)
-    → (c.take_block.new.state ≡ decoder_next ((with_rows c.args.t c.args.rows.now)) c.loop-i.state ((get_or c.args.blocks.now c.loop-i.i 0)))
+    → (c.take_block.new.state ≡ decoder_next (with_rows c.args.t c.args.rows.now) c.loop-i.state (get_or c.args.blocks.now c.loop-i.i 0))
     × (c.take_block.result ∷ []
-    ≡ decode_entries (delivery ((with_rows c.args.t c.args.rows.now)) c.loop-i.state ((get_or c.args.blocks.now c.loop-i.i 0))))
+    ≡ decode_entries (delivery (with_rows c.args.t c.args.rows.now) c.loop-i.state (get_or c.args.blocks.now c.loop-i.i 0)))
 stepped c =
     let o = c.one_at-top in
     let b = c.take_block in
-    step_words ((with_rows c.args.t c.args.rows.now)) c.loop-i.state ((get_or c.args.blocks.now c.loop-i.i 0)) c.terms-x.result.w (width (goal.at.offset_bounds-out-i c).Start) (joined (goal.at.offset_bounds-out-i c).After-terms-x)
+    step_words (with_rows c.args.t c.args.rows.now) c.loop-i.state (get_or c.args.blocks.now c.loop-i.i 0) c.terms-x.result.w (width c.args.t c.args.rows.now c.requires.0 c.requires.1) (joined (goal.at.offset_bounds-out-i c).After-terms-x)
     c.terms-x.result.register o.result c.terms-x.ensures.register o.ensures (Found 0) (explained c)
-    0 0 Clean (refl, (refl, refl)) b.result b.new.state b.ensures
+    0 0 Clean (refl, (refl, refl)) b.result b.new.state
+    (b.ensures.entry, b.ensures.memory)
 
 pub loop-i-preserved : goal.loop-i-preserved
 loop-i-preserved c =
     let a = c.args in
     let i = inside (goal.at.loop-i-preserved c).In-loop-i in
-    turn_next ((with_rows c.args.t c.args.rows.now)) a.state.now a.blocks.now a.out.now c.loop-i.i c.loop-i.state c.loop-i.out
-    c.loop-i.invariant c.requires.0 c.requires.2 i.0 i.1 (none (goal.at.loop-i-preserved c).Else-declines)
+    turn_next (with_rows c.args.t c.args.rows.now) a.state.now a.blocks.now a.out.now c.loop-i.i c.loop-i.state c.loop-i.out
+    c.loop-i.invariant c.requires.0 c.requires.2 i.0 i.1 (none (goal.at.loop-i-preserved c).Else-declines (inside (goal.at.loop-i-preserved c).In-loop-i).0
+    (tested (goal.at.loop-i-preserved c).At-loop-i))
     c.take_block.new.state
     (stepped c).0 c.take_block.result (stepped c).1
 

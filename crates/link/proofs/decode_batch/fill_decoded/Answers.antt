@@ -4,8 +4,6 @@ use mathlib.Core.Bool.{true}
 use mathlib.Core.List.{List, []}
 use Prim.Native.Nat.{ℕ, ◌≤◌}
 use native.Mathlib.Omega.{arith}
-use borrow.Author.Rules.{rules}
-use borrow.Author.Tests.{not-true, not-false}
 use lib.ListN.{length}
 use Rattle.tables.specs.declared.table.Table.{Table}
 use Rattle.tables.specs.Lent.{with_rows, lent}
@@ -31,10 +29,10 @@ returns-then-not-lent_fits c =
     let a = c.args in
     let u = lent a.t a.rows.now in
     idle u a.state.now a.blocks.now a.out.now
-    (decode_unfit u a.state.now (sym c.lent_fits.ensures ∙ not-true _ c.if-not-lent_fits.true))
+    (decode_unfit u a.state.now (sym c.lent_fits.ensures ∙ c.if-not-lent_fits.true))
 
 fitted : (c : goal.Else-not-lent_fits) → let a = c.args in fit (lent a.t a.rows.now) ≡ true
-fitted c = sym c.lent_fits.ensures ∙ not-false _ c.if-not-lent_fits.false
+fitted c = sym c.lent_fits.ensures ∙ c.if-not-lent_fits.false
 
 -- nothing overflows
 room : (c : goal.Else-not-lent_fits) → let a = c.args in (a.t.span ≤ 64) × (decoder_words (with_rows a.t a.rows.now) ≤

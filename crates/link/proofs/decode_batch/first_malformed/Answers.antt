@@ -1,5 +1,4 @@
 -- `link::decode_batch::first_malformed`: the streams are looked at in the first m blocks. Assumes nothing.
-use borrow.Author.Rules.{rules}
 use borrow.Author.Tests.{lt-ltb, le-ltb}
 use Rattle.link.proofs.decode_batch.first_malformed.Goals as goal
 

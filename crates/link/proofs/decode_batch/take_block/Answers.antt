@@ -4,14 +4,12 @@ use Prim.Native.Nat.{ℕ, ◌-◌, ◌/◌, ◌^◌, ◌≤◌, ◌<◌}
 use native.Mathlib.Nat.{mod-lt}
 use native.Mathlib.Omega.{arith}
 use mathlib.Core.List.{[]}
-use borrow.Author.Rules.{rules}
 use borrow.Author.Tests.{lt-ltb, le-ltb}
 use lib.Bits.{bit_xor}
 use lib.Dec.{ltb}
 use lib.Pow.{pow_pos, pow_mono}
 use Rattle.span.specs.Word.{◌⊕◌}
 use Rattle.span.proofs.Word.{xor-code, xor_lt}
-use Rattle.tables.specs.declared.table.Table.{Table}
 use Rattle.tables.specs.Table.{table}
 use Rattle.link.specs.Memory.{turn_of, fill_of, delay_of, delayed_of}
 use Rattle.link.specs.Step.{information}
@@ -24,7 +22,7 @@ use Rattle.link.proofs.decode_batch.take_block.Goals.{After-information-2, After
 
 pub overflow_mul-depth : goal.overflow_mul-depth
 overflow_mul-depth c =
-    let m = fit-room ((table c.args.n c.args.span c.args.depth [])) c.requires.3 c.requires.1 in
+    let m = fit-room (table c.args.n c.args.span c.args.depth []) c.requires.3 c.requires.1 in
     record { fits = omega arith }
 
 kept : (c : goal.After-keep-oldest)
@@ -38,16 +36,16 @@ kept c =
 
 pub returns-then-fill-depth : goal.returns-then-fill-depth
 returns-then-fill-depth c =
-    let s = c.args.state.now in (
-      picked (ltb (fill_of s) (delay_of ((table c.args.n c.args.span c.args.depth [])))) 0 _ (lt-ltb (fill_of s) (delay_of ((table c.args.n c.args.span c.args.depth []))) c.if-fill-depth.true),
-      kept (goal.at.returns-then-fill-depth c).After-keep-oldest,
-    )
+    let s = c.args.state.now in record {
+      entry = picked (ltb (fill_of s) (delay_of (table c.args.n c.args.span c.args.depth []))) 0 _ (lt-ltb (fill_of s) (delay_of (table c.args.n c.args.span c.args.depth [])) c.if-fill-depth.true);
+      memory = kept (goal.at.returns-then-fill-depth c).After-keep-oldest;
+    }
 
 -- the information that is delivered
 corrected : (c : goal.After-information-2)
     → let a = c.args in
     bit_xor c.keep-oldest.result c.information-2.result
-    ≡ delayed_of ((table c.args.n c.args.span c.args.depth [])) a.state.now (turn_of a.state.now) 0 ⊕ information a.n a.v.error
+    ≡ delayed_of (table c.args.n c.args.span c.args.depth []) a.state.now (turn_of a.state.now) 0 ⊕ information a.n a.v.error
 corrected c =
     xor-code c.keep-oldest.result c.information-2.result ∙ ap₂ ◌⊕◌ c.keep-oldest.ensures.oldest
     c.information-2.ensures
@@ -57,7 +55,7 @@ entry-requires c =
     let a = c.args in
     let n = c.requires.5 in
     let low : information a.n a.v.error < 2 ^ (a.n - 1) = mod-lt a.v.error (pow_pos (a.n - 1)) in
-    let l = xor_lt (a.n - 1) (delayed_of ((table c.args.n c.args.span c.args.depth [])) a.state.now (turn_of a.state.now) 0)
+    let l = xor_lt (a.n - 1) (delayed_of (table c.args.n c.args.span c.args.depth []) a.state.now (turn_of a.state.now) 0)
     (information a.n a.v.error) c.requires.7 low in
     let h : a.n - 1 ≤ 16 = omega arith in
     let most = pow_mono h in
@@ -66,9 +64,9 @@ entry-requires c =
 pub returns : goal.returns
 returns c =
     let a = c.args in
-    let s = a.state.now in (
-      c.entry.ensures ∙ ap (decode_entry (mark_number a.v.mark)) (corrected (goal.at.returns c).After-information-2)
-          ∙ passed (ltb (fill_of s) (delay_of ((table c.args.n c.args.span c.args.depth [])))) 0 _
-          (le-ltb (fill_of s) (delay_of ((table c.args.n c.args.span c.args.depth []))) c.if-fill-depth.false),
-      kept (goal.at.returns c).After-keep-oldest,
-    )
+    let s = a.state.now in record {
+      entry = c.entry.ensures ∙ ap (decode_entry (mark_number a.v.mark)) (corrected (goal.at.returns c).After-information-2)
+          ∙ passed (ltb (fill_of s) (delay_of (table c.args.n c.args.span c.args.depth []))) 0 _
+          (le-ltb (fill_of s) (delay_of (table c.args.n c.args.span c.args.depth [])) c.if-fill-depth.false);
+      memory = kept (goal.at.returns c).After-keep-oldest;
+    }

@@ -1,15 +1,10 @@
 use mathlib.Core.Path.{sym}
-use mathlib.Core.List.{List}
-use Prim.Native.Nat.{ℕ, ◌-◌}
 use native.Mathlib.Omega.{arith}
-use borrow.Author.Rules.{rules}
-use lib.ListN.{length, replicate, length-replicate}
-use Rattle.span.proofs.Stored.{Storing, storing-first, storing-next, storing-all}
+use lib.ListN.{length, length-replicate}
+use Rattle.span.proofs.Stored.{storing-first, storing-next, storing-all}
 use Rattle.tables.proofs.Fit.{zeros-at}
+use Rattle.link.proofs.start.clear.Invariants.{zeros}
 use Rattle.link.proofs.start.clear.Goals as goal
-
-abbrev zeros : List ℕ → List ℕ
-zeros d = replicate (length d) 0
 
 pub loop-i-init : goal.loop-i-init
 loop-i-init c = storing-first _ _

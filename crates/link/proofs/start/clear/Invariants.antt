@@ -1,13 +1,12 @@
 -- `link::start::clear`: zeros, stored in turn. Assumes nothing.
-use mathlib.Core.Path.{sym}
 use mathlib.Core.List.{List}
 use Prim.Native.Nat.{ℕ, ◌-◌}
-use native.Mathlib.Omega.{arith}
-use borrow.Author.Rules.{rules}
-use lib.ListN.{length, replicate, length-replicate}
-use Rattle.span.proofs.Stored.{Storing, storing-first, storing-next, storing-all}
-use Rattle.tables.proofs.Fit.{zeros-at}
+use lib.ListN.{length, replicate}
+use Rattle.span.proofs.Stored.{Storing}
 use Rattle.link.proofs.start.clear.Given as goal
+
+abbrev pub zeros : List ℕ → List ℕ
+zeros d = replicate (length d) 0
 
 abbrev pub invariant-loop-i : goal.invariant-loop-i
 invariant-loop-i l = Storing (zeros l.initial.state) l.initial.state l.state l.i

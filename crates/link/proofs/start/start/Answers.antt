@@ -1,6 +1,5 @@
 -- `link::start::start`: 13 or nothing. Assumes nothing.
 use mathlib.Core.Path.{◌≡◌, ap, ◌∙◌}
-use borrow.Author.Rules.{rules}
 use lib.ListN.{length}
 use Rattle.link.specs.Memory.{started}
 use Rattle.link.proofs.Starting.{refused-words, started-words}

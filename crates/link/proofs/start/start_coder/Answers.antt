@@ -2,7 +2,6 @@
 use mathlib.Core.Path.{◌≡◌, sym, ◌∙◌}
 use mathlib.Core.Bool.{true}
 use native.Mathlib.Omega.{arith}
-use borrow.Author.Rules.{rules}
 use Rattle.tables.specs.Table.{fit}
 use Rattle.tables.proofs.Fit.{fit-facts}
 use Rattle.link.specs.Memory.{coder_words}
@@ -11,7 +10,7 @@ use Rattle.link.proofs.start.start_coder.Goals as goal
 use Rattle.link.proofs.start.start_coder.Goals.{Then-fits}
 
 fitted : (c : goal.Then-fits) → fit c.args.t ≡ true
-fitted c = sym c.fits2.ensures ∙ c.if-fits.true
+fitted c = sym c.fits.ensures ∙ c.if-fits.true
 
 pub overflow_add-t : goal.overflow_add-t
 overflow_add-t c =
@@ -27,4 +26,4 @@ returns-then-fits c =
 pub returns-else-fits : goal.returns-else-fits
 returns-else-fits c =
     let a = c.args in
-    unfit-so a.t (coder_words a.t) a.state.now (sym c.fits2.ensures ∙ c.if-fits.false)
+    unfit-so a.t (coder_words a.t) a.state.now (sym c.fits.ensures ∙ c.if-fits.false)

@@ -4,7 +4,6 @@ use mathlib.Core.Bool.{true}
 use Prim.Native.Nat.{◌+◌}
 use native.Mathlib.Nat.{mul-le-mul_right}
 use native.Mathlib.Omega.{arith}
-use borrow.Author.Rules.{rules}
 use Rattle.tables.specs.Table.{fit}
 use Rattle.tables.proofs.Fit.{fit-facts}
 use Rattle.link.specs.Memory.{decoder_words}
@@ -13,7 +12,7 @@ use Rattle.link.proofs.start.start_decoder.Goals as goal
 use Rattle.link.proofs.start.start_decoder.Goals.{Then-fits}
 
 fitted : (c : goal.Then-fits) → fit c.args.t ≡ true
-fitted c = sym c.fits2.ensures ∙ c.if-fits.true
+fitted c = sym c.fits.ensures ∙ c.if-fits.true
 
 pub overflow_add-t : goal.overflow_add-t
 overflow_add-t c =
@@ -43,4 +42,4 @@ returns-then-fits c =
 pub returns-else-fits : goal.returns-else-fits
 returns-else-fits c =
     let a = c.args in
-    unfit-so a.t (decoder_words a.t) a.state.now (sym c.fits2.ensures ∙ c.if-fits.false)
+    unfit-so a.t (decoder_words a.t) a.state.now (sym c.fits.ensures ∙ c.if-fits.false)

@@ -3,20 +3,11 @@ use mathlib.Core.List.{List, [], ◌∷◌, ◌++◌}
 use Prim.Native.Nat.{ℕ, suc, ◌+◌, ◌-◌, ◌≤◌, ◌<◌}
 use native.Mathlib.Decide.{dec_lt, ℕ_discrete}
 use native.Mathlib.Omega.{arith}
-use borrow.Author.Rules.{rules}
 use lib.ListN.{length, get_or, set, take, drop, length-append, length-drop, length-set, get_or-append}
 use lib.Seq.{ext_get_or, length-take-le, get_or-take, get_or-drop, get_or-set_same, get_or-set_other, get_or-append-add, get_or_at}
 use Rattle.link.proofs.Memory.{pushed_none, pushed-some}
+use Rattle.link.proofs.stream.push.Invariants.{Moved}
 use Rattle.link.proofs.stream.push.Goals as goal
-
--- the words as they were below f and from i on, and those between moved by one place
-record Moved (f : ℕ) (old new : List ℕ) (i : ℕ) : Type 0 where
-  from : f ≤ i
-  to : suc i ≤ length old
-  size : length new ≡ length old
-  front : (j : ℕ) → j < f → get_or new j 0 ≡ get_or old j 0
-  moved : (j : ℕ) → f ≤ j → j < i → get_or new j 0 ≡ get_or old (suc j) 0
-  rest : (j : ℕ) → i ≤ j → get_or new j 0 ≡ get_or old j 0
 
 moved_more : (f : ℕ) (old new : List ℕ) (i : ℕ) → suc i < length old → Moved f old new i
     → Moved f old (set new i (get_or new (i + 1) 0)) (i + 1)
