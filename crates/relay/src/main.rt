@@ -1,6 +1,7 @@
 // The codec used from Rattle: a station codes water levels by the batch, a fade damages m blocks in a row, and a relay
 // decodes what it received by the batch. Prints a line a delivery: its number, the level and the mark.
 #![tactic(auto)]
+
 ghost use Rattle.io.specs.Counts.{IsPrefixLen};
 
 use libc::STDOUT_FILENO;
