@@ -9,6 +9,7 @@ pub mod Runs
 mod Taps
 mod Formed
 mod Delivery
+mod Register
 mod Patterns
 mod Settled
 mod Errors

@@ -8,6 +8,7 @@ pub mod Runs
 pub mod Formed
 pub mod Taps
 pub mod Delivery
+pub mod Register
 pub mod Correction
 pub mod Recovery
 pub mod Sharp

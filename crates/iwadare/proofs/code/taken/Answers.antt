@@ -23,8 +23,10 @@ unfolding coded_block coder_next coder_joining
 returns c =
     let a = c.args in
     let s = a.state.now in
-    let w = joined (coder_pending s) a.info c.image.result c.image.ensures in (
-      ap (λ (x : ℕ). a.info + x) (c.select.ensures ∙ ap (λ (x : ℕ). sel (odd x) 4) w
-          ∙ sel-digit (odd (coder_joining s a.info)) (2 ^ 2)),
-      ap (λ (x : ℕ). set s 0 (x / 2)) w,
-    )
+    let w = joined (coder_pending s) a.info c.image.result c.image.ensures in
+    record {
+      block =
+          ap (λ (x : ℕ). a.info + x) (c.select.ensures ∙ ap (λ (x : ℕ). sel (odd x) 4) w
+          ∙ sel-digit (odd (coder_joining s a.info)) (2 ^ 2));
+      memory = ap (λ (x : ℕ). set s 0 (x / 2)) w;
+    }

@@ -12,12 +12,17 @@ use Rattle.iwadare.proofs.decode.judged.Goals as goal
 -- what the terms say, by whether they flip
 verdict : (x : ℕ) (one zero : Bool) (kept : ℕ) → flips_symbol1 x ≡ one → flips_symbol0 x ≡ zero
     → kept ≡ x ⊕ (sel one 4097 ⊕ sel zero 4098)
-    → (kept / 2 ≡ terms_next x) × ((sel zero 1 ≡ sel (flips_symbol0 x) 1) × (sel one 2 ≡ sel (flips_symbol1 x) 2))
+    → record {
+      terms : kept / 2 ≡ terms_next x;
+      symbol0 : sel zero 1 ≡ sel (flips_symbol0 x) 1;
+      symbol1 : sel one 2 ≡ sel (flips_symbol1 x) 2;
+    }
 unfolding terms_next matched
-verdict x one zero kept e f g = (
-  ap (λ (y : ℕ). y / 2) (g ∙ ap₂ (λ (a b : Bool). x ⊕ (sel a 4097 ⊕ sel b 4098)) (sym e) (sym f)),
-  (ap (λ (b : Bool). sel b 1) (sym f), ap (λ (b : Bool). sel b 2) (sym e)),
-)
+verdict x one zero kept e f g = record {
+  terms = ap (λ (y : ℕ). y / 2) (g ∙ ap₂ (λ (a b : Bool). x ⊕ (sel a 4097 ⊕ sel b 4098)) (sym e) (sym f));
+  symbol0 = ap (λ (b : Bool). sel b 1) (sym f);
+  symbol1 = ap (λ (b : Bool). sel b 2) (sym e);
+}
 
 unflipped : (x : ℕ) → x ≡ x ⊕ (0 ⊕ 0)
 unflipped x = sym (ap (λ (y : ℕ). x ⊕ y) (xor_zero_r 0) ∙ xor_zero_r x)

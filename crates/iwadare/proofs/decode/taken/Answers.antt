@@ -17,13 +17,12 @@ use Rattle.link.proofs.Refusals.{picked, passed}
 use Rattle.link.proofs.Coder.{sel-digit}
 use Rattle.iwadare.specs.declared.decode.DecodeAnswer.TheVariants.{Delivery, NothingYet}
 use Rattle.iwadare.specs.Memory.{generators, delay, fill_of, pending_of, terms_of, fill_next}
-use Rattle.iwadare.specs.Formed.{DecoderFormed}
 use Rattle.iwadare.specs.Decoder.{decoder_joining, raw_of, register_of, flips_symbol1, flips_symbol0, terms_next}
 use Rattle.iwadare.specs.Decoder.{decoder_next, delivered, delivery}
 use Rattle.iwadare.proofs.Coder.{joined}
 use Rattle.iwadare.proofs.Decoder.{decoder-taken, register_lt, delivered-below}
 use Rattle.iwadare.proofs.decode.taken.Goals as goal
-use Rattle.iwadare.proofs.decode.taken.Goals.{After-keep, After-select, Start}
+use Rattle.iwadare.proofs.decode.taken.Goals.{After-keep, After-select}
 
 -- the step in the words that are computed: w, the 13 terms, and what these say
 module _ (s : List ℕ) (r image : ℕ) (e : image ≡ combination generators r) where
@@ -53,45 +52,40 @@ unfolding delivered
 delivered-is s r x flip is f =
     xor-code (get_or s 3 0) flip ∙ ap (λ (y : ℕ). get_or s 3 0 ⊕ y) (f ∙ ap (λ (y : ℕ). sel (flips_symbol0 y) 1) is)
 
--- what the tests of the step said
-tests : (c : goal.Start) → DecoderFormed c.args.state.now
-tests c = (decoder-taken c.args.state.now c.args.received c.requires).formed
-
 pub bounds-state-0 : goal.bounds-state-0
-bounds-state-0 c = let k = (tests (goal.at.bounds-state-0 c).Start).size in omega arith
+bounds-state-0 c = let k = (decoder-taken _ _ c.requires).formed.size in omega arith
 
 pub bounds-state-1 : goal.bounds-state-1
-bounds-state-1 c = let k = (tests (goal.at.bounds-state-1 c).Start).size in omega arith
+bounds-state-1 c = let k = (decoder-taken _ _ c.requires).formed.size in omega arith
 
 pub bounds-state-2 : goal.bounds-state-2
-bounds-state-2 c = let k = (tests (goal.at.bounds-state-2 c).Start).size in omega arith
+bounds-state-2 c = let k = (decoder-taken _ _ c.requires).formed.size in omega arith
 
-abbrev register : goal.After-select → ℕ
-register c = terms_of c.args.state.now + c.select.result
-
-registered : (c : goal.After-select) → let a = c.args in register c ≡ register_of a.state.now a.received
+-- the 13 terms
+registered : (c : goal.After-select)
+    → let a = c.args in
+    terms_of a.state.now + c.select.result ≡ register_of a.state.now a.received
 registered c =
     let a = c.args in
-    let i = c.image in
-    register_is a.state.now a.received i.result i.ensures c.select.result c.select.ensures
+    register_is a.state.now a.received c.image.result c.image.ensures c.select.result c.select.ensures
 
-terms-lt : (c : goal.After-select) → register c < 2 ^ 13
+terms-lt : (c : goal.After-select) → terms_of c.args.state.now + c.select.result < 2 ^ 13
 terms-lt c =
     let a = c.args in
     subst (λ (y : ℕ). y < 2 ^ 13) (sym (registered c))
-    (register_lt a.state.now a.received (tests c.before.before.before.before.before.before).terms)
+    (register_lt a.state.now a.received (decoder-taken _ _ c.requires).formed.terms)
 
 pub overflow_add-state : goal.overflow_add-state
-overflow_add-state c = let l = terms-lt c in record { fits = omega arith }
+overflow_add-state c = let l = terms-lt (goal.at.overflow_add-state c).After-select in record { fits = omega arith }
 
 pub judged-v-requires : goal.judged-v-requires
-judged-v-requires c = terms-lt c
+judged-v-requires c = terms-lt (goal.at.judged-v-requires c).After-select
 
 pub bounds-state-3 : goal.bounds-state-3
-bounds-state-3 c = let k = (tests (goal.at.bounds-state-3 c).Start).size in omega arith
+bounds-state-3 c = let k = (decoder-taken _ _ c.requires).formed.size in omega arith
 
 pub keep-requires : goal.keep-requires
-keep-requires c = (tests (goal.at.keep-requires c).Start).size
+keep-requires c = (decoder-taken _ _ c.requires).formed.size
 
 kept : (c : goal.After-keep)
     → let a = c.args in
@@ -101,18 +95,21 @@ kept c =
     let i = c.image in
     let v = c.judged-v in
     c.keep.ensures
-    ∙ memory_is a.state.now a.received i.result i.ensures (register c.before.before.before.before.before) v.result.terms
-    v.result.symbol1 (registered c.before.before.before.before.before) v.ensures.terms v.ensures.symbol1
+    ∙ memory_is a.state.now a.received i.result i.ensures _ v.result.terms v.result.symbol1
+    (register_is a.state.now a.received i.result i.ensures c.select.result c.select.ensures)
+    v.ensures.terms v.ensures.symbol1
 
 pub returns-then-fill-lt18 : goal.returns-then-fill-lt18
 unfolding delivery
 returns-then-fill-lt18 c =
     let a = c.args in
-    let s = a.state.now in (
-      picked (ltb (fill_of s) delay) NothingYet (Delivery (delivered s a.received))
-          (lt-ltb (fill_of s) delay c.if-fill-lt18.true),
-      kept (goal.at.returns-then-fill-lt18 c).After-keep,
-    )
+    let s = a.state.now in
+    record {
+      answer =
+          picked (ltb (fill_of s) delay) NothingYet (Delivery (delivered s a.received))
+          (lt-ltb (fill_of s) delay c.if-fill-lt18.true);
+      memory = kept (goal.at.returns-then-fill-lt18 c).After-keep;
+    }
 
 -- the information that is delivered
 flipped : (c : goal.After-keep)
@@ -120,8 +117,10 @@ flipped : (c : goal.After-keep)
     bit_xor (get_or a.state.now 3 0) c.judged-v.result.symbol0 ≡ delivered a.state.now a.received
 flipped c =
     let a = c.args in
-    delivered-is a.state.now a.received (register c.before.before.before.before.before) c.judged-v.result.symbol0
-    (registered c.before.before.before.before.before) c.judged-v.ensures.symbol0
+    let i = c.image in
+    let v = c.judged-v in
+    delivered-is a.state.now a.received _ v.result.symbol0
+    (register_is a.state.now a.received i.result i.ensures c.select.result c.select.ensures) v.ensures.symbol0
 
 pub overflow_cast-result : goal.overflow_cast-result
 overflow_cast-result c =
@@ -133,9 +132,11 @@ pub returns : goal.returns
 unfolding delivery
 returns c =
     let a = c.args in
-    let s = a.state.now in (
-      ap Delivery (flipped (goal.at.returns c).After-keep)
+    let s = a.state.now in
+    record {
+      answer =
+          ap Delivery (flipped (goal.at.returns c).After-keep)
           ∙ passed (ltb (fill_of s) delay) NothingYet (Delivery (delivered s a.received))
-          (le-ltb (fill_of s) delay c.if-fill-lt18.false),
-      kept (goal.at.returns c).After-keep,
-    )
+          (le-ltb (fill_of s) delay c.if-fill-lt18.false);
+      memory = kept (goal.at.returns c).After-keep;
+    }

@@ -12,19 +12,22 @@ use native.Mathlib.Decide.{dec_lt, ℕ_discrete}
 use native.Mathlib.Omega.{arith}
 use borrow.Author.Tests.{lt-ltb, le-ltb, eq-eqb, ne_eqb}
 use lib.Dec.{ltb, eqb}
-use lib.ListN.{length}
+use lib.ListN.{length, get_or}
 use lib.Pow.{pow_pos}
 use Rattle.span.specs.Word.{◌⊕◌, bit, odd, sel, digit}
 use Rattle.span.proofs.Word.{bit-suc, bit-xor, bit-low, bit-none}
 use Rattle.tables.proofs.Every.{every, every-at}
 use Rattle.link.specs.Memory.{started}
+use Rattle.link.specs.Runs.{run, placed}
 use Rattle.link.proofs.Step.{topped_low, topped_bit}
 use Rattle.iwadare.specs.declared.decode.DecodeAnswer.{DecodeAnswer}
 use Rattle.iwadare.specs.Memory.{decoder_words, terms_of}
-use Rattle.iwadare.specs.Decoder.{raw_of, register_of, flips_symbol1, flips_symbol0, matched, terms_next}
-use Rattle.iwadare.specs.Runs.{taken_by}
+use Rattle.iwadare.specs.Refusals.{decoder_fault}
+use Rattle.iwadare.specs.Decoder.{raw_of, register_of, flips_symbol1, flips_symbol0, matched, terms_next, decode_memory}
+use Rattle.iwadare.specs.Runs.{handed, taken_by}
 use Rattle.iwadare.specs.Taps.{block_taken, raw_at}
-use Rattle.iwadare.specs.Register.{register_at, term_at, cleared_at, IwadareRegister}
+use Rattle.iwadare.specs.Delivery.{register_at}
+use Rattle.iwadare.specs.Register.{term_at, cleared_at, IwadareRegister}
 use Rattle.iwadare.proofs.Decoder.{register_lt}
 use Rattle.iwadare.proofs.Runs.{DecoderRun, decoder_before, decoder-first, answerTaken, decoded, told_place}
 
@@ -199,11 +202,14 @@ module _ (rs : List ℕ) where
   abbrev steps : DecoderRun (decoder_before memory rs) (block_taken (taken_by memory rs)) (answerTaken memory rs) count
   steps = decoded memory rs
 
-  -- places count from 1
+  -- places count from 1 for `register_at`, and from 0 for `raw_at`
   terms-at : (p i : ℕ) → p ≡ suc i → i < count → register_at memory rs p ≡ terms steps i
-  terms-at p i e h = ap (register_at memory rs) e ∙ told_place memory rs register_of 0 i h
+  terms-at p i e h =
+      ap (λ (k : ℕ). get_or (run (λ none. decode_memory) (placed (λ none. decoder_fault) (λ none. register_of)) memory
+      (handed rs)) k 0) (let z : p - 1 ≡ i = omega arith in z)
+      ∙ told_place memory rs register_of 0 i h
 
-  raw_at_lem : (p i : ℕ) → p ≡ suc i → i < count → raw_at memory rs p ≡ raw steps i
+  raw_at_lem : (p i : ℕ) → p ≡ i → i < count → raw_at memory rs p ≡ raw steps i
   raw_at_lem p i e h = ap (raw_at memory rs) e ∙ told_place memory rs raw_of false i h
 
   -- the term of place i + 1, k places after it
@@ -223,12 +229,12 @@ module _ (rs : List ℕ) where
 
     abbrev value : Bool → Bool → Bool
     value matchedNewest matchedOther =
-        raw_at memory rs own
+        raw_at memory rs (own - 1)
         && not ((matchedNewest && flips (register_at memory rs own))
         || (matchedOther && flips_symbol0 (register_at memory rs previous)))
 
-    raw-own : raw steps i ≡ raw_at memory rs own
-    raw-own = sym (raw_at_lem own i (omega arith) (omega arith))
+    raw-own : raw steps i ≡ raw_at memory rs (own - 1)
+    raw-own = sym (raw_at_lem (own - 1) i (omega arith) (omega arith))
 
     terms-own : terms steps i ≡ register_at memory rs own
     terms-own = sym (terms-at own i (omega arith) (omega arith))
@@ -240,14 +246,14 @@ module _ (rs : List ℕ) where
         go (yes z) d =
             ap₂ term (let e : 12 - k ≡ 12 = omega arith in e) (let e : i + k ≡ i = omega arith in e)
             ∙ newest steps i (omega arith) ∙ raw-own
-            ∙ same-newest (raw_at memory rs own) (flips (register_at memory rs own))
+            ∙ same-newest (raw_at memory rs (own - 1)) (flips (register_at memory rs own))
             (flips_symbol0 (register_at memory rs previous))
             ∙ sym (ap₂ value (le-ltb 0 k (omega arith)) (ne_eqb k 12 (λ (e : k ≡ 12). omega arith)))
         go (no n) (no m) =
             ap (term (12 - k)) (let e : i + k ≡ i + suc (k - 1) = omega arith in e)
             ∙ kept steps i (k - 1) (12 - k) (omega arith) (omega arith) (omega arith)
             ∙ ap₂ (λ (t : Bool) (x : ℕ). t && not (flips x)) raw-own terms-own
-            ∙ same_kept (raw_at memory rs own) (flips (register_at memory rs own))
+            ∙ same_kept (raw_at memory rs (own - 1)) (flips (register_at memory rs own))
             (flips_symbol0 (register_at memory rs previous))
             ∙ sym (ap₂ value (lt-ltb 0 k (omega arith)) (ne_eqb k 12 m))
         go (no n) (yes z) =
@@ -257,25 +263,25 @@ module _ (rs : List ℕ) where
             (sym (terms-at previous (i + 11) (omega arith) (omega arith)))
             ∙ ap₂ (λ (t : Bool) (x : ℕ). t && not (flips x) && not (flips_symbol0 (register_at memory rs previous)))
             raw-own terms-own
-            ∙ same-last (raw_at memory rs own) (flips (register_at memory rs own))
+            ∙ same-last (raw_at memory rs (own - 1)) (flips (register_at memory rs own))
             (flips_symbol0 (register_at memory rs previous))
             ∙ sym (ap₂ value (lt-ltb 0 k (omega arith)) (eq-eqb k 12 z))
 
   term-at : (p k : ℕ) → 1 ≤ p → p ≤ count → k ≤ 12 → Dec (k < p)
-      → term_at memory rs p k ≡ cond (ltb k p) (raw_at memory rs (p - k) && not (cleared_at memory rs p k)) false
+      → term_at memory rs p k ≡ cond (ltb k p) (raw_at memory rs (p - k - 1) && not (cleared_at memory rs p k)) false
   term-at p k from inside low (yes l) =
       let i = p - k - 1 in
       let here : suc (i + k) ≡ p = omega arith in
       ap (bit (12 - k)) (terms-at p (i + k) (omega arith) (omega arith))
       ∙ term_is i k low (omega arith)
-      ∙ ap (λ (q : ℕ). raw_at memory rs (q - k) && not (cleared_at memory rs q k)) here
-      ∙ ap (λ (b : Bool). cond b (raw_at memory rs (p - k) && not (cleared_at memory rs p k)) false)
+      ∙ ap (λ (q : ℕ). raw_at memory rs (q - k - 1) && not (cleared_at memory rs q k)) here
+      ∙ ap (λ (b : Bool). cond b (raw_at memory rs (p - k - 1) && not (cleared_at memory rs p k)) false)
       (sym (lt-ltb k p l))
   term-at p k from inside low (no l) =
       ap (bit (12 - k)) (terms-at p (p - 1) (omega arith) (omega arith))
       ∙ before-start steps (ap terms_of (decoder-first memory rs)) (p - 1) (12 - k) k (omega arith) (omega arith)
       (omega arith)
-      ∙ ap (λ (b : Bool). cond b (raw_at memory rs (p - k) && not (cleared_at memory rs p k)) false)
+      ∙ ap (λ (b : Bool). cond b (raw_at memory rs (p - k - 1) && not (cleared_at memory rs p k)) false)
       (sym (le-ltb k p (omega arith)))
 
 pub registers : IwadareRegister

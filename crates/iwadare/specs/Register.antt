@@ -1,24 +1,18 @@
 -- 02, CR 6, of the terms over runs from a started memory, refused steps anywhere: those of a step are the raw terms of
 -- the last 13 taken places, without the ones that flips have set to 0.
 --
---   register_at s rs p     the 13 terms of the step at place p, counted from 1
---   term_at s rs p k       the term k before the newest of them
+--   term_at s rs p k       of the 13 terms of the step at place p, counted from 1, the one k before the newest
 --   flip1_at, flip0_at s rs p   whether that step flips symbol 1 of the block 15 back, and symbol 0 of the block 18 back
 --   cleared_at s rs p k    whether a flip before place p has set the term of place p − k to 0
 --   IwadareRegister      which terms flip, and each term is the raw term of its place, 0 where a flip has set it to 0
 use Rattle.std.specs.Prelude.{◌≡◌, Bool, false, cond, not, ◌&&◌, ◌||◌, List, ℕ, ◌-◌, ◌^◌, ◌≤◌, ◌<◌, ltb, eqb, length}
 use Rattle.span.specs.Word.{bit}
 use Rattle.link.specs.Memory.{started}
-use Rattle.link.specs.Runs.{run, placed, entry_at}
 use Rattle.iwadare.specs.Memory.{decoder_words}
-use Rattle.iwadare.specs.Refusals.{decoder_fault}
-use Rattle.iwadare.specs.Decoder.{register_of, flips_symbol1, flips_symbol0, decode_memory}
-use Rattle.iwadare.specs.Runs.{handed, taken_by}
+use Rattle.iwadare.specs.Decoder.{flips_symbol1, flips_symbol0}
+use Rattle.iwadare.specs.Runs.{taken_by}
 use Rattle.iwadare.specs.Taps.{raw_at}
-
-abbrev pub register_at : List ℕ → List ℕ → ℕ → ℕ
-register_at s rs =
-    entry_at 0 (run (λ none. decode_memory) (placed (λ none. decoder_fault) (λ none. register_of)) s (handed rs))
+use Rattle.iwadare.specs.Delivery.{register_at}
 
 abbrev pub term_at : List ℕ → List ℕ → ℕ → ℕ → Bool
 term_at s rs p k = bit (12 - k) (register_at s rs p)
@@ -40,7 +34,7 @@ cleared_at s rs p k =
     (ltb 0 k && (flip1_at s rs (p - k) || flip0_at s rs (p - k))) || (eqb k 12 && flip0_at s rs (p - 1))
 
 -- The flips of a step by its terms; and these, which are below 2^13: for k from 0 to 12 the raw term of place p − k.
--- There are none before the start.
+-- There are none before the start. `raw_at` counts places from 0, so that place p − k is its p − k − 1.
 abbrev pub IwadareRegister : Type 0
 IwadareRegister =
     (rs : List ℕ) →
@@ -49,4 +43,4 @@ IwadareRegister =
     let term = term_at memory rs p in
     (flip1_at memory rs p ≡ term 0 && term 12) × (flip0_at memory rs p ≡ term 0 && term 11 && not (term 12))
     × (register_at memory rs p < 2 ^ 13)
-    × ((k : ℕ) → k ≤ 12 → term k ≡ cond (ltb k p) (raw_at memory rs (p - k) && not (cleared_at memory rs p k)) false)
+    × ((k : ℕ) → k ≤ 12 → term k ≡ cond (ltb k p) (raw_at memory rs (p - k - 1) && not (cleared_at memory rs p k)) false)
