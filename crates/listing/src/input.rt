@@ -1,8 +1,8 @@
-// The standard input, of which `io::read_full` does not say whether a read failed or the end was reached.
-ghost use Rattle.std.specs.Prelude.{◌≤◌};
-ghost use Rattle.io.specs.Counts.{IsPrefixLen};
+// The standard input, of which `read_exact` does not say how much came before a failure.
+ghost use Rattle.std.specs.Prelude.{◌≡◌, ◌≤◌, length, take};
 
-use libc::STDIN_FILENO;
+use crate::failure::tell;
+use std::io::Read;
 
 // How many bytes stand at the start of the buffer, and whether a read failed, which has then been told.
 #[derive(Clone, Copy)]
@@ -11,17 +11,23 @@ pub(crate) struct Input {
     pub is_failed: bool,
 }
 
-// One read. Its errno does not outlast the next call, so a failure is told here.
-fn read_once(buf: &mut [u8]) -> Input
-    ensures { IsPrefixLen result.count buf.new }
+// One read. A failure is told here.
+fn read_once(rt: &(impl Eprint + AllocGlobal), from: &mut impl Read, buf: &mut [u8]) -> Input
+    ensures within { result.count ≤ length buf.new }
+    ensures front { result.count ≡ length (take result.count buf.new) }
 {
-    let got = libc::read(STDIN_FILENO, buf);
-    if got < 0 {
-        os::fail(b"listing: standard input");
-    }
-    Input {
-        count: io::count(got, buf),
-        is_failed: got < 0,
+    match from.read(buf) {
+        Ok(count) => Input {
+            count,
+            is_failed: false,
+        },
+        Err(error) => {
+            tell(rt, "standard input", &error);
+            Input {
+                count: 0,
+                is_failed: true,
+            }
+        }
     }
 }
 
@@ -33,12 +39,17 @@ fn counted(done: usize, is_failed: bool) -> usize
 }
 
 // Reads until the buffer is full, the input ends or a read fails.
-pub(crate) fn read(buf: &mut [u8]) -> Input
-    ensures { IsPrefixLen result.count buf.new }
+pub(crate) fn read(
+    rt: &(impl Eprint + AllocGlobal),
+    from: &mut impl Read,
+    buf: &mut [u8],
+) -> Input
+    ensures within { result.count ≤ length buf.new }
+    ensures front { result.count ≡ length (take result.count buf.new) }
 {
     let mut done = 0;
     while done < buf.len() {
-        let more = read_once(&mut buf[done..]);
+        let more = read_once(rt, from, &mut buf[done..]);
         if more.count == 0 {
             return Input {
                 count: counted(done, more.is_failed),

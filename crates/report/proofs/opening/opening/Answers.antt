@@ -2,7 +2,6 @@
 use mathlib.Core.Path.{◌≡◌, sym, ◌∙◌}
 use mathlib.Core.Bool.{true}
 use native.Mathlib.Omega.{arith}
-use borrow.Author.Tests.{not-true, not-false}
 use borrow.Author.Rules.{rules}
 use lib.ListN.{length}
 use Rattle.report.specs.Text.{header_line}
@@ -17,13 +16,13 @@ pub returns-then-not-has_room : goal.returns-then-not-has_room
 returns-then-not-has_room c =
     let a = c.args in
     opens-nowhere a.memory.now a.out.now a.sizes.now c.stopped.result
-    (sym c.has_room.ensures ∙ not-true _ c.if-not-has_room.true) c.stopped.ensures
+    (sym c.has_room.ensures ∙ c.if-not-has_room.true) c.stopped.ensures
 
 -- with room the header is written
 with-room : (c : goal.After-header-end)
     → let a = c.args in
     opening_room (length a.memory.now) (length a.out.now) ≡ true
-with-room c = sym c.has_room.ensures ∙ not-false _ c.if-not-has_room.false
+with-room c = sym c.has_room.ensures ∙ c.if-not-has_room.false
 
 headed : (c : goal.After-header-end)
     → let a = c.args in
@@ -32,7 +31,7 @@ headed c =
     let a = c.args in
     let w = c.header-end.ensures in
     let r = room-there (length a.memory.now) (length a.out.now) (with-room c) in
-    put-wrote header_line (omega (arith, r.1)) w.0 w.1
+    put-wrote header_line (omega (arith, r.1)) w.position w.bytes
 
 pub returns-then-sizes-lt2 : goal.returns-then-sizes-lt2
 returns-then-sizes-lt2 c =
@@ -40,17 +39,11 @@ returns-then-sizes-lt2 c =
     opens-short a.memory.now a.sizes.now c.stopped-then-sizes-lt2.result (with-room (goal.at.returns-then-sizes-lt2 c).After-header-end) c.if-sizes-lt2.true (headed (goal.at.returns-then-sizes-lt2 c).After-header-end)
     c.stopped-then-sizes-lt2.ensures
 
-pub overflow_cast-sizes : goal.overflow_cast-sizes
-overflow_cast-sizes c = record { fits = omega (arith, c.shared_slice_known-2-1.given 0) }
-
-pub overflow_cast-sizes-2 : goal.overflow_cast-sizes-2
-overflow_cast-sizes-2 c = record { fits = omega (arith, c.shared_slice_known-3-1.given 1) }
-
 pub after_header-requires : goal.after_header-requires
 after_header-requires c =
     let a = c.args in
     let r = room-there (length a.memory.now) (length a.out.now) (with-room (goal.at.after_header-requires c).After-header-end) in
-    (r.0, omega (arith, r.1, (headed (goal.at.after_header-requires c).After-header-end).position, c.header-end.auto.0))
+    (r.0, omega (arith, r.1, (headed (goal.at.after_header-requires c).After-header-end).position, c.header-end.auto.out))
 
 pub returns : goal.returns
 returns c =

@@ -27,6 +27,10 @@ overflow_mul-words c = record { fits = omega (arith, few (goal.at.overflow_mul-w
 pub overflow_add-words-2 : goal.overflow_add-words-2
 overflow_add-words-2 c = record { fits = omega (arith, few (goal.at.overflow_add-words-2 c).Start) }
 
+pub slice_bounds-start_decoder-end : goal.slice_bounds-start_decoder-end
+slice_bounds-start_decoder-end c =
+    omega (arith, few (goal.at.slice_bounds-start_decoder-end c).Start, c.requires.2)
+
 pub returns : goal.returns
 returns c =
     let a = c.args in
@@ -34,8 +38,8 @@ returns c =
     let n = decoder_words a.t in
     let room : n ≤ length a.memory.now = omega (arith, few (goal.at.returns c).Start, p.2) in
     let whole = started-whole a.t n (mid_of 0 (n - 0) a.memory.now) p.0
-    (let l = mid_len 0 n a.memory.now room in omega arith) in (
-      refl,
-      ap₂ ◌++◌ (c.start_decoder.ensures.memory ∙ whole.1)
-          (Post-is 0 n a.memory.now (omega arith)),
-    )
+    (let l = mid_len 0 n a.memory.now room in omega arith) in
+    record {
+      answer = refl;
+      memory = ap₂ ◌++◌ (c.start_decoder.ensures.memory ∙ whole.1) (Post-is 0 n a.memory.now (omega arith));
+    }

@@ -31,11 +31,11 @@ answer_line-p-requires c =
 
 pub shape_of-state-then-p : goal.shape_of-state-then-p
 shape_of-state-then-p c =
-    c.decode-answer.auto.1.0 ∙ c.loop-i.invariant.memory_length
+    c.decode-answer.auto.state ∙ c.loop-i.invariant.memory_length
 
 pub shape_of-out-then-p : goal.shape_of-out-then-p
 shape_of-out-then-p c =
-    c.answer_line-p.auto.1.1.0 ∙ c.loop-i.invariant.out_length
+    c.answer_line-p.auto.out ∙ c.loop-i.invariant.out_length
 
 -- this turn's block, its answer printed, and the memory after its step
 abbrev received : goal.After-answer_line-p → ℕ
@@ -80,15 +80,15 @@ loop-i-preserved c =
     let a = c.args in
     let m = remembered (goal.at.loop-i-preserved c).After-answer_line-p in
     rw m (going_next a.t a.state.now a.number a.bytes.now a.out.now (known (goal.at.loop-i-preserved c).Start).1
-    c.loop-i.invariant (omega arith) (printed (goal.at.loop-i-preserved c).After-answer_line-p) c.if-p.false c.answer_line-p.auto.1.1.0
-    (sym (ap length m) ∙ c.decode-answer.auto.1.0))
+    c.loop-i.invariant (omega arith) (printed (goal.at.loop-i-preserved c).After-answer_line-p) c.if-p.false c.answer_line-p.auto.out
+    (sym (ap length m) ∙ c.decode-answer.auto.state))
 
 pub shape_of-state-then-bytes-eq1 : goal.shape_of-state-then-bytes-eq1
 shape_of-state-then-bytes-eq1 c = c.loop-i.invariant.memory_length
 
 pub shape_of-out-then-bytes-eq1 : goal.shape_of-out-then-bytes-eq1
 shape_of-out-then-bytes-eq1 c =
-    c.odd_byte.auto.0 ∙ c.loop-i.invariant.out_length
+    c.odd_byte.auto.out ∙ c.loop-i.invariant.out_length
 
 pub returns-then-bytes-eq1 : goal.returns-then-bytes-eq1
 returns-then-bytes-eq1 c =

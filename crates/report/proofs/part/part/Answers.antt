@@ -9,16 +9,16 @@ pub list-requires : goal.list-requires
 list-requires c =
     let a = c.args in
     room-there a.number (length a.bytes.now) (length a.out.now)
-    (sym c.fits2.ensures ∙ c.if-fits.true)
+    (sym c.fits.ensures ∙ c.if-fits.true)
 
 pub returns-then-fits : goal.returns-then-fits
 returns-then-fits c =
     let a = c.args in
     rw (listed-there a.t a.state.now a.number a.bytes.now (length a.out.now)
-    (sym c.fits2.ensures ∙ c.if-fits.true)) c.list.ensures
+    (sym c.fits.ensures ∙ c.if-fits.true)) c.list.ensures
 
 pub returns : goal.returns
 returns c =
     let a = c.args in
     listed-nowhere a.t a.state.now a.number a.bytes.now a.out.now
-    (sym c.fits2.ensures ∙ c.if-fits.false)
+    (sym c.fits.ensures ∙ c.if-fits.false)

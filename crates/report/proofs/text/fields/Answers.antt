@@ -25,7 +25,7 @@ field-after_number-requires c = let a = c.args in omega (arith, digits-64 a.numb
 pub field-after_info-requires : goal.field-after_info-requires
 field-after_info-requires c =
     let f = c.field-after_number in
-    omega (arith, known (goal.at.field-after_info-requires c).Start, f.ensures.position, f.auto.0, field-length c.args.number space)
+    omega (arith, known (goal.at.field-after_info-requires c).Start, f.ensures.position, f.auto.out, field-length c.args.number space)
 
 pub word-after_mark-requires : goal.word-after_mark-requires
 word-after_mark-requires c =
@@ -37,9 +37,9 @@ word-after_mark-requires c =
       digits-64 a.number (omega arith),
       digits-16 a.d.info (omega arith),
       f.ensures.position,
-      f.auto.0,
+      f.auto.out,
       g.ensures.position,
-      g.auto.0,
+      g.auto.out,
       field-length a.number space,
       field-length a.d.info space,
     )
@@ -57,11 +57,11 @@ field-requires c =
       digits-16 c.error_of.result (omega arith),
       word-length a.d.mark,
       f.ensures.position,
-      f.auto.0,
+      f.auto.out,
       g.ensures.position,
-      g.auto.0,
+      g.auto.out,
       w.ensures.position,
-      w.auto.0,
+      w.auto.out,
       field-length a.number space,
       field-length a.d.info space,
     )
@@ -84,18 +84,20 @@ returns c =
     let e = known (goal.at.returns c).Start in
     let m₃ = word-length a.d.mark in
     let p₁ = f.ensures.position in
-    let k₁ = f.auto.0 in
+    let k₁ = f.auto.out in
     let p₂ = g.ensures.position in
-    let k₂ = g.auto.0 in
+    let k₂ = g.auto.out in
     let p₃ = w.ensures.position in
-    let k₃ = w.auto.0 in
+    let k₃ = w.auto.out in
     let p₄ = z.ensures.position in
     let n₃ = field-length c.error_of.result newline in
-    let m₄ = digits-16 c.error_of.result (omega arith) in (
-      rw (← line-fields a.number a.d)
+    let m₄ = digits-16 c.error_of.result (omega arith) in
+    record {
+      text =
+          rw (← line-fields a.number a.d)
           (wrote_then number (info ++ (mark ++ error)) f.ensures
           (wrote_then info (mark ++ error) g.ensures
           (wrote_then mark error w.ensures last (omega arith)) (omega arith))
-          (omega arith)),
-      omega arith,
-    )
+          (omega arith));
+      short = omega arith;
+    }

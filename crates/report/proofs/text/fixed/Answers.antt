@@ -18,10 +18,12 @@ returns-then-has_room c =
     let a = c.args in
     let h : room a.out.now a.at ≡ true =
     sym c.has_room.ensures ∙ c.if-has_room.true in
-    put-there a.bytes.now h c.put_bytes.ensures
+    let p = put-there a.bytes.now h c.put_bytes.ensures in
+    record { position = p.0; bytes = p.1 }
 
 pub returns : goal.returns
 returns c =
     let a = c.args in
     let h : room a.out.now a.at ≡ false = sym c.has_room.ensures ∙ c.if-has_room.false in
-    put-nothing a.out.now a.at a.bytes.now h
+    let p = put-nothing a.out.now a.at a.bytes.now h in
+    record { position = p.0; bytes = p.1 }

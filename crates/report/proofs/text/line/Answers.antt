@@ -20,10 +20,11 @@ returns-then-has_room c =
     let h : room a.out.now a.at ≡ true =
     sym c.has_room.ensures ∙ c.if-has_room.true in
     let p = put-there (line_of a.number a.d) h c.fields.ensures.text in
-    (p.0, (p.1, c.fields.ensures.short))
+    record { position = p.0; bytes = p.1; short = c.fields.ensures.short }
 
 pub returns : goal.returns
 returns c =
     let a = c.args in
     let h : room a.out.now a.at ≡ false = sym c.has_room.ensures ∙ c.if-has_room.false in
-    let p = put-nothing a.out.now a.at (line_of a.number a.d) h in (p.0, (p.1, omega arith))
+    let p = put-nothing a.out.now a.at (line_of a.number a.d) h in
+    record { position = p.0; bytes = p.1; short = omega arith }

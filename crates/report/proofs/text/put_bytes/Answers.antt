@@ -28,7 +28,7 @@ loop-i-preserved c =
     let a = c.args in
     let n = length-take-le l.i a.bytes.now (omega arith) in (
       omega arith,
-      c.put_byte-end.auto.0 ∙ l.invariant.1,
+      c.put_byte-end.auto.out ∙ l.invariant.1,
       rw (add-one, take-suc a.bytes.now l.i 0 (omega arith))
           (wrote_then (take l.i a.bytes.now) _ l.invariant.2 c.put_byte-end.ensures (omega arith)),
     )

@@ -26,7 +26,7 @@ field-requires c =
       arith,
       room-free a.out.now a.at h,
       p.ensures.position,
-      p.auto.0,
+      p.auto.out,
       digits-64 a.number (omega arith),
     )
 
@@ -37,12 +37,15 @@ returns-then-has_room c =
     let h : room a.out.now a.at ≡ true =
     sym c.has_room.ensures ∙ c.if-has_room.true in
     let free = room-free a.out.now a.at h in
-    put-there (refused_line a.number) h
-    (wrote_then (114 ∷ 101 ∷ 102 ∷ 117 ∷ 115 ∷ 101 ∷ 100 ∷ 32 ∷ []) (decimal_of a.number ++ (10 ∷ []))
-    c.put_bytes-end.ensures c.field.ensures (omega arith))
+    let p =
+        put-there (refused_line a.number) h
+        (wrote_then (114 ∷ 101 ∷ 102 ∷ 117 ∷ 115 ∷ 101 ∷ 100 ∷ 32 ∷ []) (decimal_of a.number ++ (10 ∷ []))
+        c.put_bytes-end.ensures c.field.ensures (omega arith)) in
+    record { position = p.0; bytes = p.1 }
 
 pub returns : goal.returns
 returns c =
     let a = c.args in
     let h : room a.out.now a.at ≡ false = sym c.has_room.ensures ∙ c.if-has_room.false in
-    put-nothing a.out.now a.at (refused_line a.number) h
+    let p = put-nothing a.out.now a.at (refused_line a.number) h in
+    record { position = p.0; bytes = p.1 }
