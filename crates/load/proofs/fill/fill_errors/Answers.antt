@@ -65,8 +65,10 @@ returns c =
     let a = c.args in
     let out = a.out.now in
     let inside = l.invariant.0.inside in
-    let all : l.i ≡ length out = omega arith in (
-      storing-all _ out l.out l.i (length-errors a.n (length out) a.generator.state) (omega arith)
-          l.invariant.0,
-      l.invariant.1 ∙ ap (λ (k : ℕ). after k a.generator.state) all,
-    )
+    let all : l.i ≡ length out = omega arith in
+    record {
+      blocks =
+        storing-all _ out l.out l.i (length-errors a.n (length out) a.generator.state) (omega arith)
+            l.invariant.0;
+      generator = l.invariant.1 ∙ ap (λ (k : ℕ). after k a.generator.state) all
+    }

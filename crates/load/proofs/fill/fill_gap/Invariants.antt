@@ -10,7 +10,7 @@ use Rattle.tables.proofs.Fit.{zeros-at}
 use Rattle.load.proofs.fill.fill_gap.Given as goal
 
 abbrev pub invariant-loop-i : goal.invariant-loop-i
-invariant-loop-i l = Storing (zeros l.initial.out) l.initial.out l.out l.i
+invariant-loop-i l = Storing (replicate (length l.initial.out) 0) l.initial.out l.out l.i
 
 abbrev pub decreases-loop-i : goal.decreases-loop-i
 decreases-loop-i l = length l.initial.out - l.i

@@ -38,7 +38,7 @@ returns c =
     let g = c.fill_errors-g.result.state in
     let short = c.min-burst.ensures in
     let size = length-take-le b out (omega arith) in
-    let whole = length_front out es b c.fill_errors-g.auto.0 in
+    let whole = length_front out es b c.fill_errors-g.auto.out in
     let end =
     c.min-end.ensures
     ∙ ap (λ (r : Draw). min (b + a.guard + r.number % 16) (length (es ++ drop b out))) d2.ensures
@@ -53,4 +53,8 @@ returns c =
     end
     (c.fill_gap.ensures
     ∙ ap (λ (k : ℕ). replicate k 0) (mid_len b e (es ++ drop b out) (omega arith))) in
-    (r.0, (r.1, λ h. ap (λ (r : Draw). r.next.state) d2.ensures ∙ r.2 h))
+    record {
+      size = r.0;
+      blocks = r.1;
+      generator = λ h. ap (λ (r : Draw). r.next.state) d2.ensures ∙ r.2 h
+    }

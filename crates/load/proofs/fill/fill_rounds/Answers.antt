@@ -27,7 +27,7 @@ turned c =
     goes_on a.n a.depth a.guard a.seed (length a.out.now) l.at l.g.state r.result.length
     r.result.next.state _ l.out r.new.out _ _ l.invariant (omega arith)
     (part ∙ ap (λ (k : ℕ). k - l.at) all) r.ensures.size r.ensures.blocks r.ensures.generator
-    (same_len_mid l.at (length l.out - l.at) l.out r.new.out r.auto.0 ∙ all)
+    (same_len_mid l.at (length l.out - l.at) l.out r.new.out r.auto.out ∙ all)
 
 pub overflow_add-at : goal.overflow_add-at
 overflow_add-at c =
