@@ -1,5 +1,6 @@
 // What C may call (include/burst.h): numbers in, numbers out, over the layers below. Nothing is decided here.
 #![tactic(auto)]
+
 pub mod batch;
 pub mod code;
 mod coded;

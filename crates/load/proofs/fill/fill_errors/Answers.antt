@@ -68,7 +68,7 @@ returns c =
     let all : l.i ≡ length out = omega arith in
     record {
       blocks =
-        storing-all _ out l.out l.i (length-errors a.n (length out) a.generator.state) (omega arith)
-            l.invariant.0;
-      generator = l.invariant.1 ∙ ap (λ (k : ℕ). after k a.generator.state) all
+          storing-all _ out l.out l.i (length-errors a.n (length out) a.generator.state) (omega arith)
+          l.invariant.0;
+      generator = l.invariant.1 ∙ ap (λ (k : ℕ). after k a.generator.state) all;
     }

@@ -56,5 +56,5 @@ returns c =
     record {
       size = r.0;
       blocks = r.1;
-      generator = λ h. ap (λ (r : Draw). r.next.state) d2.ensures ∙ r.2 h
+      generator = λ h. ap (λ (r : Draw). r.next.state) d2.ensures ∙ r.2 h;
     }
