@@ -1,9 +1,8 @@
 use mathlib.Core.Path.{◌≡◌, refl, sym, ap, ◌∙◌, subst}
-use Prim.Native.Nat.{ℕ, ◌-◌, ◌%◌, ◌^◌, ◌≤◌, ◌<◌}
+use Prim.Native.Nat.{ℕ, ◌%◌, ◌^◌, ◌≤◌, ◌<◌}
 use native.Mathlib.Nat.{mod-lt}
 use native.Mathlib.Numerals.{add-one}
 use native.Mathlib.Omega.{arith}
-use borrow.Author.Rules.{rules}
 use lib.Bits.{bit_and}
 use lib.ListN.{length}
 use lib.Pow.{pow_pos, pow_mono}
@@ -11,7 +10,7 @@ use Rattle.span.proofs.Masks.{masked_low}
 use Rattle.load.specs.declared.generator.Draw.{Draw}
 use Rattle.load.specs.Draws.{next_state, after}
 use Rattle.load.specs.Load.{errors}
-use Rattle.span.proofs.Stored.{Storing, storing-first, storing-next, storing-all}
+use Rattle.span.proofs.Stored.{storing-first, storing-next, storing-all}
 use Rattle.load.proofs.Draws.{after_next}
 use Rattle.load.proofs.Load.{length-errors, errors-at}
 use Rattle.load.proofs.fill.fill_errors.Goals as goal

@@ -11,7 +11,6 @@ use Rattle.load.specs.declared.generator.Draw.{Draw}
 use Rattle.load.specs.Draws.{next_state, after}
 use Rattle.load.specs.Load.{errors as errors-of}
 use Rattle.load.proofs.Rounds.{round_filled}
-use borrow.Author.Rules.{rules}
 use Rattle.load.proofs.fill.fill_round.Goals as goal
 
 pub overflow_add-d : goal.overflow_add-d
