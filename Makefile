@@ -8,7 +8,7 @@
 # make plot        docs/fades.svg, what a decoder makes of fades of each length, drawn from runs of the tool
 # make bench       what calls take, against an implementation written for speed, and batches against single calls; not a
 #                  part of the gate
-# make clean       removes target/, which holds all that is built
+# make clean       removes target/ and each crate's out/, which hold all that is built
 # make help        this text
 .DELETE_ON_ERROR:
 .PHONY: run test library staticlib tool tool-sanitized install uninstall plot bench clean help
@@ -34,7 +34,7 @@ man := $(DESTDIR)$(prefix)/share/man
 RT := $(shell command -v rt)
 need_rt = @[ -n "$(RT)" ] || { echo 'rt, the Rattle toolchain, is not on the PATH; README.md says more' >&2; exit 1; }
 
-run: target/proved
+run: target/bin/listing
 	@target/bin/listing < examples/listing/levels
 
 test:
@@ -42,17 +42,23 @@ test:
 	@printf 'toolchain: %s\n' "$$(rt version)"
 	@tests/tally tests/layout 'rt ci' tests/statements $(wildcard tests/*_test)
 
-# Every crate is proved in one step, so that targets made side by side (make -j) do not each prove what they share. A
-# crate that did not change is not proved again, but by `rt staticlib`: it proves `export` anew each time, and is called
-# only if something changed.
-target/proved: crates.txt $(shell find crates) $(RT)
+# Every crate is proved in one step, so that targets made side by side (make -j) do not each prove what they share. What
+# is proved is kept in the crate's out/, so what did not change is not proved again.
+target/proved: crates.txt $(shell find crates -mindepth 2 -name out -prune -o -print) $(RT)
 	$(need_rt)
-	@tools/prove check
+	@tools/prove . all check
+	@mkdir -p $(@D)
 	@touch $@
 
+target/bin/listing: target/proved
+	@tools/prove crates/listing run < /dev/null
+	@mkdir -p $(@D)
+	@cp crates/listing/out/listing $@
+
 target/staticlib/libexport.a: target/proved
-	$(need_rt)
-	@tools/prove staticlib export
+	@tools/prove crates/export lib
+	@mkdir -p $(@D)
+	@cp crates/export/out/libexport.a $@
 
 # The proved object, and beside it the words for numbers. The shared library is made of the same two.
 library: staticlib target/lib/$(SHARED)
@@ -105,7 +111,7 @@ bench: staticlib
 	@CARGO_TARGET_DIR=target/bench cargo run --release --offline --quiet --manifest-path bench/Cargo.toml
 
 clean:
-	rm -rf target
+	rm -rf target crates/*/out
 
 help:
 	@sed -n '/^#/!q; s/^# //p' Makefile

@@ -126,7 +126,7 @@ made() { # n m
     printf '\n'
 }
 
-for target in tool tool-sanitized; do
+for target in tool tool-sanitized target/bin/listing; do
     make -s "$target" > "$work/log" 2>&1
     verdict $? "make $target: $(tail -n 3 "$work/log")"
 done

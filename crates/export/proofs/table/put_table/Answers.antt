@@ -14,10 +14,10 @@ row_of : (t : Table) (i : ℕ) → get_or (numbers_of t) (3 + i) 0 ≡ get_or t.
 unfolding numbers_of
 row_of t i = sym (get_or-drop 3 (numbers_of t) i 0)
 
-numbers-length : (c : goal.Start) → length (numbers_of c.args.t1) ≡ 18
+numbers-length : (c : goal.Start) → length (numbers_of c.args.t) ≡ 18
 unfolding numbers_of
 numbers-length c =
-    let long : length c.args.t1.rows ≡ 15 = search rules in
+    let long : length c.args.t.rows ≡ 15 = search rules in
     omega arith
 
 pub loop-i-init : goal.loop-i-init
@@ -27,7 +27,7 @@ loop-i-init c = (omega arith, refl, refl)
 pub loop-i-preserved : goal.loop-i-preserved
 loop-i-preserved c =
     let l = c.loop-i in
-    let t = c.args.t1 in
+    let t = c.args.t in
     let ns = numbers_of t in
     let long = numbers-length (goal.at.loop-i-preserved c).Start in
     let v : get_or ns (3 + l.i) 0 ≡ get_or t.rows l.i 0 = row_of t l.i in
@@ -40,7 +40,7 @@ loop-i-preserved c =
 pub returns : goal.returns
 returns c =
     let l = c.loop-i in
-    let t = c.args.t1 in
+    let t = c.args.t in
     let long = numbers-length (goal.at.returns c).Start in
     let all : 3 + l.i ≡ 18 = omega arith in
     all_of l.all (numbers_of t) 18 l.invariant.1 long (rw all at l.invariant.2)

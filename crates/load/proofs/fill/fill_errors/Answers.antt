@@ -1,9 +1,8 @@
 use mathlib.Core.Path.{◌≡◌, refl, sym, ap, ◌∙◌, subst}
-use Prim.Native.Nat.{ℕ, ◌-◌, ◌%◌, ◌^◌, ◌≤◌, ◌<◌}
+use Prim.Native.Nat.{ℕ, ◌%◌, ◌^◌, ◌≤◌, ◌<◌}
 use native.Mathlib.Nat.{mod-lt}
 use native.Mathlib.Numerals.{add-one}
 use native.Mathlib.Omega.{arith}
-use borrow.Author.Rules.{rules}
 use lib.Bits.{bit_and}
 use lib.ListN.{length}
 use lib.Pow.{pow_pos, pow_mono}
@@ -11,7 +10,7 @@ use Rattle.span.proofs.Masks.{masked_low}
 use Rattle.load.specs.declared.generator.Draw.{Draw}
 use Rattle.load.specs.Draws.{next_state, after}
 use Rattle.load.specs.Load.{errors}
-use Rattle.span.proofs.Stored.{Storing, storing-first, storing-next, storing-all}
+use Rattle.span.proofs.Stored.{storing-first, storing-next, storing-all}
 use Rattle.load.proofs.Draws.{after_next}
 use Rattle.load.proofs.Load.{length-errors, errors-at}
 use Rattle.load.proofs.fill.fill_errors.Goals as goal
@@ -65,8 +64,10 @@ returns c =
     let a = c.args in
     let out = a.out.now in
     let inside = l.invariant.0.inside in
-    let all : l.i ≡ length out = omega arith in (
-      storing-all _ out l.out l.i (length-errors a.n (length out) a.generator.state) (omega arith)
-          l.invariant.0,
-      l.invariant.1 ∙ ap (λ (k : ℕ). after k a.generator.state) all,
-    )
+    let all : l.i ≡ length out = omega arith in
+    record {
+      blocks =
+          storing-all _ out l.out l.i (length-errors a.n (length out) a.generator.state) (omega arith)
+          l.invariant.0;
+      generator = l.invariant.1 ∙ ap (λ (k : ℕ). after k a.generator.state) all;
+    }

@@ -1,10 +1,9 @@
 use mathlib.Core.Path.{sym}
 use mathlib.Core.List.{List}
-use Prim.Native.Nat.{ℕ, ◌-◌}
+use Prim.Native.Nat.{ℕ}
 use native.Mathlib.Omega.{arith}
-use borrow.Author.Rules.{rules}
 use lib.ListN.{length, replicate, length-replicate}
-use Rattle.span.proofs.Stored.{Storing, storing-first, storing-next, storing-all}
+use Rattle.span.proofs.Stored.{storing-first, storing-next, storing-all}
 use Rattle.tables.proofs.Fit.{zeros-at}
 use Rattle.load.proofs.fill.fill_gap.Goals as goal
 

@@ -3,8 +3,6 @@ use mathlib.Core.Path.{◌≡◌, sym, ◌∙◌}
 use mathlib.Core.Bool.{true}
 use Prim.Native.Nat.{◌≤◌}
 use native.Mathlib.Omega.{arith}
-use borrow.Author.Rules.{rules}
-use borrow.Author.Tests.{not-false, not-true}
 use Rattle.tables.specs.Table.{fit}
 use Rattle.tables.proofs.Fit.{fit-facts}
 use Rattle.link.specs.Memory.{delay_of}
@@ -16,21 +14,21 @@ use Rattle.load.proofs.fill.fill_load.Goals.{Else-not-is_fit}
 pub returns-then-not-is_fit : goal.returns-then-not-is_fit
 returns-then-not-is_fit c =
     let a = c.args in
-    unfit-refused a.t1 a.seed a.out.now (sym c.is_fit.ensures ∙ not-true _ c.if-not-is_fit.true)
+    unfit-refused a.t a.seed a.out.now (sym c.is_fit.ensures ∙ c.if-not-is_fit.true)
 
-fitted : (c : goal.Else-not-is_fit) → fit c.args.t1 ≡ true
-fitted c = sym c.is_fit.ensures ∙ not-false _ c.if-not-is_fit.false
+fitted : (c : goal.Else-not-is_fit) → fit c.args.t ≡ true
+fitted c = sym c.is_fit.ensures ∙ c.if-not-is_fit.false
 
-guarded : (c : goal.Else-not-is_fit) → delay_of c.args.t1 ≤ 4096
+guarded : (c : goal.Else-not-is_fit) → delay_of c.args.t ≤ 4096
 guarded c =
-    let t = c.args.t1 in
+    let t = c.args.t in
     let f = fit-facts t (fitted c) in
     (fit-room t f.N_to f.m_to).1
 
 pub returns-then-seed-eq0 : goal.returns-then-seed-eq0
 returns-then-seed-eq0 c =
     let a = c.args in
-    zero-refused a.t1 a.seed a.out.now (fitted (goal.at.returns-then-seed-eq0 c).Else-not-is_fit) c.if-seed-eq0.true
+    zero-refused a.t a.seed a.out.now (fitted (goal.at.returns-then-seed-eq0 c).Else-not-is_fit) c.if-seed-eq0.true
 
 pub overflow_sub-t : goal.overflow_sub-t
 overflow_sub-t c = let f = (fit-facts _ (fitted (goal.at.overflow_sub-t c).Else-not-is_fit)).N_from in omega arith
@@ -47,5 +45,5 @@ pub returns : goal.returns
 returns c =
     let f = c.fill_rounds in
     let a = c.args in
-    loads-filled a.t1 a.seed a.out.now f.new.out (fitted (goal.at.returns c).Else-not-is_fit) c.if-seed-eq0.false
+    loads-filled a.t a.seed a.out.now f.new.out (fitted (goal.at.returns c).Else-not-is_fit) c.if-seed-eq0.false
     f.ensures

@@ -11,7 +11,6 @@ use Rattle.load.specs.declared.generator.Draw.{Draw}
 use Rattle.load.specs.Draws.{next_state, after}
 use Rattle.load.specs.Load.{errors as errors-of}
 use Rattle.load.proofs.Rounds.{round_filled}
-use borrow.Author.Rules.{rules}
 use Rattle.load.proofs.fill.fill_round.Goals as goal
 
 pub overflow_add-d : goal.overflow_add-d
@@ -38,7 +37,7 @@ returns c =
     let g = c.fill_errors-g.result.state in
     let short = c.min-burst.ensures in
     let size = length-take-le b out (omega arith) in
-    let whole = length_front out es b c.fill_errors-g.auto.0 in
+    let whole = length_front out es b c.fill_errors-g.auto.out in
     let end =
     c.min-end.ensures
     ∙ ap (λ (r : Draw). min (b + a.guard + r.number % 16) (length (es ++ drop b out))) d2.ensures
@@ -53,4 +52,8 @@ returns c =
     end
     (c.fill_gap.ensures
     ∙ ap (λ (k : ℕ). replicate k 0) (mid_len b e (es ++ drop b out) (omega arith))) in
-    (r.0, (r.1, λ h. ap (λ (r : Draw). r.next.state) d2.ensures ∙ r.2 h))
+    record {
+      size = r.0;
+      blocks = r.1;
+      generator = λ h. ap (λ (r : Draw). r.next.state) d2.ensures ∙ r.2 h;
+    }

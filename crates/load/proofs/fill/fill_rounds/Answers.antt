@@ -1,7 +1,6 @@
 use mathlib.Core.Path.{ap, ◌∙◌}
 use Prim.Native.Nat.{ℕ, ◌+◌, ◌-◌, ◌≤◌}
 use native.Mathlib.Omega.{arith}
-use borrow.Author.Rules.{rules}
 use borrow.Rule.Slice.PartMut.{put_mid, same_len_mid, mid_len}
 use lib.ListN.{length}
 use Rattle.load.proofs.Rounds.{Goes, goes_first, goes_on, goes-all}
@@ -27,7 +26,7 @@ turned c =
     goes_on a.n a.depth a.guard a.seed (length a.out.now) l.at l.g.state r.result.length
     r.result.next.state _ l.out r.new.out _ _ l.invariant (omega arith)
     (part ∙ ap (λ (k : ℕ). k - l.at) all) r.ensures.size r.ensures.blocks r.ensures.generator
-    (same_len_mid l.at (length l.out - l.at) l.out r.new.out r.auto.0 ∙ all)
+    (same_len_mid l.at (length l.out - l.at) l.out r.new.out r.auto.out ∙ all)
 
 pub overflow_add-at : goal.overflow_add-at
 overflow_add-at c =
