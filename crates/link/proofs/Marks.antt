@@ -94,6 +94,14 @@ module _ (rows : List ℕ) (x : ℕ) where
     told : (mark : Mark) → (mark_of weight (found rows x) x ≡ mark) ↔ Meaning mark
     told mark = (λ e. subst Meaning e (meant (found rows x) refl), given mark)
 
+-- what is found is the least error block, and nothing where there is none
+pub found_told : (rows : List ℕ) (x : ℕ)
+    → ((e : ℕ) → (found rows x ≡ Found e) ↔ LeastError rows x e) × ((found rows x ≡ Missing) ↔ NoError rows x)
+found_told rows x = (
+  λ e. (least rows x (Found e), found-least rows x (Found e)),
+  (none_found rows x, found_none rows x),
+)
+
 pub marks : MarksLaw
 marks n rows x =
     let t = told rows x (2 ^ (n - 1)) (pow_pos (n - 1)) in

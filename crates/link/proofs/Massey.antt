@@ -11,7 +11,7 @@
 --   parities                          the raw terms as the paper forms them
 use mathlib.Core.Path.{◌≡◌, sym, ap, ap₂, ◌∙◌, subst}
 use mathlib.Core.Bool.{Bool, false, cond, xor}
-use mathlib.Core.Logic.{◌⊎◌, inl, inr}
+use mathlib.Core.Logic.{◌↔◌, ◌⊎◌, inl, inr}
 use mathlib.Core.List.{List, [], ◌∷◌, ◌++◌}
 use Prim.Native.Nat.{ℕ, zero, suc, ◌+◌, ◌-◌, ◌*◌, ◌/◌, ◌%◌, ◌^◌, ◌≤◌, ◌<◌}
 use native.Mathlib.Omega.{arith}
@@ -31,14 +31,16 @@ use Rattle.link.specs.declared.decode.DecodeAnswer.{DecodeAnswer}
 use Rattle.link.specs.declared.decode.DecodeAnswer.TheVariants.{Delivery}
 use Rattle.link.specs.Memory.{joining, started, coder_words, turn_of, decoder_words, pending_at, fill_of, delay_of}
 use Rattle.link.specs.Memory.{pending_of}
-use Rattle.link.specs.Step.{information, parity as received, error_of, kept_of, mark_of}
+use Rattle.link.specs.Step.{information, parity as received, found, error_of, kept_of, mark_of}
 use Rattle.link.specs.Refusals.{coder_fault, decoder_fault}
 use Rattle.link.specs.Coder.{coder_next, code_memory}
 use Rattle.link.specs.Decoder.{decoder_next, decode_memory}
 use Rattle.link.specs.Runs.{Call, DecoderTables, sent_by, taken_by, taken_at, placed}
 use Rattle.link.specs.Massey.{convolution, HoldsPast, stream, info_sent, block_sent, block_taken, raw_at, register_at}
 use Rattle.link.specs.Massey.{found_at, ParityLaw, Syndrome, SyndromeErrors, RegisterLaw, Pending, PendingReceived}
-use Rattle.link.specs.Massey.{DeliveryLaw, Waiting}
+use Rattle.link.specs.Massey.{ErrorFound, DeliveryLaw, Waiting}
+use Rattle.link.specs.Marks.{NoError, LeastError}
+use Rattle.link.proofs.Marks.{found_told}
 use Rattle.link.proofs.Origin.{below-snoc}
 use Rattle.link.proofs.Step.{topped_low, topped_bit, joined_half, joined_odd, coder_half, coder_even}
 use Rattle.link.proofs.Interleaving.{place-first, place-next, place-earlier}
@@ -346,6 +348,15 @@ pendings-received t ds tables r b low inside =
     ∙ ap (λ (N : ℕ). pending_in N (decoder_before s ds p)) (taken_table t s ds tables p inside).span))
     (decoder_pending (decoded t s ds tables) r b low inside (raw_at s ds) (register_at s ds) (found_at s ds)
     (verdict t s ds tables) (decoder-zeros t ds) (simp length-take (omega arith)))
+
+pub errors_found : ErrorFound
+errors_found t s ds tables p inside =
+    let rows = rows_of t in
+    let x = register_at s ds p in
+    let v = verdict t s ds tables p inside in
+    subst
+    (λ (f : Least). ((e : ℕ) → (f ≡ Found e) ↔ LeastError rows x e) × ((f ≡ Missing) ↔ NoError rows x))
+    (sym (v.found_is ∙ ap (found rows) (sym v.register_is))) (found_told rows x)
 
 pub deliveries : DeliveryLaw
 deliveries t s ds tables p late inside =

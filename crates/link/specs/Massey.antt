@@ -18,10 +18,11 @@
 --   Syndrome                          the raw terms, whatever was received
 --   SyndromeErrors                   000, eq. 3
 --   RegisterLaw                          the register holds the last N raw terms since the word was last cleared
+--   ErrorFound                      what is found is the least error block that has the register as its image, or none
 --   Pending, PendingReceived         what a bit of a pending word is, of coder and of decoder
 --   DeliveryLaw                          which block a delivery is of, from any memory
 --   Waiting                           until the fill is complete nothing is delivered
-use Rattle.std.specs.Prelude.{◌≡◌, Bool, false, cond, ◌&&◌, ◌⊎◌, List, ℕ, zero, suc, ◌+◌, ◌-◌, ◌*◌, ◌^◌, ◌≤◌, ◌<◌, leb, ltb, length, get_or}
+use Rattle.std.specs.Prelude.{◌≡◌, ◌↔◌, Bool, false, cond, ◌&&◌, ◌⊎◌, List, ℕ, zero, suc, ◌+◌, ◌-◌, ◌*◌, ◌^◌, ◌≤◌, ◌<◌, leb, ltb, length, get_or}
 use Rattle.std.specs.Bool.{xor}
 use Rattle.span.specs.declared.eliminate.Least.{Least}
 use Rattle.span.specs.declared.eliminate.Least.TheVariants.{Found, Missing}
@@ -30,6 +31,7 @@ use Rattle.tables.specs.declared.table.Table.{Table}
 use Rattle.tables.specs.Table.{rows_of, info_rows}
 use Rattle.link.specs.declared.decode.DecodeAnswer.TheVariants.{Delivery, NothingYet}
 use Rattle.link.specs.Step.{information, parity, raw_term, error_of, mark_of}
+use Rattle.link.specs.Marks.{NoError, LeastError}
 use Rattle.link.specs.Memory.{started, coder_words, turn_of, decoder_words, pending_at, fill_of, delay_of, pending_of}
 use Rattle.link.specs.Refusals.{coder_fault, decoder_fault}
 use Rattle.link.specs.Coder.{code_memory}
@@ -168,6 +170,17 @@ RegisterLaw =
     (c ≡ 0) ⊎ ((e : ℕ) × (found (c - 1) ≡ Found e)) → ((d : ℕ) → c ≤ d → d < b → found d ≡ Missing)
     → (register b < 2 ^ t.span)
     × ((k : ℕ) → k < t.span → bit (t.span - 1 - k) (register b) ≡ cond (leb (c + k) b) (raw (b - k)) false)
+
+-- 01, line 3: "If some e has the register as image, the least such e is the error": at every taken place, from any
+-- memory. So `DeliveryLaw` removes that error, and its mark is that of `MarksLaw`.
+abbrev pub ErrorFound : Type 0
+ErrorFound =
+    (t : Table) (memory : List ℕ) (ds : List Call) → DecoderTables t memory ds
+    → (p : ℕ) → p < length (taken_by memory ds) →
+    let register = register_at memory ds p in
+    let found = found_at memory ds p in
+    ((e : ℕ) → (found ≡ Found e) ↔ LeastError (rows_of t) register e)
+    × ((found ≡ Missing) ↔ NoError (rows_of t) register)
 
 -- 01, Coder and decoder memory: "one pending word a stream; bit k of a pending word is what past blocks add to the
 -- parity k steps after the next one". It is the word before the step that block b is handed to.

@@ -21,3 +21,4 @@ pub mod Triangle
 pub mod Filling
 pub mod Made
 pub mod MadeWhole
+pub mod Main

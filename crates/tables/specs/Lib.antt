@@ -12,3 +12,4 @@ pub mod Written
 pub mod Writing
 pub mod Made
 pub mod Triangle
+pub mod Main
