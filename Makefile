@@ -40,7 +40,7 @@ run: target/bin/listing
 test:
 	$(need_rt)
 	@printf 'toolchain: %s\n' "$$(rt version)"
-	@tests/tally tests/layout 'rt ci' tests/statements $(wildcard tests/*_test)
+	@tests/tally tests/rattle tests/layout tests/statements $(wildcard tests/*_test)
 
 # Every crate is proved in one step, so that targets made side by side (make -j) do not each prove what they share. What
 # is proved is kept in the crate's out/, so what did not change is not proved again.
