@@ -4,7 +4,7 @@
 --
 --   WrongBit sent taken q      bit q was taken otherwise than it was sent
 --   BitBursts long gap sent taken   wrong bits lie in bursts of at most `long` bits, at least `gap` right ones between
---   Corrected sent taken p     what the step at place p answers
+--   Corrected sent taken p     the step at place p delivers the information that was sent 18 places before
 --   CorrectionWith long gap    the claim, with these numbers
 --   IwadareCorrection         02's: 9 and 56
 --   IwadareCorrectionTen     more than 02 and 001 say: 10 and 56

@@ -1,9 +1,12 @@
--- How far the numbers go: of 11 bits one burst may go wrong, however far the next one is; with 55 right bits between,
--- single wrong bits may; and after 29 right blocks one wrong bit may, in a place that recovery speaks of. Runs show it,
--- the coder started and sending zeros: on a started decoder 30 right blocks, blocks 4 7 7 7 1 and 18 right ones, and 30
--- right blocks, block 1, 17 right ones and block 4; on a decoder with the fill 18, the pending word 2^17 and zeros, 29
--- right blocks, block 4 and three right ones; and on one with the pending word 2^17 + 2^5, 21 right blocks, of which
--- the last delivers what was flipped at the eighteenth.
+-- How far the numbers 10, 56 and 30 go (02's 9 bits are fewer). With bursts of at most 11 bits correction and recovery
+-- do not hold, whatever the gap. With 55 right bits between they do not hold either, of single wrong bits too. Recovery
+-- after 29 right blocks does not hold past place 30, of single wrong bits too. And the end of the guard does not hold
+-- past place 20.
+--
+-- One run refutes each; in all four the coder is started and sends zeros. On a started decoder: 30 right blocks, blocks
+-- 4 7 7 7 1, and 18 right ones; and 30 right blocks, block 1, 17 right ones, and block 4. On one with the fill 18, the
+-- pending word 2^17 and zeros: 29 right blocks, block 4, and three right ones. On one with the pending word 2^17 + 2^5:
+-- 21 right blocks, of which the last delivers what was flipped at the eighteenth.
 --
 --   IwadareLengthSharp, IwadareGapSharp   correction and recovery fail with one bit more in a burst, and with one
 --                                             fewer between

@@ -12,7 +12,7 @@ use span::bits::select;
 
 #[derive(Clone, Copy)]
 pub enum DecodeAnswer {
-    // The information of the block taken 18 steps before.
+    // The oldest delayed block, flipped where it is to be: over a run, that of the block taken 18 places before.
     Delivery(u16),
     NothingYet,
     // Refusals 13 to 15.
@@ -120,8 +120,8 @@ fn next_fill(fill: u64) -> u64
     if fill < 18 { fill + 1 } else { fill }
 }
 
-// The block 15 back, flipped in the symbol of that weight. Nothing is written where nothing is flipped: a word just
-// written would hold up those that move.
+// The block 15 back, flipped in the symbol of that weight. Where that is 0 nothing is written, so that the word is not
+// read just after a write, when the blocks move.
 fn flip(state: &mut [u64], weight: u64)
     requires { length state.old ≡ 21 }
     ensures { state.new ≡ set state.old 6 (get_or state.old 6 0 ⊕ weight) }
@@ -132,7 +132,7 @@ fn flip(state: &mut [u64], weight: u64)
     state[6] = state[6] ^ weight;
 }
 
-// The memory after a step: the block 15 back is flipped, w halved stays, and the delayed blocks move.
+// The memory after a step: the block 15 back is flipped by the weight, w halved stays, and the delayed blocks move.
 fn keep(state: &mut [u64], w: u64, terms: u64, weight: u64, youngest: u64)
     requires { length state.old ≡ 21 }
     ensures { state.new ≡ fill_next (fill_of state.old) ∷ w / 2 ∷ terms

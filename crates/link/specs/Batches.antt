@@ -13,7 +13,7 @@
 --   coder_batch, decoder_batch   a batch of the coder and of the decoder, as handed
 --   Mixture               a list of batches is the run of their single calls
 --   RecoveryBatches      demand 3 of any mixture of batches and single calls
---   GuardEndBatches     what the end of the guard tells, of the same
+--   GuardEndBatches     what the last m calls of the guard answer, of the same
 use Rattle.std.specs.Prelude.{◌≡◌, ◌≢◌, ◌↔◌, ◌⊎◌, List, [], ◌∷◌, ◌++◌, map, ℕ, ◌-◌, ◌*◌, ◌/◌, ◌%◌, ◌^◌, ◌≤◌, ◌<◌, length, get_or, take}
 use Rattle.tables.specs.declared.table.Table.{Table}
 use Rattle.link.specs.declared.code.CodeAnswer.TheVariants.{Refused as CodeRefused}

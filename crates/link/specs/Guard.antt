@@ -1,5 +1,6 @@
--- In the guard the syndrome word runs empty, whatever it was: 000, VI. So its last calls tell already that it is over.
--- `GuardLaw` and `GuardEndStream` ask nothing of bursts or memories.
+-- In the guard the syndrome word runs empty, whatever it was: 000, VI. So what its last m calls deliver is right
+-- already, and is marked clean or parity. The converse is not said, and does not hold: earlier calls may be marked so
+-- too, and that tells nothing. `GuardLaw` and `GuardEndStream` ask nothing of bursts or memories.
 --
 --   syndrome_entry, syndromes_by s ds   the syndrome word of the turn's stream, before a step and before each step that
 --                                     is taken

@@ -1,6 +1,6 @@
 -- The door: all that a user of coder and decoder needs to read, each theorem stated in the file that is named. What the
 -- functions promise of one call is `Starts`, `Codes` and `Decodes` (`Start`, `Coder`, `Decoder`), and of a batch
--- `Fills` (`Batch`).
+-- `Fills` and `FillsPart` (`Batch`).
 --
 --   Link, LinkLaw   the theorems
 use Rattle.link.specs.Calls.{RefusedCalls, TakenCalls}
@@ -24,9 +24,9 @@ pub record Link : Type 0 where
   pub waiting : Waiting
   pub delivery : DeliveryLaw
   pub marks : MarksLaw
-  -- demand 3: after a fade, of any well-formed memories; what the end of the guard tells (02, CR 4); recovery again, of
-  -- the same places, after 2 × m fewer right blocks; and of started memories, where no guard is needed, and where each
-  -- mark tells its block's error
+  -- demand 3: after a fade, of any well-formed memories; what the last m calls of the guard answer (02, CR 4); recovery
+  -- again, of the same places, after 2 × m fewer right blocks; and of started memories, where no guard is needed, and
+  -- where each mark tells its block's error
   pub recovery : RecoveryLaw
   pub guard_end : GuardEnd
   pub recovery_short_guard : RecoveryShortGuard

@@ -82,7 +82,7 @@ HoldsPast last N rows x b word =
 abbrev pub stream : {X : Type 0} → ℕ → ℕ → (ℕ → X) → ℕ → X
 stream m r at b = at (r + b * m)
 
--- of the place counted from 0
+-- of the place counted from 0, as blocks of a stream are; `sent_at` and `taken_at` count from 1
 abbrev pub info_sent : List Sent → ℕ → ℕ
 info_sent xs p = (sent_at xs (suc p)).info
 

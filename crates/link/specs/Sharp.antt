@@ -1,16 +1,17 @@
 -- How far 01's numbers go: recovery fails with guard and begin of the claim both one place less, with a gap one place
 -- less, and with bursts one place longer. The guard alone may be 2 × m places less (`RecoveryShortGuard`), and fails
--- with one less than that; at its end m places more are right (`GuardEnd`), and the place before them may not be. Runs
--- on Z (n = 2, N = 4, row 10, m = 1; m × (N − 1) is 3), the coder started and sending zeros, show it: at place 6, after
--- five right ones, a mark is doubtful; with the gap, the length and the short guard wrong information is delivered; and
--- at place 5 of a guard of six a mark is held. All else is as recovery asks for it.
+-- with one less than that. The last m places of the whole guard are right and marked clean or parity (`GuardEnd`); the
+-- place before them may be marked otherwise. Runs on Z (n = 2, N = 4, row 10, m = 1; m × (N − 1) is 3), the coder
+-- started and sending zeros, show it: at place 6, after five right ones, a mark is doubtful; with the gap, the length
+-- and the short guard wrong information is delivered; and at place 5 of a guard of six a mark is held. All else is as
+-- recovery asks for it.
 --
 --   RecoveryAfter right past long gap   recovery with other numbers in place of 01's: guard, the last place before the
 --                                       claim, length of a burst and gap
 --   RecoveryWith right long gap the claim begins where the guard ends
 --   GuardSharp, GapSharp, LengthSharp   it fails with one of the three replaced by the next one; claim and guard
 --                                          move together
---   ShortGuardSharp, GuardEndSharp     so do the two others
+--   ShortGuardSharp, GuardEndSharp     the short guard and the end of the guard fail with one place less
 use Rattle.std.specs.Prelude.{ℕ, ◌+◌, ◌-◌, ◌*◌, ◌≤◌, ◌<◌, List, length}
 use Rattle.tables.specs.declared.table.Table.{Table}
 use Rattle.link.specs.Memory.{delay_of}

@@ -61,7 +61,7 @@ pub fn fill_coded(
     fill(t, rows, state, infos, out)
 }
 
-// The part of `out` that is filled; of the rest `fill_coded` says that it is as it was.
+// The part of `out` that is filled. What the rest holds is not promised here; `fill_coded` promises it.
 pub fn code_batch<'a>(
     t: Table,
     state: &mut [u64],

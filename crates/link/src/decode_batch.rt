@@ -218,7 +218,7 @@ pub fn fill_decoded(
     fill(t, rows, state, blocks, out)
 }
 
-// The part of `out` that is filled; of the rest `fill_decoded` says that it is as it was.
+// The part of `out` that is filled. What the rest holds is not promised here; `fill_decoded` promises it.
 pub fn decode_batch<'a>(
     t: Table,
     state: &mut [u64],

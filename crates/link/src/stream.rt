@@ -12,7 +12,7 @@ pub(crate) fn one_at(place: usize) -> u64
     shift(1, place, 64)
 }
 
-// The turn after a step. A turn that is none is followed by 0.
+// The turn after a step. An out-of-range turn is followed by 0.
 pub(crate) fn next_turn(depth: u64, turn: u64) -> u64
     ensures inside { turn < depth → result ≡ next_turn depth turn }
     ensures outside { depth ≤ turn → result ≡ 0 }
