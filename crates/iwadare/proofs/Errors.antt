@@ -9,7 +9,7 @@
 --   errors_below, errors_bit   a wrong bit of an error block is one of a taken block
 --   delivers               where it delivers zero, the decoder delivers what was sent
 use mathlib.Core.Path.{◌≡◌, refl, sym, ap, ap₂, ◌∙◌, subst}
-use mathlib.Core.Bool.{Bool, true, false, cond, xor, true≢false}
+use mathlib.Core.Bool.{Bool, true, cond, xor, true≢false}
 use mathlib.Core.Logic.{◌≢◌}
 use mathlib.Core.List.{List, [], ◌∷◌, ◌++◌}
 use Prim.Native.Nat.{ℕ, zero, suc, ◌+◌, ◌-◌, ◌/◌, ◌%◌, ◌^◌, ◌≤◌, ◌<◌}

@@ -1,7 +1,6 @@
 -- `iwadare::code::code`: a refusal, or a step that is taken. Assumes nothing.
 use mathlib.Core.Path.{◌≡◌, sym, ap, ◌∙◌}
 use native.Mathlib.Omega.{arith}
-use borrow.Author.Rules.{rules}
 use Rattle.link.specs.declared.code.CodeAnswer.TheVariants.{Coded, Refused}
 use Rattle.iwadare.specs.Refusals.{coder_fault}
 use Rattle.iwadare.proofs.Coder.{code-refuses, codes, codes-so, coder-taken, coded-below}

@@ -1,7 +1,6 @@
 -- `iwadare::decode::decode`: a refusal, or a step that is taken. Assumes nothing.
 use mathlib.Core.Path.{◌≡◌, sym, ◌∙◌}
 use native.Mathlib.Omega.{arith}
-use borrow.Author.Rules.{rules}
 use Rattle.iwadare.specs.declared.decode.DecodeAnswer.TheVariants.{Refused}
 use Rattle.iwadare.specs.Refusals.{decoder_fault}
 use Rattle.iwadare.proofs.Decoder.{decode-refuses, decodes, decodes-so}

@@ -1,8 +1,5 @@
-use mathlib.Core.Path.{◌≡◌, ap, ◌∙◌}
-use Prim.Native.Nat.{◌-◌, ◌≤◌}
+use mathlib.Core.Path.{ap, ◌∙◌}
 use native.Mathlib.Omega.{arith}
-use borrow.Author.Rules.{rules}
-use lib.Dec.{leb}
 use Rattle.link.specs.Refusals.{some_above}
 use Rattle.link.proofs.Malformed.{above-none, above-or}
 use Rattle.iwadare.proofs.decode.delayed_above.Goals as goal

@@ -1,12 +1,9 @@
 -- `iwadare::decode::delayed_above`: the ones of the first i delayed blocks together are above the bound exactly if one
 -- of them is. Assumes nothing.
-use mathlib.Core.Path.{◌≡◌, ap, ◌∙◌}
+use mathlib.Core.Path.{◌≡◌}
 use Prim.Native.Nat.{◌-◌, ◌≤◌}
-use native.Mathlib.Omega.{arith}
-use borrow.Author.Rules.{rules}
 use lib.Dec.{leb}
 use Rattle.link.specs.Refusals.{some_above}
-use Rattle.link.proofs.Malformed.{above-none, above-or}
 use Rattle.iwadare.proofs.decode.delayed_above.Given as goal
 
 abbrev pub invariant-loop-i : goal.invariant-loop-i

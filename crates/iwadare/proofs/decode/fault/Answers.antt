@@ -1,7 +1,6 @@
 -- `iwadare::decode::fault`: the tests of 13 to 15 in their order. Assumes nothing.
 use mathlib.Core.Path.{◌≡◌, refl, sym, ◌∙◌}
 use mathlib.Core.Bool.{Bool, true, false, cond}
-use borrow.Author.Rules.{rules}
 use borrow.Author.Tests.{ne_eqb, le-leb, lt-leb}
 use lib.Dec.{leb}
 use Rattle.iwadare.specs.Memory.{decoder_words, received_bound}

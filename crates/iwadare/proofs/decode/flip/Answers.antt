@@ -1,7 +1,6 @@
 -- `iwadare::decode::flip`: exclusive or with zero changes nothing. Assumes nothing.
 use mathlib.Core.Path.{sym, ap, ◌∙◌}
 use Prim.Native.Nat.{ℕ}
-use borrow.Author.Rules.{rules}
 use lib.ListN.{get_or, set}
 use lib.Seq.{set-get_or}
 use Rattle.span.specs.Word.{◌⊕◌}

@@ -1,6 +1,5 @@
 -- `iwadare::decode::malformed`: fill, pending word, terms, and then the delayed blocks. Assumes nothing.
 use mathlib.Core.Path.{◌∙◌}
-use borrow.Author.Rules.{rules}
 use borrow.Author.Tests.{lt-ltb, le-ltb, le-leb, lt-leb}
 use Rattle.iwadare.proofs.decode.malformed.Goals as goal
 
