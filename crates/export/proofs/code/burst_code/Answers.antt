@@ -1,6 +1,5 @@
 -- `export::code::burst_code`: the step of the table of the numbers. Assumes nothing.
 use mathlib.Core.Path.{ap, ◌∙◌}
-use borrow.Author.Rules.{rules}
 use lib.ListN.{drop}
 use Rattle.tables.specs.declared.table.Table.{Table}
 use Rattle.export.specs.Answers.{coded_of}

@@ -1,7 +1,5 @@
 -- `export::code::step`: the part of the numbers that is lent is the rows. Assumes nothing.
 use mathlib.Core.Path.{subst}
-use native.Mathlib.Omega.{arith}
-use borrow.Author.Rules.{rules}
 use Rattle.tables.specs.declared.table.Table.{Table}
 use Rattle.link.specs.Coder.{Codes}
 use Rattle.export.proofs.Lent.{rows-lent}

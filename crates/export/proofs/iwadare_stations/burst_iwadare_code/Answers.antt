@@ -1,6 +1,5 @@
 -- `export::iwadare_stations::burst_iwadare_code`: the answer's numbers. Assumes nothing.
 use mathlib.Core.Path.{ap, ◌∙◌}
-use borrow.Author.Rules.{rules}
 use Rattle.export.specs.Answers.{coded_of}
 use Rattle.export.proofs.iwadare_stations.burst_iwadare_code.Goals as goal
 

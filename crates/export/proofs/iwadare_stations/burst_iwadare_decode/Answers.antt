@@ -1,6 +1,5 @@
 -- `export::iwadare_stations::burst_iwadare_decode`: the answer's numbers. Assumes nothing.
 use mathlib.Core.Path.{ap, ◌∙◌}
-use borrow.Author.Rules.{rules}
 use Rattle.export.specs.Answers.{iwadare_decoded_of}
 use Rattle.export.proofs.iwadare_stations.burst_iwadare_decode.Goals as goal
 

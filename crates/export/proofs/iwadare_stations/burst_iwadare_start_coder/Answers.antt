@@ -1,6 +1,5 @@
 -- `export::iwadare_stations::burst_iwadare_start_coder`: the answer's number. Assumes nothing.
 use mathlib.Core.Path.{ap, ◌∙◌}
-use borrow.Author.Rules.{rules}
 use Rattle.export.specs.Answers.{number_of}
 use Rattle.export.proofs.iwadare_stations.burst_iwadare_start_coder.Goals as goal
 

@@ -1,6 +1,5 @@
 -- `export::make::burst_make`: number and table of what making answers. Assumes nothing.
 use mathlib.Core.Path.{ap, ◌∙◌}
-use borrow.Author.Rules.{rules}
 use Rattle.tables.specs.declared.make.Making.{Making}
 use Rattle.tables.specs.Made.{made_numbers}
 use Rattle.export.specs.Numbers.{given_back}

@@ -1,6 +1,5 @@
 -- `export::read::burst_read`: the numbers of what is read, and its table. Assumes nothing.
 use mathlib.Core.Path.{ap, ◌∙◌}
-use borrow.Author.Rules.{rules}
 use Rattle.tables.specs.declared.read.Reading.{Reading}
 use Rattle.tables.specs.Reading.{read_numbers}
 use Rattle.export.specs.Answers.{reading_of}

@@ -1,6 +1,5 @@
 -- `export::start::burst_start_decoder`: the start of the table of the numbers. Assumes nothing.
 use mathlib.Core.Path.{ap, ◌∙◌, subst}
-use borrow.Author.Rules.{rules}
 use Rattle.tables.specs.declared.table.Table.{Table}
 use Rattle.link.specs.Memory.{decoder_words}
 use Rattle.export.specs.Answers.{number_of}

@@ -1,6 +1,5 @@
 -- `export::table::give_back`: refused or not. Assumes nothing.
 use mathlib.Core.Path.{sym, ◌∙◌}
-use borrow.Author.Rules.{rules}
 use Rattle.export.proofs.Numbers.{given_back_lem}
 use Rattle.export.proofs.table.give_back.Goals as goal
 

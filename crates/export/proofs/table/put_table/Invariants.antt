@@ -1,13 +1,8 @@
 -- `export::table::put_table`: after i turns the sizes and the first i rows stand. Assumes nothing.
-use mathlib.Core.Path.{◌≡◌, refl, sym, ◌∙◌}
-use Prim.Native.Nat.{ℕ, ◌+◌, ◌-◌, ◌≤◌}
-use native.Mathlib.Omega.{arith}
-use borrow.Author.Rules.{rules}
-use lib.ListN.{length, get_or, take, length-set}
-use lib.Seq.{get_or-drop}
-use Rattle.tables.specs.declared.table.Table.{Table}
+use mathlib.Core.Path.{◌≡◌}
+use Prim.Native.Nat.{◌+◌, ◌-◌, ◌≤◌}
+use lib.ListN.{length, take}
 use Rattle.export.specs.Numbers.{numbers_of}
-use Rattle.export.proofs.Copy.{one_more, all_of}
 use Rattle.export.proofs.table.put_table.Given as goal
 
 abbrev pub invariant-loop-i : goal.invariant-loop-i

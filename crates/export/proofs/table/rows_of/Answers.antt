@@ -1,8 +1,7 @@
 use mathlib.Core.Path.{◌≡◌, refl, sym, ap, ◌∙◌}
-use Prim.Native.Nat.{ℕ, ◌+◌, ◌-◌, ◌≤◌}
+use Prim.Native.Nat.{ℕ, ◌+◌, ◌-◌}
 use native.Mathlib.Omega.{arith}
-use borrow.Author.Rules.{rules}
-use lib.ListN.{length, get_or, take, drop, length-set, length-drop}
+use lib.ListN.{length, get_or, drop, length-set, length-drop}
 use lib.Seq.{get_or-drop}
 use Rattle.export.proofs.Copy.{one_more, all_of}
 use Rattle.export.proofs.table.rows_of.Goals as goal

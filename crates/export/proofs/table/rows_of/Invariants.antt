@@ -1,11 +1,7 @@
 -- `export::table::rows_of`: after i turns the first i rows stand. Assumes nothing.
-use mathlib.Core.Path.{◌≡◌, refl, sym, ap, ◌∙◌}
-use Prim.Native.Nat.{ℕ, ◌+◌, ◌-◌, ◌≤◌}
-use native.Mathlib.Omega.{arith}
-use borrow.Author.Rules.{rules}
-use lib.ListN.{length, get_or, take, drop, length-set, length-drop}
-use lib.Seq.{get_or-drop}
-use Rattle.export.proofs.Copy.{one_more, all_of}
+use mathlib.Core.Path.{◌≡◌}
+use Prim.Native.Nat.{◌-◌, ◌≤◌}
+use lib.ListN.{length, take, drop}
 use Rattle.export.proofs.table.rows_of.Given as goal
 
 abbrev pub invariant-loop-i : goal.invariant-loop-i

@@ -1,6 +1,5 @@
 -- `export::table::sizes_of`: three numbers. Assumes nothing.
 use mathlib.Core.Path.{refl}
-use borrow.Author.Rules.{rules}
 use Rattle.export.specs.Numbers.{sizes_of}
 use Rattle.export.proofs.table.sizes_of.Goals as goal
 

@@ -1,6 +1,5 @@
 -- `export::test_load::burst_load`: the load of the table of the numbers. Assumes nothing.
 use mathlib.Core.Path.{ap, ◌∙◌, subst}
-use borrow.Author.Rules.{rules}
 use Rattle.tables.specs.declared.table.Table.{Table}
 use Rattle.export.specs.Answers.{number_of}
 use Rattle.export.specs.Promises.{LoadsBy}

@@ -5,7 +5,6 @@ use Rattle.tables.specs.declared.write.WriteAnswer.{WriteAnswer}
 use Rattle.tables.specs.Writing.{write_numbers}
 use Rattle.export.specs.Answers.{written_of}
 use Rattle.export.specs.Promises.{WritesBy}
-use borrow.Author.Rules.{rules}
 use Rattle.export.proofs.write.burst_write.Goals as goal
 
 pub returns : goal.returns
