@@ -70,10 +70,11 @@ target/lib/libburst.a: target/staticlib/libexport.a library/text.c include/burst
 	@cp target/staticlib/libexport.a $@
 	@ar r $@ target/lib/text.o
 
+# Its other names are no symbolic links: `rt` refuses these in a repository.
 target/lib/$(SHARED): target/lib/libburst.a
 	@$(CC) $(LDFLAGS) -shared -Wl,-soname,$(SONAME),-z,defs,-z,text -Wl,--whole-archive $< -Wl,--no-whole-archive -o $@
-	@ln -sf $(SHARED) target/lib/$(SONAME)
-	@ln -sf $(SONAME) target/lib/libburst.so
+	@ln -f $@ target/lib/$(SONAME)
+	@ln -f $@ target/lib/libburst.so
 
 tool: target/tool/burst
 tool-sanitized: target/tool/burst-sanitized
