@@ -4,3 +4,4 @@ mod Numbers
 mod Answers
 mod Lent
 mod Laws
+mod Recovery

@@ -3,3 +3,4 @@ pub mod Numbers
 pub mod Answers
 pub mod Promises
 pub mod Laws
+pub mod Recovery

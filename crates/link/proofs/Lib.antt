@@ -53,4 +53,4 @@ mod Reach
 mod Examples
 mod Sharp
 mod Witness
-mod Main
+pub mod Main

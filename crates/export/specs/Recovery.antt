@@ -27,7 +27,7 @@ use Rattle.export.specs.declared.coded.BurstCoded.{BurstCoded}
 use Rattle.export.specs.declared.decoded.BurstDecoded.{BurstDecoded}
 use Rattle.export.specs.Numbers.{table_of}
 use Rattle.export.specs.Answers.{decoded_of}
-use Rattle.export.specs.Promises.{BurstReads, BurstMakes, BurstCodes, BurstDecodes}
+use Rattle.export.specs.Promises.{Reads, MakesTable, CodesBy, DecodesBy}
 
 pub record Called (A : Type 0) : Type 0 where
   -- the numbers of a table, and a block
@@ -51,10 +51,10 @@ Chain promises s (c ∷ cs) =
 
 -- what the two functions promise of each call (`Promises`)
 abbrev pub CodeCalls : List ℕ → List CodeCall → Type 0
-CodeCalls = Chain BurstCodes
+CodeCalls = Chain CodesBy
 
 abbrev pub DecodeCalls : List ℕ → List DecodeCall → Type 0
-DecodeCalls = Chain BurstDecodes
+DecodeCalls = Chain DecodesBy
 
 abbrev pub handed : {A : Type 0} → List (Called A) → List Call
 handed [] = []
@@ -127,7 +127,7 @@ Chained =
 -- "An accepted table is one that reading returned ..; a made table is one that making returned": each with number 0
 abbrev pub OriginTold : Type 0
 OriginTold =
-    ((bytes : List ℕ) (r : BurstReading) (before after : List ℕ) → BurstReads bytes r before after → r.refused ≡ 0
+    ((bytes : List ℕ) (r : BurstReading) (before after : List ℕ) → Reads bytes r before after → r.refused ≡ 0
     → Origin (table_of after))
-    × ((n m : ℕ) (before : List ℕ) (r : ℕ) (after : List ℕ) → BurstMakes n m before r after → r ≡ 0
+    × ((n m : ℕ) (before : List ℕ) (r : ℕ) (after : List ℕ) → MakesTable n m before r after → r ≡ 0
     → Origin (table_of after))

@@ -38,7 +38,7 @@ use Rattle.link.specs.Decoder.{decode_values}
 use Rattle.link.specs.Runs.{Call, Sent, Taken, sent_of, taken_of, run, placed, sent_by, taken_by, sent_at, taken_at}
 use Rattle.link.specs.Runs.{none_sent, none_taken}
 use Rattle.link.proofs.Refusals.{taken-numbers}
-use Rattle.link.proofs.Decoder.{decodes, decode-numbers}
+use Rattle.link.proofs.Decoder.{decodes, decodes-so}
 use Rattle.link.proofs.Runs.{sent_entry, taken_entry}
 use Rattle.link.proofs.Runs as runs
 use Rattle.link.proofs.Main.{link}
@@ -47,7 +47,7 @@ use Rattle.export.specs.declared.coded.BurstCoded.{BurstCoded}
 use Rattle.export.specs.declared.decoded.BurstDecoded.{BurstDecoded}
 use Rattle.export.specs.Numbers.{table_of, numbers_of, given_back}
 use Rattle.export.specs.Answers.{number_of, reading_of, coded_of, decoded_of}
-use Rattle.export.specs.Promises.{BurstCodes, BurstDecodes}
+use Rattle.export.specs.Promises.{CodesBy, DecodesBy}
 use Rattle.export.specs.Recovery.{Called, CodeCall, DecodeCall, Chain, CodeCalls, DecodeCalls, handed, unrefused}
 use Rattle.export.specs.Recovery.{sent_calls, taken_calls, info_at, answer_at}
 use Rattle.export.specs.Recovery.{SentTold, TakenTold, RecoveryTold, GuardEndTold, Chained, OriginTold}
@@ -104,7 +104,7 @@ module _ {A X Y : Type 0} (promises : Table → List ℕ → ℕ → A → List 
 pub sent-told : SentTold
 sent-told s cs h =
     sym (map-id (sent_by s (handed cs)))
-    ∙ chain_run BurstCodes (λ a. a.refused) coder_fault code_memory
+    ∙ chain_run CodesBy (λ a. a.refused) coder_fault code_memory
     (λ t s b a after c. ((code-told t s b a after c).0, c.memory))
     (λ t s b. sent_of t b (code_answer t s b)) sent_entry runs.sent-told (λ x. x)
     (λ c. record { table = table_of c.numbers; info = c.block; block = c.answer.block })
@@ -114,13 +114,13 @@ sent-told s cs h =
     (coded_block (table_of c.numbers) s c.block ∷ []) e)))) s cs h
 
 module _ {Y : Type 0} (seen : Taken → Y) (shown : DecodeCall → Y)
-    (same : (d : DecodeCall) (s : List ℕ) → BurstDecodes (table_of d.numbers) s d.block d.answer d.after
+    (same : (d : DecodeCall) (s : List ℕ) → DecodesBy (table_of d.numbers) s d.block d.answer d.after
     → decoder_fault (table_of d.numbers) s d.block ≡ 0
     → seen (taken_entry (table_of d.numbers) s d.block) ≡ shown d) where
-  taken-run : (s : List ℕ) (ds : List DecodeCall) → Chain BurstDecodes s ds
+  taken-run : (s : List ℕ) (ds : List DecodeCall) → Chain DecodesBy s ds
       → map seen (taken_by s (handed ds)) ≡ map shown (taken_calls ds)
   taken-run =
-      chain_run BurstDecodes (λ a. a.refused) decoder_fault decode_memory
+      chain_run DecodesBy (λ a. a.refused) decoder_fault decode_memory
       (λ t s b a after d. ((decode-told t s b a after d).0, d.memory))
       (λ t s r. taken_of t r (decode_answer t s r)) taken_entry runs.taken-told seen shown same
 
@@ -132,7 +132,7 @@ taken-told s ds h = (
       (λ d s k e.
       let t = table_of d.numbers in
       ap (λ (a : DecodeAnswer). decoded_of (decode_numbers a)) (decodes t s d.block e).0
-      ∙ ap decoded_of (decode-numbers t s d.block) ∙ sym k.answer) s ds h,
+      ∙ ap decoded_of (decodes-so t s d.block _ _ refl refl).numbers ∙ sym k.answer) s ds h,
 )
 
 -- ---- and a run is a chain
@@ -167,9 +167,9 @@ module _ {A : Type 0} (promises : Table → List ℕ → ℕ → A → List ℕ 
 
 pub chained : Chained
 chained s cs = (
-  chain-of BurstCodes (λ t s b. coded_of (call_numbers (coder_fault t s b) (coded_block t s b ∷ []))) code_memory
+  chain-of CodesBy (λ t s b. coded_of (call_numbers (coder_fault t s b) (coded_block t s b ∷ []))) code_memory
       (λ t s b. record { answer = refl; memory = refl }) s cs,
-  chain-of BurstDecodes (λ t s r. decoded_of (call_numbers (decoder_fault t s r) (decode_values t s r))) decode_memory
+  chain-of DecodesBy (λ t s r. decoded_of (call_numbers (decoder_fault t s r) (decode_values t s r))) decode_memory
       (λ t s r. record { answer = refl; memory = refl }) s cs,
 )
 
