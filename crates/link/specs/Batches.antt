@@ -39,9 +39,9 @@ decoded_by = run decode_memory (λ t s r. decode_entries (decode_answer t s r))
 
 -- Single calls have taken the first k blocks, each of them, and there was room for these; "with a block still to take,
 -- the output is full or the next single call would be refused".
-pub record Ends (filledBy : List ℕ → List ℕ) (refused : List ℕ → ℕ → Type 0) (room : ℕ) (bs : List ℕ) (k : ℕ)
+pub record Ends (filled_by : List ℕ → List ℕ) (refused : List ℕ → ℕ → Type 0) (room : ℕ) (bs : List ℕ) (k : ℕ)
     : Type 0 where
-  pub taken : length (filledBy (take k bs)) ≡ k
+  pub taken : length (filled_by (take k bs)) ≡ k
   pub fits : k ≤ room
   pub left : k < length bs
   pub why : (k ≡ room) ⊎ refused (take k bs) (get_or bs k 0)

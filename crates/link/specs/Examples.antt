@@ -32,7 +32,7 @@ pub data Example : Type 0 where
   accepts : List ℕ → Table → Example
   refuses : List ℕ → ℕ → ℕ → Example
   clashes : List ℕ → ℕ → ℕ → ℕ → Example
-  clashes-first : List ℕ → ℕ → ℕ → ℕ → Example
+  clashes_first : List ℕ → ℕ → ℕ → ℕ → Example
   makes : ℕ → List ℕ → Example
   codes : List ℕ → List ℕ → List ℕ → List CodeAnswer → Example
   decodes : List ℕ → List ℕ → List ℕ → List DecodeAnswer → Example
@@ -49,7 +49,7 @@ Holds (refuses bytes k p) = ReadsAs bytes (k ∷ p ∷ []) zero_table
 Holds (clashes bytes l e0 e1) =
     (t : Table) × (parse bytes ≡ parsed t) × Clashes t.span (rows_of t) l e0 e1
     × (get_or (read_numbers (reading bytes).answer) 0 0 ≡ 10) × ((reading bytes).table ≡ zero_table)
-Holds (clashes-first bytes l e0 e1) = ReadsAs bytes (10 ∷ l ∷ e0 ∷ e1 ∷ []) zero_table
+Holds (clashes_first bytes l e0 e1) = ReadsAs bytes (10 ∷ l ∷ e0 ∷ e1 ∷ []) zero_table
 Holds (makes n rows) = making n 1 ≡ record { answer = Made; table = table n (2 * n) 1 (rows ++ replicate (16 - n) 0) }
 Holds (codes bytes s bs cs) =
     (t : Table) × ReadsAs bytes (0 ∷ []) t × (answers_by code_answer code_memory s (calls t bs) ≡ cs)
@@ -82,7 +82,7 @@ examples =
     ∷ refuses (1 ∷ []) 3 0
     ∷ refuses (1 ∷ 17 ∷ 4 ∷ 1 ∷ []) 5 0
     -- T6: n = 2, N = 4, row 2: no other triple shows it
-    ∷ clashes-first ((1 ∷ 2 ∷ 4 ∷ 1 ∷ []) ++ row 1 2 0 ++ (0 ∷ [])) 1 1 2
+    ∷ clashes_first ((1 ∷ 2 ∷ 4 ∷ 1 ∷ []) ++ row 1 2 0 ++ (0 ∷ [])) 1 1 2
     -- T7: n = 3, N = 6, rows 56, 34 (000, example 2)
     ∷ accepts ((1 ∷ 3 ∷ 6 ∷ 1 ∷ []) ++ row 1 56 0 ++ row 2 34 0 ++ (0 ∷ [])) (table 3 6 1 (56 ∷ 34 ∷ replicate 13 0))
     -- T8
@@ -104,8 +104,8 @@ examples =
     ∷ delivers 0 (Parity 2) ∷ delivers 0 Clean ∷ [])
     -- 02, CR 5: "For rows 976, 904, 772, 514 that is l = 2, e0 = 7, e1 = 29. For n = 2, N = 4, row 1 it is l = 1,
     -- e0 = 3, e1 = 0."
-    ∷ clashes-first bytes_of_t9 2 7 29
-    ∷ clashes-first ((1 ∷ 2 ∷ 4 ∷ 1 ∷ []) ++ row 1 1 0 ++ (0 ∷ [])) 1 3 0
+    ∷ clashes_first bytes_of_t9 2 7 29
+    ∷ clashes_first ((1 ∷ 2 ∷ 4 ∷ 1 ∷ []) ++ row 1 1 0 ++ (0 ∷ [])) 1 3 0
     ∷ []
 
 abbrev pub ExamplesLaw : Type 0

@@ -14,17 +14,17 @@ use Rattle.tables.specs.Triangle.{OurTriangle, MadeLaw, MadeWholeLaw, NestedRows
 use Rattle.tables.specs.Triangle.{NotUnique}
 
 pub record Tables : Type 0 where
-  -- demand 1: a refusal is the first that applies; those of 1 to 9 have their number and a place in the bytes; and 12
-  -- applies to the zero table, which stands beside each refusal of reading and making
+  -- a refusal is the first that applies; those of 1 to 9 have their number, a place in the bytes and the zero table; and
+  -- 12 applies to that table
   pub first_applies : FirstApplies
   pub first_none : FirstNone
   pub refused_range : RefusedRange
   pub refused_place : RefusedPlace
   pub refused_numbers : RefusedNumbers
   pub zero_unfit : ZeroUnfit
-  -- demand 2, what bytes say: a table, exactly if they are its sizes, its rows in some order, and the end
+  -- what bytes say: a table, exactly if they are its sizes, its rows in some order, and the end
   pub parses_exactly : ParsesExactly
-  -- demand 2, what is accepted: suitable tables, and all of them; an unsuitable one is refused for 10
+  -- what is accepted: suitable tables, and all of them; an unsuitable one is refused for 10
   pub accepted_suitable : AcceptedSuitable
   pub suitable_accepted : SuitableAccepted
   pub refused_unsuitable : RefusedUnsuitable
@@ -35,7 +35,7 @@ pub record Tables : Type 0 where
   pub no_clash : NoClash
   pub clash_zero : ClashZero
   pub judged : Judged
-  -- demand 2, the tables that we make: fit and suitable, of our triangle, where each size extends the one below, and
+  -- the tables that we make: fit and suitable, of our triangle, where each size extends the one below, and
   -- whose columns are forced one after another
   pub our_triangle : OurTriangle
   pub made : MadeLaw
