@@ -1,13 +1,13 @@
 -- The struct of numbers of an answer, made of the papers' numbers, which the crates below name: `read_numbers`,
 -- `write_numbers`, `made_numbers`, `load_numbers` and `call_numbers`. What does not apply is 0.
 --
---   number_of ns       the refusal's number, or 0
---   coded_of ns        of a coder's step: number, block
---   decoded_of ns      of a decoder's step: number, information, the mark's number, e or 0
+--   number_of ns    the refusal's number, or 0
+--   coded_of ns     of a coder's step: number, block
+--   decoded_of ns   of a decoder's step: number, information, the mark's number, e or 0
 --   iwadare_decoded_of ns   of that of the Iwadare-Massey stations: number, 1 if a block is delivered, its information
---   reading_of ns      of reading: number; the place of refusals 1 to 9; l, e0 and e1 of 10
---   written_of ns      of writing: number; how many bytes were written; l, e0 and e1 of 10
---   MarkRange        a mark's number is at most 5
+--   reading_of ns   of reading: number; the place of refusals 1 to 9; l, e0 and e1 of 10
+--   written_of ns   of writing: number; how many bytes were written; l, e0 and e1 of 10
+--   MarkRange       a mark's number is at most 5
 use Rattle.std.specs.Prelude.{List, [], ◌∷◌, ℕ, ◌≤◌, get_or}
 use Rattle.link.specs.declared.decode.DecodeAnswer.{DecodeAnswer}
 use Rattle.link.specs.Decoder.{decode_numbers}

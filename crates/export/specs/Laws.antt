@@ -1,22 +1,22 @@
 -- What the numbers tell a caller, of the promises in `Promises`.
 --
---   ReadToldLaw     reading: number 0 says that the bytes say a suitable table, which is given back; any other, that no
---                 number was written, and the place, or the triple, is the refusal's; the triple is the first
---   ReadTold      what a reading tells
---   WriteToldLaw    writing: number 0 says that the table is fit and suitable, and its bytes were written; any other is
---                 the first of 12, 10 and 16 that applies, and nothing was written
---   WriteTold     what a writing tells
---   StoredBack   what was written, read, gives the same n, N, m and rows 1 to n − 1, and zeros for the other rows
---   MadeTold     making: number 0 says that n and m are in range, and our suitable table is given back; any other is
---                 11, and no number was written
---   StartTold    a start: number 0 says that every word is 0; any other is the first of 12 and 13 that applies, and no
---                 word was written
+--   ReadToldLaw    reading: number 0 says that the bytes say a suitable table, which is given back; any other, that no
+--                  number was written, and the place, or the triple, is the refusal's; the triple is the first
+--   ReadTold       what a reading tells
+--   WriteToldLaw   writing: number 0 says that the table is fit and suitable, and its bytes were written; any other is
+--                  the first of 12, 10 and 16 that applies, and nothing was written
+--   WriteTold      what a writing tells
+--   StoredBack     what was written, read, gives the same n, N, m and rows 1 to n − 1, and zeros for the other rows
+--   MadeTold       making: number 0 says that n and m are in range, and our suitable table is given back; any other is
+--                  11, and no number was written
+--   StartTold      a start: number 0 says that every word is 0; any other is the first of 12 and 13 that applies, and no
+--                  word was written
 --   CodeTold, DecodeTold   a step: number 0 comes with the values of the step, any other, the first of 12 to 15 that
---                 applies, with zeros, and then no word was written
---   LoadTold     filling a load: number 0 says that the lent blocks are the load; any other is the first of 12 and 17
---                 that applies, and no block was written
+--                  applies, with zeros, and then no word was written
+--   LoadTold       filling a load: number 0 says that the lent blocks are the load; any other is the first of 12 and 17
+--                  that applies, and no block was written
 --   IwadareStartTold, IwadareCodeTold, IwadareDecodeTold   starts and steps of the Iwadare-Massey stations: the
---                 same, where 13 is the first number
+--                  same, where 13 is the first number
 use Rattle.std.specs.Prelude.{◌≡◌, true, false, cond, ◌≢◌, List, [], ◌∷◌, ◌++◌, ℕ, ◌-◌, ◌*◌, ◌≤◌, ◌<◌, length, get_or, take, drop}
 use Rattle.tables.specs.declared.table.Table.{Table}
 use Rattle.tables.specs.Code.{Suitable}

@@ -1,11 +1,11 @@
 -- A table as 18 numbers: n, N, m, then rows 1 to 15. Row n is 1 always and is not among them.
 --
---   table_of ns     the table of these numbers; numbers out of range are 12's matter
---   sizes_of ns     the same with rows of 0
---   numbers_of t    the numbers of a table
+--   table_of ns    the table of these numbers; numbers out of range are 12's matter
+--   sizes_of ns    the same with rows of 0
+--   numbers_of t   the numbers of a table
 --   given_back k t before   what a call leaves of the numbers lent for a table: a refusal, k not 0, leaves them as they
 --                          were
---   TableBack     a table that is given back, handed in again, is that table
+--   TableBack      a table that is given back, handed in again, is that table
 use Rattle.std.specs.Prelude.{◌≡◌, cond, List, ◌∷◌, ℕ, eqb, get_or, drop, replicate}
 use Rattle.tables.specs.declared.table.Table.{Table}
 use Rattle.tables.specs.Table.{table}

@@ -1,10 +1,10 @@
 -- The premises of correction and recovery of runs that are computed: tests of each bit and each block, and what they
 -- say. Assumes nothing.
 --
---   Ends, burst_so                               a stretch with a wrong bit at both ends
---   covers sent taken chosen count, bursts_so    every wrong bit lies in a chosen stretch
---   starts-right sent taken right, right_so      the first blocks are right
---   delivery-same                                two deliveries that are the same
+--   Ends, burst_so                              a stretch with a wrong bit at both ends
+--   covers sent taken chosen count, bursts_so   every wrong bit lies in a chosen stretch
+--   starts-right sent taken right, right_so     the first blocks are right
+--   delivery-same                               two deliveries that are the same
 use mathlib.Core.Path.{◌≡◌, refl, sym, ap, ◌∙◌}
 use mathlib.Core.Bool.{Bool, true, false, not, cond, ◌&&◌, ◌||◌, true≢false}
 use mathlib.Core.Logic.{inl, inr}

@@ -1,11 +1,11 @@
 -- Runs of coder and decoder: the wrong bits of what was taken are those of the error blocks, and once the decoder on
 -- errors alone is quiet every delivery is what was sent. Assumes nothing.
 --
---   linked           the two runs, in step
---   spread           where the wrong bits lie
---   right_at         a place at which the errors deliver zero
---   right_from       from a place on at which the errors have settled, every delivery is right
---   started-quiet    started memories have settled
+--   linked          the two runs, in step
+--   spread          where the wrong bits lie
+--   right_at        a place at which the errors deliver zero
+--   right_from      from a place on at which the errors have settled, every delivery is right
+--   started-quiet   started memories have settled
 --   correction_ten, correction   the theorems
 use mathlib.Core.Path.{◌≡◌, sym, ap, ap₂, ◌∙◌}
 use mathlib.Core.Logic.{◌≢◌, ◌⊎◌, inl, inr}

@@ -1,12 +1,12 @@
 -- The decoder's step: its refusals, and what the tests of a step that is taken say. Assumes nothing.
 --
---   decoder-fault                 the chain of tests
+--   decoder-fault                  the chain of tests
 --   decode-refuses, decodes, decodes-so   answer and memory of a step that is refused and of one that is not, and the
---                                 promise
---   delivery-numbers              the numbers of a step that is taken
---   formed-passed                 what 13 and 14 let pass
---   DecoderTaken, decoder-taken   what the tests of a step that is taken say
---   register_lt, delivered-below  the 13 terms are below 2^13, and the information that is delivered below 4
+--                                  promise
+--   delivery-numbers               the numbers of a step that is taken
+--   formed-passed                  what 13 and 14 let pass
+--   DecoderTaken, decoder-taken    what the tests of a step that is taken say
+--   register_lt, delivered-below   the 13 terms are below 2^13, and the information that is delivered below 4
 use mathlib.Core.Path.{◌≡◌, refl, ap, ◌∙◌}
 use mathlib.Core.Bool.{Bool, true, false, cond, not, ◌||◌}
 use mathlib.Core.List.{List, [], ◌∷◌}

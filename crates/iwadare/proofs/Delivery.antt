@@ -2,8 +2,8 @@
 -- there, and moves to number 0. Assumes nothing.
 --
 --   answers_complete, answers-waiting   what is answered, by the fill
---   kept, flipped-once, oldest  a block on its way
---   waiting, deliveries         the theorems
+--   kept, flipped-once, oldest   a block on its way
+--   waiting, deliveries          the theorems
 use mathlib.Core.Path.{◌≡◌, refl, sym, ap, ap₂, ◌∙◌}
 use mathlib.Core.Bool.{Bool, cond}
 use mathlib.Core.List.{List}

@@ -1,13 +1,13 @@
 -- Coder and decoder together, as sequences: the decoder on what was taken is the decoder on the errors alone, with the
 -- information sent added to its delayed blocks (000, eq. 3, and both are linear). Assumes nothing.
 --
---   Linked                 coder and decoder in step, and where the wrong bits lie
---   errors                 the error blocks; past the last block that was taken there are none
---   error_memory            the memory of the decoder on errors alone
+--   Linked         coder and decoder in step, and where the wrong bits lie
+--   errors         the error blocks; past the last block that was taken there are none
+--   error_memory   the memory of the decoder on errors alone
 --   error_first, error_next   its first memory, and the step to each later one
 --   FirstFormed, first_formed   the first has its bounds
 --   errors_below, errors_bit   a wrong bit of an error block is one of a taken block
---   delivers               where it delivers zero, the decoder delivers what was sent
+--   delivers       where it delivers zero, the decoder delivers what was sent
 use mathlib.Core.Path.{◌≡◌, refl, sym, ap, ap₂, ◌∙◌, subst}
 use mathlib.Core.Bool.{Bool, true, cond, xor, true≢false}
 use mathlib.Core.Logic.{◌≢◌}

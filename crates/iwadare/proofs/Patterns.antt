@@ -3,16 +3,16 @@
 -- them leaves one bit of the last, bit 1 two, and bit 2 all three. Each of these 1,536 patterns, followed by 18 right
 -- blocks, delivers zeros only and ends in the same memory. Assumes nothing.
 --
---   quiet                 that memory
+--   quiet               that memory
 --   quiet_next, quiet-delivers   a right block leaves it
---   settles s es          from s on, the blocks es deliver zeros only and end in the quiet memory
---   calm                  18 right blocks
---   goes rest s e         the block e delivers zero, settles with the calm after it if it is wrong, and then the rest
---                         holds
---   patterns s bounds     so does each list of blocks below these bounds that ends with a wrong one, and the calm
---   room_of e              what the fourth block is below, after a first block e
---   tested e              the test of all bursts with the first block e
---   computed              it holds of all of them
+--   settles s es        from s on, the blocks es deliver zeros only and end in the quiet memory
+--   calm                18 right blocks
+--   goes rest s e       the block e delivers zero, settles with the calm after it if it is wrong, and then the rest
+--                       holds
+--   patterns s bounds   so does each list of blocks below these bounds that ends with a wrong one, and the calm
+--   room_of e           what the fourth block is below, after a first block e
+--   tested e            the test of all bursts with the first block e
+--   computed            it holds of all of them
 use mathlib.Core.Path.{◌≡◌, refl, ap₂}
 use mathlib.Core.Bool.{Bool, true, false, cond, xor, ◌&&◌, ◌||◌}
 use mathlib.Core.Logic.{◌≢◌}

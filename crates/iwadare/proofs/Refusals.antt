@@ -1,7 +1,7 @@
 -- The first of refusals 13 to 15 that applies to a step, as a chain of tests, and what the tests of a step that is
 -- taken say. Assumes nothing.
 --
---   step_fault_lem            the chain
+--   step_fault_lem        the chain
 --   step_settled          the same once 13 is settled
 --   Passed, step_passed   what no refusal says
 use mathlib.Core.Path.{◌≡◌, ap, ◌∙◌}

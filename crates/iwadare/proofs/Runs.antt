@@ -1,10 +1,10 @@
 -- The steps of runs that are taken, as sequences: place p counts from 0, and the memory before it is that which the
 -- step before it left. Assumes nothing.
 --
---   CoderRun, DecoderRun      the steps of a run, each on its memory
---   coded, decoded            the runs of coder and decoder are such
---   told_place                anything told of the decoder's steps
---   refused_skipped           a run with a refused step in it
+--   CoderRun, DecoderRun   the steps of a run, each on its memory
+--   coded, decoded         the runs of coder and decoder are such
+--   told_place             anything told of the decoder's steps
+--   refused_skipped        a run with a refused step in it
 use mathlib.Core.Path.{◌≡◌, refl, sym, ap, ◌∙◌, subst}
 use mathlib.Core.Bool.{Bool, true, false, cond}
 use mathlib.Core.List.{List, [], ◌∷◌, ◌++◌, map-append}

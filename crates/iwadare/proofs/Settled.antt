@@ -2,10 +2,10 @@
 -- most 10 bits with at least 56 right ones between. Once the memory is quiet every block delivers zero. Assumes
 -- nothing.
 --
---   Spread              how wrong bits lie
---   ErrorRun            the memories of such a decoder
---   some-bit            a wrong block has a wrong bit
---   quiet_on            the theorem
+--   Spread     how wrong bits lie
+--   ErrorRun   the memories of such a decoder
+--   some-bit   a wrong block has a wrong bit
+--   quiet_on   the theorem
 use mathlib.Core.Path.{◌≡◌, refl, sym, ap, ap₂, ◌∙◌, subst}
 use mathlib.Core.Bool.{Bool, true, false}
 use mathlib.Core.Logic.{◌≢◌, ◌⊎◌, inl, inr}

@@ -1,11 +1,11 @@
 -- What a step that is taken does to each word, and the laws of the decoder's terms. Delayed block i, the oldest first,
 -- stands at word 3 + i. Assumes nothing.
 --
---   CoderStep, coder-step         what a coder's step does
---   delayed                       a delayed block
---   DecoderStep, decoder_step     what a decoder's step does
+--   CoderStep, coder-step       what a coder's step does
+--   delayed                     a delayed block
+--   DecoderStep, decoder_step   what a decoder's step does
 --   no_flip_symbol1, no_flip_symbol0, terms_quiet   where the newest term is 0 nothing is flipped
---   terms-lt                      the terms stay below 2^12
+--   terms-lt                    the terms stay below 2^12
 use mathlib.Core.Path.{◌≡◌, refl, sym, ap, ap₂, ◌∙◌}
 use mathlib.Core.Bool.{Bool, true, false, ◌&&◌}
 use mathlib.Core.Logic.{◌≢◌}

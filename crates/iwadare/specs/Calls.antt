@@ -2,9 +2,9 @@
 -- refused.
 --
 --   IwadareRefusedCalls   a refused call has the number of the first reason that applies, and leaves every lent word
---                           as it was
+--                         as it was
 --   IwadareTakenCalls     where no reason applies a call is not refused
---   IwadareBelow           a coded block is below 8, and what is delivered below 4
+--   IwadareBelow          a coded block is below 8, and what is delivered below 4
 use Rattle.std.specs.Prelude.{◌≡◌, List, ℕ, ◌≤◌, ◌<◌}
 use Rattle.link.specs.declared.start.StartAnswer.{StartAnswer}
 use Rattle.link.specs.declared.start.StartAnswer.TheVariants.{Started, Refused as StartRefused}

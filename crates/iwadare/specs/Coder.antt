@@ -1,9 +1,9 @@
 -- The coder's step: 02, CR 6. The word that joins is formed as in 01 (`joining` of `link`).
 --
---   coder_joining           the word w of a step
---   coded_block, coder_next  the coded block, and the memory after a step that is taken
+--   coder_joining             the word w of a step
+--   coded_block, coder_next   the coded block, and the memory after a step that is taken
 --   code_answer, code_memory answer and memory of any step
---   Codes                  what `code` promises
+--   Codes                     what `code` promises
 use Rattle.std.specs.Prelude.{◌≡◌, List, [], ◌∷◌, ℕ, ◌+◌, ◌*◌, ◌^◌, set}
 use Rattle.span.specs.Word.{odd, digit}
 use Rattle.link.specs.declared.code.CodeAnswer.{CodeAnswer}

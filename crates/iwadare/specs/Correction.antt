@@ -2,12 +2,12 @@
 -- runs, are all corrected in the information." One claim about the whole lists of steps, refused ones anywhere in them.
 -- Bursts are those of 01, "After a fade" (`Bursts` of `link`), of bits in place of blocks.
 --
---   WrongBit sent taken q      bit q was taken otherwise than it was sent
+--   WrongBit sent taken q     bit q was taken otherwise than it was sent
 --   BitBursts long gap sent taken   wrong bits lie in bursts of at most `long` bits, at least `gap` right ones between
 --   Corrected sent taken p     the step at place p delivers the information that was sent 18 places before
---   CorrectionWith long gap    the claim, with these numbers
+--   CorrectionWith long gap   the claim, with these numbers
 --   IwadareCorrection         02's: 9 and 56
---   IwadareCorrectionTen     more than 02 and 001 say: 10 and 56
+--   IwadareCorrectionTen      more than 02 and 001 say: 10 and 56
 use Rattle.std.specs.Prelude.{◌≡◌, ◌≢◌, List, ℕ, ◌-◌, ◌*◌, ◌≤◌, ◌<◌, length}
 use Rattle.link.specs.Memory.{started}
 use Rattle.link.specs.Recovery.{Bursts}

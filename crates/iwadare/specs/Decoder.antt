@@ -1,18 +1,18 @@
 -- The decoder's step: 02, CR 6. Its 13 terms are the newest, which is bit 12, and the 12 before it: bit 12 − k is the
 -- term k before the newest.
 --
---   decoder_joining, raw_of    the word w of a step, and its raw term
+--   decoder_joining, raw_of   the word w of a step, and its raw term
 --   register_of s r           the 13 terms
 --   flips_symbol1 x, flips_symbol0 x   whether these terms flip symbol 1 of the block 15 back, and symbol 0 of the block
---                            18 back
---   matched x                the two ones that a flip matched
+--                             18 back
+--   matched x                 the two ones that a flip matched
 --   terms_next x              the last 12 terms after the step
 --   decoder_next              the memory after a step that is taken
---   delivered, delivery      the information that such a step delivers, and its answer
+--   delivered, delivery       the information that such a step delivers, and its answer
 --   decode_answer, decode_memory   answer and memory of any step
 --   decode_numbers            the numbers of an answer
 --   decode_values             the values of a step that is taken
---   Decodes                  what `decode` promises
+--   Decodes                   what `decode` promises
 use Rattle.std.specs.Prelude.{◌≡◌, Bool, cond, not, ◌&&◌, List, [], ◌∷◌, ◌++◌, ℕ, ◌+◌, ◌/◌, ◌^◌, ltb, set, drop}
 use Rattle.span.specs.Word.{◌⊕◌, bit, sel}
 use Rattle.link.specs.Memory.{joining, next_pending}

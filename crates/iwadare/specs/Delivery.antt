@@ -2,8 +2,8 @@
 -- taken; before that the answer is "nothing yet"." Which block a delivery is of, over runs from any memory.
 --
 --   register_at s rs p   the 13 terms of the step at place p, counted from 1
---   IwadareWaiting     until the fill is complete nothing is delivered
---   IwadareDelivery    past the eighteenth place the block 18 back is delivered as received, with its two flips
+--   IwadareWaiting       until the fill is complete nothing is delivered
+--   IwadareDelivery      past the eighteenth place the block 18 back is delivered as received, with its two flips
 use Rattle.std.specs.Prelude.{◌≡◌, List, ℕ, ◌+◌, ◌-◌, ◌≤◌, ◌<◌, length, get_or}
 use Rattle.span.specs.Word.{◌⊕◌, sel}
 use Rattle.link.specs.Step.{information}

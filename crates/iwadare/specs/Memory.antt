@@ -1,15 +1,15 @@
 -- 02, CR 6: the code of the Iwadare-Massey stations (001, 21.2.2, Example 21.4), and the words that are lent. A block
 -- has three symbols: "A block's number gives symbols 0, 1 and 2 the weights 1, 2 and 4."
 --
---   generators                 the generators of symbols 0 and 1
+--   generators                   the generators of symbols 0 and 1
 --   coder_words, decoder_words   how many words a memory has
---   delay                      how many blocks a delivery is late
+--   delay                        how many blocks a delivery is late
 --   pending_bound, terms_bound, delayed_bound, received_bound   what a pending word, the terms, a delayed block or one of
---                              information, and a received block are below
---   coder_pending s             the coder's pending word
+--                                information, and a received block are below
+--   coder_pending s              the coder's pending word
 --   fill_of, pending_of, terms_of s   the decoder's fill, pending word and last 12 terms
 --   word_back k, delayed_back s k   where the block k back stands among the words, and the block
---   fill_next fill              the fill after a step
+--   fill_next fill               the fill after a step
 use Rattle.std.specs.Prelude.{cond, List, [], ◌∷◌, ℕ, ◌+◌, ◌-◌, ◌^◌, ltb, get_or}
 
 -- "The generators are D^7 + D^18 for symbol 0 and D^3 + D^15 for symbol 1." Bit k of a row is the coefficient of D^k,

@@ -3,14 +3,14 @@
 -- decoding error is followed by n[m + (λ + 2)n − 1] − 1 error-free bits, the syndrome will be cleared and error
 -- propagation terminated"; that is 95 bits here, and 30 blocks have 90.)
 --
---   guard               18 + 12
+--   guard                18 + 12
 --   RightFirst right sent taken   places 1 to `right` are right
 --   RecoveryAfter right past long gap   past place `past` every delivery is right, if the first `right` blocks are, and
---                       bursts keep to the rule
---   IwadareRecovery    from any memories, after the guard, every delivery is right while bursts keep to the rule
---   guard_end_at            21
---   GuardEndAfter past  while all blocks are right, so is every delivery past that place
---   IwadareGuardEnd   from place 22 on
+--                        bursts keep to the rule
+--   IwadareRecovery      from any memories, after the guard, every delivery is right while bursts keep to the rule
+--   guard_end_at         21
+--   GuardEndAfter past   while all blocks are right, so is every delivery past that place
+--   IwadareGuardEnd      from place 22 on
 use Rattle.std.specs.Prelude.{◌≡◌, List, ℕ, ◌+◌, ◌≤◌, ◌<◌, length}
 use Rattle.iwadare.specs.Runs.{Sent, Taken, sent_by, taken_by, sent_at, taken_at}
 use Rattle.iwadare.specs.Correction.{BitBursts, Corrected}

@@ -3,8 +3,8 @@
 -- (`length_fault` of `link`).
 --
 --   step_fault words malformed bound s b   the first of 13 to 15 that applies to a step, or 0
---   coder_malformed, decoder_malformed      the condition of 14
---   coder_fault s b, decoder_fault s r      the first of 13 to 15, of a coder's step and of a decoder's
+--   coder_malformed, decoder_malformed     the condition of 14
+--   coder_fault s b, decoder_fault s r     the first of 13 to 15, of a coder's step and of a decoder's
 use Rattle.std.specs.Prelude.{Bool, not, ◌||◌, List, [], ◌∷◌, ℕ, leb, ltb, eqb, length}
 use Rattle.tables.specs.Refusal.{first_of}
 use Rattle.link.specs.Refusals.{some_above}

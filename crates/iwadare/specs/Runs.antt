@@ -1,9 +1,9 @@
 -- Runs of steps: each step gets the memory as the last left it, and a refused one stands anywhere in the list (01,
 -- "After a fade"). A step is handed a block alone, since these stations have no table.
 --
---   Sent, Taken              what is kept of a coder step, and of a decoder step, that is not refused
---   sent_of, taken_of          the same of an answer; nothing of a refusal
---   handed blocks            the blocks as calls
+--   Sent, Taken         what is kept of a coder step, and of a decoder step, that is not refused
+--   sent_of, taken_of   the same of an answer; nothing of a refusal
+--   handed blocks       the blocks as calls
 --   sent_by s bs, taken_by s rs   what is kept of the steps that are handed these blocks, in order, from the memory s on
 --   coder_after s bs, decoder_after s rs   the memory after all of them
 --   sent_at xs p, taken_at xs p   entry p of such a list, counted from 1; past its end none_sent and none_taken

@@ -9,9 +9,9 @@
 -- 21 right blocks, of which the last delivers what was flipped at the eighteenth.
 --
 --   IwadareLengthSharp, IwadareGapSharp   correction and recovery fail with one bit more in a burst, and with one
---                                             fewer between
---   IwadareGuardSharp                       recovery fails after one right block fewer
---   IwadareGuardEndSharp                   the end of the guard does not come one place earlier
+--                                         fewer between
+--   IwadareGuardSharp                     recovery fails after one right block fewer
+--   IwadareGuardEndSharp                  the end of the guard does not come one place earlier
 use Rattle.std.specs.Prelude.{ℕ, ◌≤◌}
 use Rattle.iwadare.specs.Correction.{CorrectionWith}
 use Rattle.iwadare.specs.Recovery.{guard, RecoveryAfter, GuardEndAfter}

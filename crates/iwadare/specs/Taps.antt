@@ -1,12 +1,12 @@
 -- 02, CR 6: "The generators are D^7 + D^18 for symbol 0 and D^3 + D^15 for symbol 1", over runs from started memories:
 -- 001, Example 21.4. Places count from 0 here, as blocks do there.
 --
---   taps x b                       what the generators take of the blocks x at block b
+--   taps x b                what the generators take of the blocks x at block b
 --   info_sent, block_sent, block_taken   information and block sent at a place, and block taken
---   raw_at s rs b                   the raw term of the step there
---   IwadareParity                 the parity of a coded block
---   IwadareSyndrome               the raw terms, whatever was received
---   IwadareSyndromeErrors        they depend on the errors only: 001, (21.22a)
+--   raw_at s rs b           the raw term of the step there
+--   IwadareParity           the parity of a coded block
+--   IwadareSyndrome         the raw terms, whatever was received
+--   IwadareSyndromeErrors   they depend on the errors only: 001, (21.22a)
 use Rattle.std.specs.Prelude.{◌≡◌, Bool, false, List, ℕ, suc, ◌≤◌, ◌<◌, length, get_or}
 use Rattle.std.specs.Bool.{xor}
 use Rattle.span.specs.Word.{◌⊕◌, bit}

@@ -3,10 +3,10 @@
 -- right ones, a burst of 10 bits with five wrong, and the blocks until all of these are delivered.
 --
 --   coder_memory, decoder_memory   the memories that the run begins with
---   infos, received              what is handed over, to steps that are refused too
---   faults_by fault memory s bs   the number that each step is refused for, or 0
---   IwadareWitness              every premise of recovery holds of it, which blocks are wrong, and which steps are
---                                refused
+--   infos, received                what is handed over, to steps that are refused too
+--   faults_by fault memory s bs    the number that each step is refused for, or 0
+--   IwadareWitness                 every premise of recovery holds of it, which blocks are wrong, and which steps are
+--                                  refused
 use Rattle.std.specs.Prelude.{◌≡◌, List, [], ◌∷◌, ◌++◌, map, ℕ, ◌≤◌, length, replicate}
 use Rattle.link.specs.Computed.{differing}
 use Rattle.iwadare.specs.Refusals.{coder_fault, decoder_fault}

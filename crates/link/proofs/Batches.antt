@@ -1,16 +1,16 @@
 -- Batches as runs of single calls, for coder and decoder alike: of a call only this is used, that it is refused, has no
 -- entry and leaves the memory, or is not refused and has one entry. Assumes nothing.
 --
---   One                  that law of a call
+--   One                   that law of a call
 --   Ran, ran-none, ran-more, batch-ran   a batch is the run of the blocks that it took, and why it took no more
---   run_length           a run has at most one entry a block
---   ends_so, shorter-so  where a batch ends
---   single-so            the batch of one block
---   mixture-so           a list of batches
---   run-map              what is told of a run's entries, entry by entry
+--   run_length            a run has at most one entry a block
+--   ends_so, shorter-so   where a batch ends
+--   single-so             the batch of one block
+--   mixture-so            a list of batches
+--   run-map               what is told of a run's entries, entry by entry
 --   code_one, decode-one the law, of coder and of decoder
 --   entry_of, entries-told, blocks-told, taken-entries   the entry of a block taken, and of one sent
---   entry-told           an entry, of the answer that a taken block has
+--   entry-told            an entry, of the answer that a taken block has
 --   shorter, batch_run, single, mixture, recovery_batches, guard_end_batches   the theorems
 use mathlib.Core.Path.{◌≡◌, refl, sym, ap, ap₂, ◌∙◌, subst}
 use mathlib.Core.Logic.{◌↔◌, ◌⊎◌, inl, inr}

@@ -1,9 +1,9 @@
 -- The premises of recovery of a run that is computed: from the tables of its entries and the places at which its blocks
 -- differ, each an equation of lists. Assumes nothing.
 --
---   each_at          what is shown of each number below a bound holds of every one
---   tables-by        each entry has the same table
---   Places           what is known of the places of a run
+--   each_at     what is shown of each number below a bound holds of every one
+--   tables-by   each entry has the same table
+--   Places      what is known of the places of a run
 --   running_by, right_by   the premises on tables and steps, and on the guard
 --   burst_by, bursts_by   the premise on bursts
 use mathlib.Core.Path.{◌≡◌, refl, sym, ap, ap₂, ◌∙◌, subst}

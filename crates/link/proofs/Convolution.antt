@@ -3,14 +3,14 @@
 -- Assumes nothing.
 --
 --   sum-ext, sum-false, sum-single, sum-shift, sum-xor, sum-swap   laws of the exclusive or over an index range
---   convolution-ext       the convolution of blocks that are the same
---   convolution-xor       the convolution is linear in the blocks
---   combination-bit       a bit of an image, as a sum over the rows
---   convolution-images    the convolution, by the images of the blocks
---   ago-now               block 0 back is the block itself
---   stream_convolution    the theorem
---   stream_differ         two streams that begin with the same word
---   stream_past           P t holds what the blocks before t add to the convolutions from t on
+--   convolution-ext      the convolution of blocks that are the same
+--   convolution-xor      the convolution is linear in the blocks
+--   combination-bit      a bit of an image, as a sum over the rows
+--   convolution-images   the convolution, by the images of the blocks
+--   ago-now              block 0 back is the block itself
+--   stream_convolution   the theorem
+--   stream_differ        two streams that begin with the same word
+--   stream_past          P t holds what the blocks before t add to the convolutions from t on
 use mathlib.Core.Path.{◌≡◌, refl, sym, ap, ap₂, ◌∙◌}
 use mathlib.Core.Bool.{Bool, true, false, cond, xor, ◌&&◌}
 use mathlib.Core.Logic.{◌≢◌}

@@ -2,10 +2,10 @@
 -- nothing.
 --
 --   stream_in, pending_in, syndrome_in, delayed_in, register_in   words of the turn's stream, and the register
---   DecoderTaken, decoder-taken    what the tests of a step that is taken say
---   DecoderStep, decoder_step      what the step does
---   decoder-length                 the length stays
---   Verdict, decoder-verdict       what the decoder judges by: raw term, register and the error found
+--   DecoderTaken, decoder-taken   what the tests of a step that is taken say
+--   DecoderStep, decoder_step     what the step does
+--   decoder-length                the length stays
+--   Verdict, decoder-verdict      what the decoder judges by: raw term, register and the error found
 use mathlib.Core.Path.{◌≡◌, refl, sym, ap, ap₂, ◌∙◌}
 use mathlib.Core.Bool.{Bool, true, false, cond, not, xor}
 use mathlib.Core.Logic.{◌≢◌}

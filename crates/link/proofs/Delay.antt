@@ -1,10 +1,10 @@
 -- The delay of a decoder over its steps: the fill, and the oldest delayed block of the turn's stream. S is the memories
 -- before each place, R the blocks taken. Nothing is asked of the first memory. Assumes nothing.
 --
---   fill_complete    past m × (N − 1) steps the fill is complete
---   fill_waits       after p steps it has grown by no more than p
---   oldest           the oldest delayed block is the information received m × (N − 1) places before
---   oldest_first     or a block of the first memory, where there is no such place
+--   fill_complete   past m × (N − 1) steps the fill is complete
+--   fill_waits      after p steps it has grown by no more than p
+--   oldest          the oldest delayed block is the information received m × (N − 1) places before
+--   oldest_first    or a block of the first memory, where there is no such place
 use mathlib.Core.Path.{◌≡◌, sym, ap, ap₂, ◌∙◌}
 use mathlib.Core.Bool.{cond}
 use mathlib.Core.List.{List}

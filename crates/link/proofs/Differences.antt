@@ -1,8 +1,8 @@
 -- Two runs from one memory, of coders and of decoders: parities and raw terms differ by the convolution of what the
 -- blocks differ by, whatever the memory held. Assumes nothing.
 --
---   parities_differ            the parities of two coders
---   raws_differ                the raw terms of two decoders
+--   parities_differ   the parities of two coders
+--   raws_differ       the raw terms of two decoders
 use mathlib.Core.Path.{◌≡◌, sym, ap, ap₂, ◌∙◌}
 use mathlib.Core.Bool.{Bool, xor}
 use mathlib.Core.List.{List}

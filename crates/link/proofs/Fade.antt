@@ -2,14 +2,14 @@
 -- place, R the blocks taken, A the answers, B the information sent and C the blocks sent. Nothing is asked of the
 -- memories: a step that is taken has passed the tests of its own stream. Assumes nothing.
 --
---   Linked, WrongApart     coder and decoder in step, and how wrong places lie
---   Settles                what is claimed of an answer at the end of the guard; past it, `Sure`, and `Tells` where
---                          streams are clean
---   guarded                the words of a stream after right blocks
---   settles                the claim at the end of the guard
+--   Linked, WrongApart   coder and decoder in step, and how wrong places lie
+--   Settles              what is claimed of an answer at the end of the guard; past it, `Sure`, and `Tells` where
+--                        streams are clean
+--   guarded              the words of a stream after right blocks
+--   settles              the claim at the end of the guard
 --   delivers, delivers_first   the claim where streams are clean: of a block taken, and of one of the first memory
---   recovers               the claim past the guard
---   clean_first            streams that are clean in the first memory
+--   recovers             the claim past the guard
+--   clean_first          streams that are clean in the first memory
 use mathlib.Core.Path.{◌≡◌, refl, sym, ap, ap₂, ◌∙◌, subst}
 use mathlib.Core.Bool.{Bool}
 use mathlib.Core.Logic.{◌≢◌, ◌⊎◌, inl, inr}

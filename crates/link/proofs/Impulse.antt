@@ -1,8 +1,8 @@
 -- The parity of an impulse, a message that is 0 but for one symbol of one block: a bit of the symbol's row at every
 -- m-th place from there on (000, eq. 1). Assumes nothing.
 --
---   impulse at w       the message that is w at one place, and 0 elsewhere
---   row_lt             a row of a fit table has N bits
+--   impulse at w   the message that is w at one place, and 0 elsewhere
+--   row_lt         a row of a fit table has N bits
 --   parity_before, parity_after   the parity before that place, and from it on
 use mathlib.Core.Path.{◌≡◌, sym, ap, ◌∙◌}
 use mathlib.Core.Bool.{Bool, true, false, cond, ◌&&◌}

@@ -2,8 +2,8 @@
 -- at the first turn of its stream it is that of the first memory. Assumes nothing.
 --
 --   place-first, place-next, place-earlier   the places r + k × m of a stream
---   Turns                     turns of `count` steps, each the next of the one before
---   word_again, word_first    the two laws
+--   Turns                    turns of `count` steps, each the next of the one before
+--   word_again, word_first   the two laws
 use mathlib.Core.Path.{◌≡◌, refl, sym, ap, ◌∙◌, subst}
 use mathlib.Core.Bool.{Bool, true, false, cond}
 use mathlib.Core.Logic.{◌≢◌, ◌⊎◌, inl, inr}

@@ -1,9 +1,9 @@
 -- The condition of 14 taken apart: it does not apply exactly if turn and fill are within their bounds, and the words of
 -- the turn's stream below theirs. Assumes nothing.
 --
---   above-none, above-or         the ones of words together, of no word and of one more
---   some-none, none_above        no word is above a bound
---   coder-fine, fine-coder       the coder's
+--   above-none, above-or     the ones of words together, of no word and of one more
+--   some-none, none_above    no word is above a bound
+--   coder-fine, fine-coder   the coder's
 --   Fine, decoder-fine, fine-decoder   the decoder's
 use mathlib.Core.Path.{◌≡◌, refl, sym, ap, subst, ◌∙◌}
 use mathlib.Core.Bool.{Bool, false, ◌||◌}

@@ -1,14 +1,14 @@
 -- Demand 2: the streams of runs from memories of zeros, as the sequences of `Convolution` and `Register`. Assumes
 -- nothing.
 --
---   coded-bit                         the parity of a coded block
+--   coded-bit          the parity of a coded block
 --   coder_pending_lem, coder_parity, coder_zero   a stream of the coder: the pending word, the parity, and the sum over all
 --                                             symbols
 --   decoder_pending, decoder_parities, decoder_raw, decoder_register_lem   a stream of the decoder: the pending word, the
---                                     raw term by the parities and by the blocks, and the register
---   decoder_delivers                  what a decoder delivers, from any memory
+--                      raw term by the parities and by the blocks, and the register
+--   decoder_delivers   what a decoder delivers, from any memory
 --   parity, syndromes, syndrome_errors, registers, pendings, pendings-received, deliveries   the theorems
---   parities                          the raw terms as the paper forms them
+--   parities           the raw terms as the paper forms them
 use mathlib.Core.Path.{◌≡◌, sym, ap, ap₂, ◌∙◌, subst}
 use mathlib.Core.Bool.{Bool, false, cond, xor}
 use mathlib.Core.Logic.{◌↔◌, ◌⊎◌, inl, inr}

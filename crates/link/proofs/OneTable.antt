@@ -1,12 +1,12 @@
 -- Runs whose steps all use the same table: their steps as records of `Memory`, on the memories that the run leaves.
 -- Assumes nothing.
 --
---   same_step      a step under a table that is the same
---   from_one       places count from 1, sequences from 0
---   coded          the steps of the coder
---   taken_table    the table of a step of the decoder
---   decoded        the steps of the decoder
---   verdict        their raw terms, registers and errors
+--   same_step     a step under a table that is the same
+--   from_one      places count from 1, sequences from 0
+--   coded         the steps of the coder
+--   taken_table   the table of a step of the decoder
+--   decoded       the steps of the decoder
+--   verdict       their raw terms, registers and errors
 use mathlib.Core.Path.{◌≡◌, sym, ap, ◌∙◌, subst}
 use mathlib.Core.Bool.{Bool, false}
 use mathlib.Core.List.{List}

@@ -2,9 +2,9 @@
 -- nothing.
 --
 --   parity_none, parity_alike, parity_lt, parity_other, parity_image   that block
---   code_size      a code of n symbols has n rows
+--   code_size   a code of n symbols has n rows
 --   evened n rows x   the block x, or x and the parity symbol, whichever has an even image
---   span_from      the span of a code is 3 at least
+--   span_from   the span of a code is 3 at least
 use mathlib.Core.Path.{◌≡◌, refl, sym, ap, ap₂, ◌∙◌, subst}
 use mathlib.Core.Bool.{Bool, true, false, xor}
 use mathlib.Core.Logic.{◌≢◌, ◌⊎◌, inl, inr}

@@ -1,9 +1,9 @@
 -- A part of the memory that is lent on and comes back: what it holds, and the memory with it. Assumes nothing.
 --
---   mid-word    a word of a part is one of the memory
---   put_word    a part of one word that comes back with another
---   put-part    the memory with a part that comes back
---   mid-drop    a part without its first words
+--   mid-word   a word of a part is one of the memory
+--   put_word   a part of one word that comes back with another
+--   put-part   the memory with a part that comes back
+--   mid-drop   a part without its first words
 --   mid-rest, put_rest   a part from a place to the end
 use mathlib.Core.Path.{◌≡◌, sym, ap, ◌∙◌}
 use mathlib.Core.List.{List, ◌++◌, append-nil}

@@ -1,11 +1,11 @@
 -- A loop over the blocks of a batch: from one block to the next, and to its end. Assumes nothing.
 --
---   reached_start     before the first block
---   reached_next      one more block is taken
+--   reached_start   before the first block
+--   reached_next    one more block is taken
 --   reached_refused, reached_all   the batch is done: the next block is refused, and no block or no room is left
 --   batch_idle, fills_idle   a batch whose every call would be refused
---   fills-part        the filled part by itself
---   reached_rest      the blocks that are left, as a batch by themselves
+--   fills-part      the filled part by itself
+--   reached_rest    the blocks that are left, as a batch by themselves
 use mathlib.Core.Path.{◌≡◌, refl, sym, ap, ap₂, subst, ◌∙◌}
 use mathlib.Core.List.{List, [], ◌∷◌, ◌++◌, append_assoc, append-nil}
 use Prim.Native.Nat.{ℕ, suc, ◌+◌, ◌-◌, ◌≤◌, ◌<◌, min}

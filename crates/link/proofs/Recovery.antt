@@ -1,10 +1,10 @@
 -- Demand 3: the runs of coder and decoder as sequences, and 01's premises as those of `Fade`. Assumes nothing.
 --
---   separated, linked    the premises
---   recovered            the claim
+--   separated, linked   the premises
+--   recovered           the claim
 --   recovery_short_guard   the theorem from which the others follow
 --   recovery-any-memory, recovery, recovery-later, doubtful   those
---   same-delivery        two deliveries that are equal have equal information and marks
+--   same-delivery       two deliveries that are equal have equal information and marks
 use mathlib.Core.Path.{◌≡◌, sym, ◌∙◌, subst}
 use mathlib.Core.Logic.{◌⊎◌, inl, inr}
 use mathlib.Core.List.{List}

@@ -1,16 +1,16 @@
 -- The first refusal that applies to a start or a step, as a chain of tests; what a call that has a fault answers and
 -- leaves; and a table whose rows are lent. Assumes nothing.
 --
---   or-none, none_or         a test of two parts that does not apply
---   picked, passed           a pick by a test that is decided
---   start-fault, step_fault_lem  the chains of a start and of a step
---   step_settled             the same once 12 and 13 are settled
---   Passed, step_passed      what no refusal says
---   answered-is              an answer, by its fault
---   refuses, takes           answer and memory of a call that is refused, and of one that is not
+--   or-none, none_or              a test of two parts that does not apply
+--   picked, passed                a pick by a test that is decided
+--   start-fault, step_fault_lem   the chains of a start and of a step
+--   step_settled                  the same once 12 and 13 are settled
+--   Passed, step_passed           what no refusal says
+--   answered-is                   an answer, by its fault
+--   refuses, takes                answer and memory of a call that is refused, and of one that is not
 --   call-numbers, refused-numbers, taken-numbers   the numbers of both
---   LentTaken, lent-taken    where no refusal applies, the lent rows are fifteen, and the table is that of them
---   number_12 to number_15   the number that the tests come to
+--   LentTaken, lent-taken         where no refusal applies, the lent rows are fifteen, and the table is that of them
+--   number_12 to number_15        the number that the tests come to
 use mathlib.Core.Path.{◌≡◌, refl, sym, ap, ◌∙◌}
 use mathlib.Core.Bool.{Bool, true, false, cond, not, ◌||◌}
 use mathlib.Core.List.{List, [], ◌∷◌}

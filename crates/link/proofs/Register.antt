@@ -2,8 +2,8 @@
 -- N = w + 1 bits. From a block with the syndrome word 0 on, and as long as the word is the register halved, the
 -- register holds the raw terms. Assumes nothing.
 --
---   register_lt     it has N bits
---   register_bit    and those are the raw terms
+--   register_lt    it has N bits
+--   register_bit   and those are the raw terms
 use mathlib.Core.Path.{◌≡◌, sym, ap, ap₂, ◌∙◌, subst}
 use mathlib.Core.Bool.{Bool, false, cond}
 use Prim.Native.Nat.{ℕ, zero, suc, ◌+◌, ◌-◌, ◌*◌, ◌/◌, ◌^◌, ◌≤◌, ◌<◌}

@@ -1,10 +1,10 @@
 -- Where the turn's stream lies in a decoder memory that passed the tests of a step, and what the tests say of its
 -- words. Assumes nothing.
 --
---   fit-room     a fit table's memory has at most 4162 words
---   turn-room    the turn's part lies inside
+--   fit-room    a fit table's memory has at most 4162 words
+--   turn-room   the turn's part lies inside
 --   terms_room, keep_room   what the functions of a step ask for
---   oldest_lt    the oldest delayed block is below its bound
+--   oldest_lt   the oldest delayed block is below its bound
 use mathlib.Core.Path.{◌≡◌}
 use mathlib.Core.List.{List}
 use Prim.Native.Nat.{ℕ, ◌+◌, ◌-◌, ◌^◌, ◌≤◌, ◌<◌}

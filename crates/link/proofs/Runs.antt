@@ -1,15 +1,15 @@
 -- Runs of calls, for coder and decoder alike: a refused call leaves the memory and keeps nothing, so what is kept is
 -- that of the calls that are taken, each on the memory that the one before it left. Assumes nothing.
 --
---   before, before_first     the memory before the call that is taken at a place, and at the first
---   Told                     what is kept of a call is one entry, or nothing of a refusal
---   run_taken                a run whose first call is taken
---   Place, run_place         what stands at a place
---   ran_keeps                what every call keeps, a run keeps
---   run-append               a run over two lists
---   refused_skipped          a run with a refused call in it
---   sent-told, taken-told    what is kept of the calls of coder and decoder
---   sent-place, taken-place  their places
+--   before, before_first      the memory before the call that is taken at a place, and at the first
+--   Told                      what is kept of a call is one entry, or nothing of a refusal
+--   run_taken                 a run whose first call is taken
+--   Place, run_place          what stands at a place
+--   ran_keeps                 what every call keeps, a run keeps
+--   run-append                a run over two lists
+--   refused_skipped           a run with a refused call in it
+--   sent-told, taken-told     what is kept of the calls of coder and decoder
+--   sent-place, taken-place   their places
 use mathlib.Core.Path.{◌≡◌, refl, sym, ap, ◌∙◌, subst}
 use mathlib.Core.Bool.{Bool, true, false, cond}
 use mathlib.Core.Logic.{◌≢◌}

@@ -2,9 +2,9 @@
 -- streams at a distance d from the turn with m ≤ i + d. A step that is taken keeps them well-formed, so that each is
 -- looked at once. Assumes nothing.
 --
---   Seen, seen_start     none is seen before the first block
---   seen-now             after m blocks the turn's stream is
---   seen_next            from one block to the next
+--   Seen, seen_start   none is seen before the first block
+--   seen-now           after m blocks the turn's stream is
+--   seen_next          from one block to the next
 use mathlib.Core.Path.{◌≡◌, subst}
 use mathlib.Core.Logic.{◌≢◌, ◌⊎◌, inl, inr}
 use mathlib.Core.List.{List}

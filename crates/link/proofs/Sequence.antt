@@ -4,12 +4,12 @@
 -- leaves, and nothing is found before; so it is from a block on at which they are those of one such error. Assumes
 -- nothing.
 --
---   Stream               the words of a stream, and from which block on they are those of its steps
+--   Stream          the words of a stream, and from which block on they are those of its steps
 --   guard_clean, guard_register, guard_syndrome   right blocks: no pending word differs, no raw term is 1, and the
---                        syndrome word is short
---   Mid                  the words are those of one error that is still delayed
+--                   syndrome word is short
+--   Mid             the words are those of one error that is still delayed
 --   mid_clean, mid_stayed   where they are 0, and after a block at which they are so
---   stream_judged        what is found from such a block on
+--   stream_judged   what is found from such a block on
 use mathlib.Core.Path.{◌≡◌, sym, ap, ◌∙◌, subst}
 use mathlib.Core.Bool.{Bool, false}
 use mathlib.Core.Logic.{◌≢◌, ◌⊎◌, inl, inr}

@@ -5,11 +5,11 @@
 -- word are dropped; were an error block found at the second, with an error at the first, its image, made even, would be
 -- that of this error, shifted by N − 2. Assumes nothing.
 --
---   Rejoined         from which block on, and with which errors
---   rejoined-same    with the errors as they are
+--   Rejoined        from which block on, and with which errors
+--   rejoined-same   with the errors as they are
 --   rejoined-cleared with that of the block at which the word was cleared, its image made even
 --   after-second, after_both   the cases where nothing is found at the first
---   short_judged     what is found from block 2 × (N − 1) on
+--   short_judged    what is found from block 2 × (N − 1) on
 use mathlib.Core.Path.{◌≡◌, refl, sym, ap, ap₂, ◌∙◌, subst}
 use mathlib.Core.Bool.{Bool, true, false, cond}
 use mathlib.Core.Logic.{◌≢◌, ◌⊎◌, inl, inr}

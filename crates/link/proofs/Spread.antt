@@ -1,9 +1,9 @@
 -- The ones of a word, spread to every m-th place: how many there are up to a place. Assumes nothing.
 --
---   total              the sum of numbers over the places below a bound; and its laws
+--   total            the sum of numbers over the places below a bound; and its laws
 --   ones-pow, ones-topped   the ones of a power of 2, and of a number with a bit above it
---   spread m row d     bit d / m of the word, if m divides d
---   spread_cut         their count
+--   spread m row d   bit d / m of the word, if m divides d
+--   spread_cut       their count
 use mathlib.Core.Path.{◌≡◌, refl, sym, ap, ap₂, ◌∙◌}
 use mathlib.Core.Bool.{Bool, true, false, ◌&&◌}
 use mathlib.Core.List.{List, [], ◌∷◌, map, sum}

@@ -3,7 +3,7 @@
 --
 --   zip_size, zip-at, blocks_at, blocks-below   two sequences, added place by place
 --   adds                  the law, of any form that is told so at each place
---   parity_at, coded_at     the sum of eq. 1, and the coded block, at a place of a run
+--   parity_at, coded_at   the sum of eq. 1, and the coded block, at a place of a run
 --   coded_ext, coded_at_lem, coded_form_below   its laws
 --   coded-forms-differ, raw-terms-differ, coded_forms_add, raw_terms_add, deliveries_need_not_add   the theorems
 use mathlib.Core.Path.{◌≡◌, refl, sym, ap, ap₂, ◌∙◌, subst}

@@ -1,8 +1,8 @@
 -- Runs of one fit table from a well-formed memory on: no step is refused exactly if each block is below the bound of
 -- 15. Assumes nothing.
 --
---   none_refused        the theorem
---   OneEach             a run has one entry of each block, of the same table
+--   none_refused   the theorem
+--   OneEach        a run has one entry of each block, of the same table
 --   sent_each, taken_each   so it is of coder and decoder
 use mathlib.Core.Path.{◌≡◌, refl, sym, ap, ap₂, ◌∙◌, subst}
 use mathlib.Core.Bool.{true, false}

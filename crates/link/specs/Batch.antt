@@ -1,16 +1,16 @@
 -- 02, CR 1, blocks by the batch: "one call that takes a lent list of blocks, for coder and for decoder".
 --
---   Batch                 what a batch comes to: the entries filled, and the memory after it
+--   Batch               what a batch comes to: the entries filled, and the memory after it
 --   ended s, entered es s rest   a batch that takes no block; one whose first call has the entries es: with none it
---                         ends
+--                       ends
 --   batch entries memory room s bs   the single calls of the blocks bs, one after another, while there is room
 --   code_entries a, decode_entry m i, decode_entries a   the entry of a single call's answer; none of a refusal
 --   code_batch, decode_batch   the batches of coder and of decoder
---   Fills                 what `fill_coded` and `fill_decoded` promise, and what C calls
---   FillsPart             what `code_batch` and `decode_batch` promise
---   followed, Reached     entries and then those of another batch; where a batch has come to after some of its blocks
---   EntryLaw                 a call that is not refused has one entry: the coded block; the information in its low 16
---                         bits, and above them the mark
+--   Fills               what `fill_coded` and `fill_decoded` promise, and what C calls
+--   FillsPart           what `code_batch` and `decode_batch` promise
+--   followed, Reached   entries and then those of another batch; where a batch has come to after some of its blocks
+--   EntryLaw            a call that is not refused has one entry: the coded block; the information in its low 16
+--                       bits, and above them the mark
 use Rattle.std.specs.Prelude.{◌≡◌, List, [], ◌∷◌, ◌++◌, ℕ, zero, suc, ◌+◌, ◌-◌, ◌*◌, ◌/◌, ◌%◌, ◌^◌, ◌≤◌, ◌<◌, length, get_or, take, drop}
 use Rattle.tables.specs.declared.table.Table.{Table}
 use Rattle.link.specs.declared.code.CodeAnswer.{CodeAnswer}

@@ -1,18 +1,18 @@
 -- 02, CR 1: where a batch ends, and what batches are together. A batch is a run of single calls, and so what holds of
 -- every run (`Runs`), recovery among it, holds of any mixture of batches and single calls.
 --
---   singly t bs           the single calls of the blocks bs with the table t
+--   singly t bs       the single calls of the blocks bs with the table t
 --   coded_by s cs, decoded_by s ds   the entries of single calls, one after another
---   Ends                  where single calls would come to an end: the output full, or the next one refused
---   Shorter               a batch takes fewer blocks than it is handed exactly where they do
---   BatchRun             a batch is the run of the blocks that it took
---   Single                entry and memory of a single call are those of the batch of its block
---   Handed                what a batch is handed
---   filled, after         the entries of a list of batches, and the memory after them
---   calls_of               their single calls, those that were taken
+--   Ends              where single calls would come to an end: the output full, or the next one refused
+--   Shorter           a batch takes fewer blocks than it is handed exactly where they do
+--   BatchRun          a batch is the run of the blocks that it took
+--   Single            entry and memory of a single call are those of the batch of its block
+--   Handed            what a batch is handed
+--   filled, after     the entries of a list of batches, and the memory after them
+--   calls_of          their single calls, those that were taken
 --   coder_batch, decoder_batch   a batch of the coder and of the decoder, as handed
---   Mixture               a list of batches is the run of their single calls
---   RecoveryBatches      demand 3 of any mixture of batches and single calls
+--   Mixture           a list of batches is the run of their single calls
+--   RecoveryBatches   demand 3 of any mixture of batches and single calls
 --   GuardEndBatches     what the last m calls of the guard answer, of the same
 use Rattle.std.specs.Prelude.{◌≡◌, ◌≢◌, ◌↔◌, ◌⊎◌, List, [], ◌∷◌, ◌++◌, map, ℕ, ◌-◌, ◌*◌, ◌/◌, ◌%◌, ◌^◌, ◌≤◌, ◌<◌, length, get_or, take}
 use Rattle.tables.specs.declared.table.Table.{Table}

@@ -2,7 +2,7 @@
 -- refused.
 --
 --   RefusedCalls   a refused call has the number of the first reason that applies, and leaves every lent word as it
---                   was
+--                  was
 --   TakenCalls     where no reason applies a call is not refused
 --   MemoryWords    how many words are lent at most
 use Rattle.std.specs.Prelude.{◌≡◌, true, List, ℕ, ◌≤◌}

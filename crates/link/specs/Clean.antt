@@ -7,11 +7,11 @@
 --   Undisturbed t decoder taken p   the answer at a place too early for a block that was taken: a block of the first
 --                                   memory leaves as it was
 --   EachPlace               what is answered at each place
---   CleanLaw                   the theorem
---   CleanSeparated         the same without a choice of bursts
+--   CleanLaw                the theorem
+--   CleanSeparated          the same without a choice of bursts
 --   Tells answer info error   the answer delivers this information, not doubtful, and its mark tells this error
---   CleanMarks             past m × (N − 1) the mark tells the error of the block that is delivered
---   StartedClean           it applies to started memories
+--   CleanMarks              past m × (N − 1) the mark tells the error of the block that is delivered
+--   StartedClean            it applies to started memories
 use Rattle.std.specs.Prelude.{◌≡◌, true, ◌≢◌, ◌⊎◌, List, ℕ, ◌+◌, ◌-◌, ◌/◌, ◌%◌, ◌≤◌, ◌<◌, length}
 use Rattle.span.specs.Word.{◌⊕◌}
 use Rattle.tables.specs.declared.table.Table.{Table}

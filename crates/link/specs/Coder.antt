@@ -1,11 +1,11 @@
 -- The coder's step: 01, "Coder and decoder memory".
 --
---   coder_joining           w
---   coded_block, coder_next  the coded block, and the memory after a step that is taken
+--   coder_joining             w
+--   coded_block, coder_next   the coded block, and the memory after a step that is taken
 --   code_answer, code_memory answer and memory of any step
---   code_numbers            the numbers of an answer
---   Codes                  what `code` promises
---   CodedBelow            a coded block is below 2^n
+--   code_numbers              the numbers of an answer
+--   Codes                     what `code` promises
+--   CodedBelow                a coded block is below 2^n
 use Rattle.std.specs.Prelude.{◌≡◌, List, [], ◌∷◌, ℕ, ◌+◌, ◌-◌, ◌*◌, ◌^◌, ◌<◌, set}
 use Rattle.span.specs.Word.{odd, digit}
 use Rattle.tables.specs.declared.table.Table.{Table}

@@ -1,11 +1,11 @@
 -- Tables and runs as data, for what is computed.
 --
---   table_with n N m rows        the table of these sizes and rows
+--   table_with n N m rows       the table of these sizes and rows
 --   Z m                         that of 01's examples, with m streams
 --   calls t blocks              steps that are handed the table t and these blocks
 --   answers_by answer memory s cs   what every call answers, refused or not, each on the memory that the one before it
 --                                  left
---   sent_blocks, taken_blocks     the blocks of the steps that are not refused
+--   sent_blocks, taken_blocks   the blocks of the steps that are not refused
 --   delivers info mark          the answer that is a delivery
 --   differing k xs ys           the places, counted from k, at which two lists of blocks differ
 use Rattle.std.specs.Prelude.{cond, List, [], ◌∷◌, ◌++◌, map, ℕ, suc, ◌-◌, eqb, length, replicate}

@@ -3,13 +3,13 @@
 --   decoder_joining, decoder_register, decoder_found   w, the register, and the error found
 --   part_next, stream_replaced, decoder_next   the stream's part, the memory with it, and the memory after a step that is
 --                                           taken
---   advanced                that memory, of the words that a step comes to
---   delivered, delivery     the record of such a step, and its answer
+--   advanced              that memory, of the words that a step comes to
+--   delivered, delivery   the record of such a step, and its answer
 --   decode_answer, decode_memory   answer and memory of any step
 --   mark_number k, mark_error k   the number of a mark, and its e or 0
 --   record_numbers, decode_numbers   the numbers of a record, and of an answer
---   decode_values t s r      the values of a step that is taken
---   Decodes                 what `decode` promises
+--   decode_values t s r   the values of a step that is taken
+--   Decodes               what `decode` promises
 use Rattle.std.specs.Prelude.{◌≡◌, cond, List, [], ◌∷◌, ◌++◌, ℕ, ◌+◌, ltb, set, take, drop}
 use Rattle.span.specs.declared.eliminate.Least.{Least}
 use Rattle.tables.specs.declared.table.Table.{Table}

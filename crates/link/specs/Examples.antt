@@ -1,13 +1,13 @@
 -- The examples T1 to T12 of 01, and the two of 02, CR 5, as data. The depth m is 1 throughout.
 --
---   Example     what is asked and what is answered
+--   Example       what is asked and what is answered
 --   ReadsAs bytes ns t    reading the bytes answers with the numbers ns, and the table t beside them
 --   Holds x, AllHold xs   the definitions give that answer, and all of these
---   row j a b   a row record
+--   row j a b     a row record
 --   bytes_of_z    the bytes of T1
 --   bytes_of_t9   those of T9
---   examples    T1 to T12, and 02's two
---   ExamplesLaw    all of them hold
+--   examples      T1 to T12, and 02's two
+--   ExamplesLaw   all of them hold
 use Rattle.std.specs.Prelude.{◌≡◌, List, [], ◌∷◌, ◌++◌, ℕ, ◌-◌, ◌*◌, get_or, replicate}
 use Rattle.tables.specs.declared.table.Table.{Table}
 use Rattle.tables.specs.Code.{Clashes}

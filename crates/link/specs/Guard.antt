@@ -4,12 +4,12 @@
 --
 --   syndrome_entry, syndromes_by s ds   the syndrome word of the turn's stream, before a step and before each step that
 --                                     is taken
---   syndrome_at xs p      entry p of such a list, counted from 1
---   GuardLaw                after N − 1 + i right blocks of a stream it is below 2^(N−1−i)
+--   syndrome_at xs p     entry p of such a list, counted from 1
+--   GuardLaw             after N − 1 + i right blocks of a stream it is below 2^(N−1−i)
 --   Settled t sent taken p   the information delivered is right, and the mark is clean or parity
 --   GuardEndAfter past   so every place of the guard after `past` answers
---   GuardEnd            so its last m places answer
---   GuardEndStream     so any place answers that ends 2 × (N − 1) right blocks of its stream
+--   GuardEnd             so its last m places answer
+--   GuardEndStream       so any place answers that ends 2 × (N − 1) right blocks of its stream
 use Rattle.std.specs.Prelude.{◌≡◌, ◌⊎◌, ℕ, ◌+◌, ◌-◌, ◌*◌, ◌^◌, ◌≤◌, ◌<◌, List, length, get_or}
 use Rattle.tables.specs.declared.table.Table.{Table}
 use Rattle.link.specs.declared.decode.Mark.{Mark}

@@ -2,7 +2,7 @@
 --
 --   NoError rows x        no error block has the register x as its image
 --   LeastError rows x e   e is the least error block that has
---   MarksLaw                 each mark is given exactly where 01 and 02 say
+--   MarksLaw              each mark is given exactly where 01 and 02 say
 use Rattle.std.specs.Prelude.{◌≡◌, true, false, ◌≢◌, ◌↔◌, List, ℕ, ◌-◌, ◌^◌, ◌<◌, length}
 use Rattle.span.specs.declared.eliminate.Least.TheVariants.{Found}
 use Rattle.span.specs.Word.{odd}

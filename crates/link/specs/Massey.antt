@@ -2,26 +2,26 @@
 -- Taken place p of a run from a started memory, counted from 0, is block p div m of stream p mod m, so that block b of
 -- stream r is place r + b × m.
 --
---   sum_over from count f              the exclusive or of f from, f (from + 1), ..: `count` of them
---   row_of rows j, symbol j x          row j, and symbol j of a block
---   ago x b k                         block b − k of a stream; blocks before the start are zero
---   convolution last N rows x b       the sum of 000, eq. 1, over rows 1 to `last`, at block b of the stream x
---   past x b                          the blocks before block b alone
---   past_sum last N rows x b k         what they add to that sum at block b + k, term by term
---   HoldsPast last N rows x b word    bit k of the word is what they add to it, for every k
---   stream m r at                     stream r of m, of what stands at the places of a run
+--   sum_over from count f                the exclusive or of f from, f (from + 1), ..: `count` of them
+--   row_of rows j, symbol j x            row j, and symbol j of a block
+--   ago x b k                            block b − k of a stream; blocks before the start are zero
+--   convolution last N rows x b          the sum of 000, eq. 1, over rows 1 to `last`, at block b of the stream x
+--   past x b                             the blocks before block b alone
+--   past_sum last N rows x b k           what they add to that sum at block b + k, term by term
+--   HoldsPast last N rows x b word       bit k of the word is what they add to it, for every k
+--   stream m r at                        stream r of m, of what stands at the places of a run
 --   info_sent, block_sent, block_taken   information and block sent at a place, and block taken
---   pending_sent, pending_taken         pending word of the turn's stream before the step there, of coder and of decoder
---   raw_entry                          the raw term of a step
+--   pending_sent, pending_taken          pending word of the turn's stream before the step there, of coder and of decoder
+--   raw_entry                            the raw term of a step
 --   raw_at, register_at, found_at        raw term, register and what was found there
 --   ParityLaw                            000, eq. 1
---   Syndrome                          the raw terms, whatever was received
---   SyndromeErrors                   000, eq. 3
+--   Syndrome                             the raw terms, whatever was received
+--   SyndromeErrors                       000, eq. 3
 --   RegisterLaw                          the register holds the last N raw terms since the word was last cleared
---   ErrorFound                      what is found is the least error block that has the register as its image, or none
---   Pending, PendingReceived         what a bit of a pending word is, of coder and of decoder
+--   ErrorFound                           what is found is the least error block that has the register as its image, or none
+--   Pending, PendingReceived             what a bit of a pending word is, of coder and of decoder
 --   DeliveryLaw                          which block a delivery is of, from any memory
---   Waiting                           until the fill is complete nothing is delivered
+--   Waiting                              until the fill is complete nothing is delivered
 use Rattle.std.specs.Prelude.{◌≡◌, ◌↔◌, Bool, false, cond, ◌&&◌, ◌⊎◌, List, ℕ, zero, suc, ◌+◌, ◌-◌, ◌*◌, ◌^◌, ◌≤◌, ◌<◌, leb, ltb, length, get_or}
 use Rattle.std.specs.Bool.{xor}
 use Rattle.span.specs.declared.eliminate.Least.{Least}

@@ -2,17 +2,17 @@
 -- stream, the turn and the fill.
 --
 --   coder_words t, decoder_words t   how many words the coder's memory has, and the decoder's
---   turn_of s                       the turn
+--   turn_of s                        the turn
 --   fill_of s, delay_of t            the fill, and where it is complete
---   pending_at s k                  the pending word of stream k in the coder's memory
+--   pending_at s k                   the pending word of stream k in the coder's memory
 --   stream_at t k, part_of t s k     where the part of stream k begins in the decoder's, and the part; it has N + 1 words
 --   pending_of, syndrome_of, delayed_of   its words
---   delayed_bound t                 what a delayed block is below
---   started words                  the memory after a start
---   joining infos pending info     the word w of a step
---   next_pending w                  the pending word that it leaves
+--   delayed_bound t                  what a delayed block is below
+--   started words                    the memory after a start
+--   joining infos pending info       the word w of a step
+--   next_pending w                   the pending word that it leaves
 --   next_turn m turn, fill_next t fill   turn and fill after a step
---   pushed from y s                the words of s from `from` on without the first of them, and y as the last
+--   pushed from y s                  the words of s from `from` on without the first of them, and y as the last
 use Rattle.std.specs.Prelude.{cond, List, [], ◌∷◌, ◌++◌, ℕ, suc, ◌+◌, ◌-◌, ◌*◌, ◌/◌, ◌^◌, ltb, eqb, length, get_or, take, drop, replicate}
 use Rattle.span.specs.Word.{◌⊕◌}
 use Rattle.span.specs.Combination.{combination}

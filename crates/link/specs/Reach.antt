@@ -2,12 +2,12 @@
 -- any well-formed one, a started one among them.
 --
 --   Changed j x y    block y is block x with symbol j changed, and no other
---   ChangedSymbol   which block that is
+--   ChangedSymbol    which block that is
 --   OneSymbol t s before after x y j   two messages, from one memory on, that differ in symbol j of one block only
 --   response t j d   what changing symbol j of a block changes in the coded block d blocks later (the impulse response)
 --   ImpulseResponse   which coded bits change
 --   distance xs ys   how many bits of two block sequences differ (their Hamming distance)
---   BitsChanged     how many coded bits change, however many blocks follow
+--   BitsChanged      how many coded bits change, however many blocks follow
 --   ReachAfter least, OneBitReach   how many change, where at least so many blocks follow
 --   OneBitReachSharp   with one block less following it may be fewer
 use Rattle.std.specs.Prelude.{◌≡◌, true, ◌&&◌, ◌↔◌, ℕ, zero, suc, ◌+◌, ◌-◌, ◌*◌, ◌/◌, ◌%◌, ◌^◌, ◌≤◌, ◌<◌, eqb, length, get_or}

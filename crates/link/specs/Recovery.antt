@@ -1,27 +1,27 @@
 -- Demand 3, recovery: 01, "After a fade". One claim about the whole list of decoder steps.
 --
---   Origin t                 t is an accepted or a made table
+--   Origin t             t is an accepted or a made table
 --   Right, Wrong sent taken p   taken block p is sent block p, and is not
---   Stretch                  a first and a last place
---   Burst wrong long count b a stretch of at most `long` places, none past `count`, that begins and ends with a wrong
---                            one
---   Apart gap b bs           at least `gap` places lie between b and the first of bs
+--   Stretch              a first and a last place
+--   Burst wrong long count b   a stretch of at most `long` places, none past `count`, that begins and ends with a wrong
+--                        one
+--   Apart gap b bs       at least `gap` places lie between b and the first of bs
 --   Chosen wrong long gap count bs   bursts in order, so far apart
---   Within p bs              place p lies in one of them
+--   Within p bs          place p lies in one of them
 --   Bursts wrong long gap count   bursts can be so chosen that every wrong place lies in one
---   RightFirst, BurstsWithin the premises on what is right and what is wrong
---   Running                  those on the table and the lists of steps
---   FadesWith, Fades         all the premises
---   Sure answer info         the answer delivers this information, with a mark other than doubtful
+--   RightFirst, BurstsWithin   the premises on what is right and what is wrong
+--   Running              those on the table and the lists of steps
+--   FadesWith, Fades     all the premises
+--   Sure answer info     the answer delivers this information, with a mark other than doubtful
 --   Recovered sent taken delay p   what the step at place p answers
---   RecoveryLaw                 the theorem
---   RecoveryLater           it holds from any later point of a run on, whatever damage came before
---   DoubtfulLaw                 a doubtful mark beyond the guard says that the premise on bursts was broken
+--   RecoveryLaw          the theorem
+--   RecoveryLater        it holds from any later point of a run on, whatever damage came before
+--   DoubtfulLaw          a doubtful mark beyond the guard says that the premise on bursts was broken
 --   Separated wrong long gap count   two wrong places lie in one stretch of `long`, or have the gap between them
---   BurstsSeparated         wrong places that lie in bursts so chosen are so separated
---   RecoveryAnyMemory      the theorem from any memory, and without a choice of bursts
---   short_guard t             2 × m × (N − 2)
---   RecoveryShortGuard     the same after that many right blocks
+--   BurstsSeparated      wrong places that lie in bursts so chosen are so separated
+--   RecoveryAnyMemory    the theorem from any memory, and without a choice of bursts
+--   short_guard t        2 × m × (N − 2)
+--   RecoveryShortGuard   the same after that many right blocks
 use Rattle.std.specs.Prelude.{◌≡◌, ◌≢◌, ◌⊎◌, List, [], ◌∷◌, ℕ, ◌+◌, ◌-◌, ◌*◌, ◌≤◌, ◌<◌, length}
 use Rattle.tables.specs.declared.table.Table.{Table}
 use Rattle.tables.specs.declared.read.ReadAnswer.TheVariants.{Accepted}

@@ -1,18 +1,18 @@
 -- Runs of steps: each step gets the memory as the last left it (01, "After a fade").
 --
---   CallOf T, Call           what a step is handed: a table, or what stands for it, and a block
---   Sent, Taken              what is kept of a coder step, and of a decoder step, that is not refused
---   sent_of, taken_of          the same of an answer; nothing of a refusal
---   run memory kept s cs     what is kept of the calls cs, in order, from the memory s on
+--   CallOf T, Call         what a step is handed: a table, or what stands for it, and a block
+--   Sent, Taken            what is kept of a coder step, and of a decoder step, that is not refused
+--   sent_of, taken_of      the same of an answer; nothing of a refusal
+--   run memory kept s cs   what is kept of the calls cs, in order, from the memory s on
 --   sent_by s cs, taken_by s ds   of the calls of `code` and of `decode`
---   ran memory s cs          the memory after all the calls
+--   ran memory s cs        the memory after all the calls
 --   coder_after s cs, decoder_after s ds   that of the coder and that of the decoder
---   placed fault entry       something told of each step that is not refused
+--   placed fault entry     something told of each step that is not refused
 --   sent_at xs p, taken_at xs p   entry p of such a list, counted from 1; past its end none_sent and none_taken
 --   CoderTables, DecoderTables   each step that is not refused uses a table that is the same as t
---   RefusedSkipped          a run with a refused call in it is the run without it
---   RunAppend               a run over two lists is one over the first, and then one over the second from the memory
---                            after it
+--   RefusedSkipped         a run with a refused call in it is the run without it
+--   RunAppend              a run over two lists is one over the first, and then one over the second from the memory
+--                          after it
 use Rattle.std.specs.Prelude.{◌≡◌, cond, ◌≢◌, List, [], ◌∷◌, ◌++◌, ℕ, ◌-◌, ◌≤◌, eqb, length, get_or}
 use Rattle.tables.specs.declared.table.Table.{Table}
 use Rattle.tables.specs.Table.{zero_table, SameTable}

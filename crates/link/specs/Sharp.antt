@@ -10,7 +10,7 @@
 --                                       claim, length of a burst and gap
 --   RecoveryWith right long gap the claim begins where the guard ends
 --   GuardSharp, GapSharp, LengthSharp   it fails with one of the three replaced by the next one; claim and guard
---                                          move together
+--                                       move together
 --   ShortGuardSharp, GuardEndSharp     the short guard and the end of the guard fail with one place less
 use Rattle.std.specs.Prelude.{ℕ, ◌+◌, ◌-◌, ◌*◌, ◌≤◌, ◌<◌, List, length}
 use Rattle.tables.specs.declared.table.Table.{Table}

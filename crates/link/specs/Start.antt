@@ -1,11 +1,11 @@
 -- Starting a memory, the coder's or the decoder's: they differ in their length only.
 --
 --   start_answer, start_memory   answer and memory of any start
---   length_fault                13 or 0, of a memory that is to have so many words
---   StartsWords                what `start` promises, of any code
---   start_numbers               the numbers of an answer
---   Starts                     what `start_coder` and `start_decoder` promise
---   StartedLaw                    what is not refused
+--   length_fault                 13 or 0, of a memory that is to have so many words
+--   StartsWords                  what `start` promises, of any code
+--   start_numbers                the numbers of an answer
+--   Starts                       what `start_coder` and `start_decoder` promise
+--   StartedLaw                   what is not refused
 use Rattle.std.specs.Prelude.{◌≡◌, true, not, List, [], ◌∷◌, ℕ, eqb, length}
 use Rattle.tables.specs.declared.table.Table.{Table}
 use Rattle.tables.specs.Table.{fit}

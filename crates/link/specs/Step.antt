@@ -2,14 +2,14 @@
 -- 000, II.B and IV). The rows 1 to n − 1 of the information are a list, and so are the rows 1 to n of the code.
 --
 --   information n r, parity n r   information and parity of a received block
---   raw_term w n r                 the raw term of the syndrome
+--   raw_term w n r                the raw term of the syndrome
 --   register N syndrome raw       the register
 --   stream_joining, stream_register the word w and the register of a decoding step on a stream's pending word and
 --                                 syndrome word
 --   found rows x                  the least error block whose image is the register, or none
---   error_of f, kept_of f x         the error, and the syndrome word that stays
---   mark_found weight e            the mark of an error block that was found, with the weight of the parity
---   mark_of weight f x             the mark
+--   error_of f, kept_of f x       the error, and the syndrome word that stays
+--   mark_found weight e           the mark of an error block that was found, with the weight of the parity
+--   mark_of weight f x            the mark
 --   stream_found, stream_next, stream_info, stream_mark   the error found, the stream's part after the step, and
 --                                                     information and mark of its record
 use Rattle.std.specs.Prelude.{Bool, cond, List, [], ◌∷◌, ◌++◌, ℕ, ◌+◌, ◌-◌, ◌*◌, ◌/◌, ◌%◌, ◌^◌, eqb, take}

@@ -2,12 +2,12 @@
 -- the raw terms of a started decoder; what it delivers need not.
 --
 --   coded_from t s bs, raw_from t s rs   the blocks that a coder answers to the blocks bs, and the raw terms of a decoder
---                      that is handed the blocks rs, from the memory s on
---   coded_form t bs     the coded form of a message: from a started memory on
+--                     that is handed the blocks rs, from the memory s on
+--   coded_form t bs   the coded form of a message: from a started memory on
 --   raw_terms t rs, answers_to t rs   the raw terms of a started decoder, and what it answers
 --   info_of a, delivered_by t rs   the information that an answer delivers, if it does, and what that decoder delivers
 --   NoneRefused fault memory s cs   no call of the list is refused, from the memory s on
---   NoneRefusedLaw       where that is, from a well-formed memory on; then each block has a coded block, and a raw term
+--   NoneRefusedLaw    where that is, from a well-formed memory on; then each block has a coded block, and a raw term
 --   Adds bits plus from form   the law, of sequences of blocks of so many bits
 --   CodedFormsAdd, RawTermsAdd   the law of coded forms and of raw terms
 --   DeliveriesNeedNotAdd   its failure of deliveries

@@ -3,13 +3,13 @@
 -- some are handed a table with another row past row n − 1, and two bursts of two blocks come, six right blocks between
 -- them.
 --
---   made                   the table
---   alike                  the same table, with another row past row n − 1
---   shorter, longer        tables that ask for as many words, of which 14 refuses some
+--   made              the table
+--   alike             the same table, with another row past row n − 1
+--   shorter, longer   tables that ask for as many words, of which 14 refuses some
 --   coder_memory, decoder_memory   the memories that the run begins with
 --   coder_calls, decoder_calls     what is handed over, to steps that are refused too
---   WitnessLaw                every premise of recovery holds of it, which places are wrong, and which steps are refused
---   GuardEndWitness      what the last m calls of its guard answer
+--   WitnessLaw        every premise of recovery holds of it, which places are wrong, and which steps are refused
+--   GuardEndWitness   what the last m calls of its guard answer
 use Rattle.std.specs.Prelude.{◌≡◌, List, [], ◌∷◌, ◌++◌, ℕ, replicate}
 use Rattle.tables.specs.declared.table.Table.{Table}
 use Rattle.tables.specs.Table.{zero_table}

@@ -2,6 +2,7 @@
 // What is printed, and from which memory and number the next part goes on, is decided in `report`; here bytes move
 // between the input, the buffers and the output. A read or a write that fails is told on standard error.
 #![tactic(auto)]
+
 mod failure;
 mod input;
 

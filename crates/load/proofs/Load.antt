@@ -1,13 +1,13 @@
 -- Laws of a load. Assumes nothing.
 --
 --   length-errors, errors-at, errors-cut   a burst: its length, its blocks, and a part of it
---   length-round  how many blocks a round has
---   rounds-long   k rounds have k blocks at least
---   take-append   a cut of two lists, one after the other
+--   length-round   how many blocks a round has
+--   rounds-long    k rounds have k blocks at least
+--   take-append    a cut of two lists, one after the other
 --   load_rounds, load_length, load_cut, load_below   the theorems
---   load-round    a load is a round, cut, and a load of what is left
---   load_at       what stands at a place of a load, if it is not 0, stands there in its rounds
---   zeros-below   zeros are below any 2^n
+--   load-round     a load is a round, cut, and a load of what is left
+--   load_at        what stands at a place of a load, if it is not 0, stands there in its rounds
+--   zeros-below    zeros are below any 2^n
 use mathlib.Core.Path.{◌≡◌, refl, sym, ap, ◌∙◌}
 use mathlib.Core.Logic.{◌≢◌}
 use mathlib.Core.List.{List, [], ◌∷◌, ◌++◌, append-nil}

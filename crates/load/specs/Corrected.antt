@@ -1,14 +1,14 @@
 -- 02, CR 8: "With an accepted or made table, a load begun on a started decoder is corrected completely, as far as its
 -- blocks are delivered." So it is if its errors are added to any other coded message than that of zeros.
 --
---   taken_from t rs           what a started decoder takes of the blocks rs, and answers
+--   taken_from t rs          what a started decoder takes of the blocks rs, and answers
 --   CorrectedTo t rs info error   it refuses none of them, answers nothing yet while its delay lasts, and then delivers
 --                            at place p what `info` says of the place m × (N − 1) back, never marked doubtful, and with
 --                            a mark that tells what `error` says of that place
---   LoadCorrected           so it is of a load, with information 0, and its own blocks as the errors
+--   LoadCorrected            so it is of a load, with information 0, and its own blocks as the errors
 --   disturbed t seed infos   the coded form of a message as received, with the errors of a load
---   LoadReceived            zeros are coded as zeros, and a load is the coded form of zeros as received
---   DisturbedMessage        a message so disturbed is delivered, as far as its blocks are
+--   LoadReceived             zeros are coded as zeros, and a load is the coded form of zeros as received
+--   DisturbedMessage         a message so disturbed is delivered, as far as its blocks are
 use Rattle.std.specs.Prelude.{◌≡◌, true, ℕ, ◌-◌, ◌≤◌, ◌<◌, length, get_or, replicate}
 use mathlib.Core.List.{List, zip_with}
 use Rattle.span.specs.Word.{◌⊕◌}

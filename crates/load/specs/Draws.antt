@@ -2,10 +2,10 @@
 -- state is a number of 32 bits.
 --
 --   left_xor k x, right_xor k x   the exclusive or of x and x shifted by k places, in 32 bits
---   next_state x                 the state after a draw
---   drawn g                     what a draw of the generator g hands back
---   after k x                   the state after k draws
---   NeverZero                  0 leads to 0, and no other state does
+--   next_state x                  the state after a draw
+--   drawn g                       what a draw of the generator g hands back
+--   after k x                     the state after k draws
+--   NeverZero                     0 leads to 0, and no other state does
 use Rattle.std.specs.Prelude.{◌≡◌, ◌≢◌, ℕ, zero, suc, ◌/◌, ◌^◌, ◌<◌}
 use Rattle.span.specs.Word.{◌⊕◌, shifted}
 use Rattle.load.specs.declared.generator.Generator.{Generator}

@@ -1,7 +1,7 @@
 -- Seed 1, worked out.
 --
---   FirstDraw                    "seed 1 draws 270369 first"
---   small_table                    the made table for n = 2 and m = 3
+--   FirstDraw                     "seed 1 draws 270369 first"
+--   small_table                   the made table for n = 2 and m = 3
 --   first_blocks, FirstBlocks     the first 53 blocks of its load of that table
 --   first_answers, FirstAnswers   what a started decoder answers to the first 31 of them
 use Rattle.std.specs.Prelude.{◌≡◌, List, [], ◌∷◌, ◌++◌, ℕ, replicate}

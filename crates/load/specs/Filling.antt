@@ -1,12 +1,12 @@
 -- Filling lent blocks with a load: 02, CR 8, "Answers: first 12, then 17, the seed is 0."
 --
 --   load_fault t seed          12, 17 or 0
---   load_answer, load_blocks    the answer, and the lent blocks after it
+--   load_answer, load_blocks   the answer, and the lent blocks after it
 --   load_numbers r             the number of an answer
---   Loads t seed out r out'   what `fill_load` promises
---   LoadCalls                a refusal has the number of the first reason that applies, and leaves the lent blocks;
---                             where none applies they are filled
---   LoadRows                 rows past n − 1 do not matter, and to the blocks of a load no row does
+--   Loads t seed out r out'    what `fill_load` promises
+--   LoadCalls                  a refusal has the number of the first reason that applies, and leaves the lent blocks;
+--                              where none applies they are filled
+--   LoadRows                   rows past n − 1 do not matter, and to the blocks of a load no row does
 use Rattle.std.specs.Prelude.{◌≡◌, cond, ◌⊎◌, List, [], ◌∷◌, ℕ, eqb, length}
 use Rattle.tables.specs.declared.table.Table.{Table}
 use Rattle.tables.specs.Table.{fit, SameTable}

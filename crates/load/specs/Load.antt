@@ -3,18 +3,18 @@
 -- is the state of the generator.
 --
 --   errors n k x            the errors of k blocks
---   burst_length m x         how many blocks a round's burst has
---   after_burst m x          the state after its errors are drawn
---   gap_length m guard x     how many blocks its gap has
---   after_round m x          the state after the round
+--   burst_length m x        how many blocks a round's burst has
+--   after_burst m x         the state after its errors are drawn
+--   gap_length m guard x    how many blocks its gap has
+--   after_round m x         the state after the round
 --   round n m guard x       the blocks of a round
 --   rounds n m guard k x    those of k rounds
 --   load n m guard seed k   the first k blocks of the rounds from a seed on
---   load_of t seed k         the same of a table
---   LoadLength             a load has the length that is asked for
---   LoadRounds             it is the first blocks of any rounds that are enough
---   LoadCut                a shorter load is the beginning of a longer one
---   LoadBelow              its blocks are below 2^n
+--   load_of t seed k        the same of a table
+--   LoadLength              a load has the length that is asked for
+--   LoadRounds              it is the first blocks of any rounds that are enough
+--   LoadCut                 a shorter load is the beginning of a longer one
+--   LoadBelow               its blocks are below 2^n
 use Rattle.std.specs.Prelude.{◌≡◌, List, [], ◌∷◌, ◌++◌, ℕ, zero, suc, ◌+◌, ◌%◌, ◌^◌, ◌≤◌, length, take, replicate}
 use Rattle.span.specs.Combination.{Below}
 use Rattle.tables.specs.declared.table.Table.{Table}

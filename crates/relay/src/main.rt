@@ -1,6 +1,7 @@
 // The codec used from Rattle: a station codes water levels by the batch, a fade damages m blocks in a row, and a relay
 // decodes what it received by the batch. Prints a line a delivery: its number, the level and the mark.
 #![tactic(auto)]
+
 ghost use Rattle.std.specs.Prelude.{◌≡◌, ◌≤◌, length, take};
 
 use link::code_batch::code_batch;
@@ -112,12 +113,7 @@ fn print_refusal(rt: &impl Print, number: u64) -> io::Result<()> {
 
 // A batch returns the part of the lent entries that it filled, one entry a block taken. It ends where these are full, and
 // before a block that the single call would refuse; that call says why.
-fn relay(
-    rt: &impl Print,
-    t: Table,
-    coder: &mut [u64],
-    decoder: &mut [u64],
-) -> io::Result<()> {
+fn relay(rt: &impl Print, t: Table, coder: &mut [u64], decoder: &mut [u64]) -> io::Result<()> {
     let mut infos = [0u16; BLOCKS];
     let mut received = [0u16; BLOCKS];
     let mut coded = [0u32; BLOCKS];

@@ -1,17 +1,17 @@
 -- 01, "The listing program reads n, m (a byte each), then received blocks of two bytes, low first, and uses the made
 -- table. It prints a header, then one line a delivery .. The header comes first in any case."
 --
---   Listed              what was printed, the memory, the number of the next delivery, and whether the program stopped
---   prefixed bs l       the same, printed after bs
---   block_of low high    a received block
+--   Listed                what was printed, the memory, the number of the next delivery, and whether the program stopped
+--   prefixed bs l         the same, printed after bs
+--   block_of low high     a received block
 --   answer_text, answer_number, answer_stops   what one answer does
 --   Printed out at k a r end number stopped   what writing its bytes does
 --   listed_after a s k rest   an answer listed, and then the rest
---   listed t s k bs     the bytes bs listed, from the memory s and the number k on
---   made_listing a t bs  the bytes bs listed with the made table, or refusal 11
---   listing bs          all that the program prints of the input bs
---   continued t l bs    the bytes bs listed after l
---   PartsLaw               listing even parts one after the other is listing the whole
+--   listed t s k bs       the bytes bs listed, from the memory s and the number k on
+--   made_listing a t bs   the bytes bs listed with the made table, or refusal 11
+--   listing bs            all that the program prints of the input bs
+--   continued t l bs      the bytes bs listed after l
+--   PartsLaw              listing even parts one after the other is listing the whole
 --   part_room k bytes room      whether the lines of a part of so many bytes have room, and the numbers from k on
 --   part_listed t s k bs room   what a call that lists a part does, with `room` bytes for the lines
 --   Lists l out r memory end number stopped   what such a call leaves and answers

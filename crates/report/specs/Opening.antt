@@ -1,24 +1,24 @@
 -- The opening of the listing program: what it prints before the first delivery, the table, and the decoder started.
 -- With `listed`, which lists the blocks in parts, that is the whole listing.
 --
---   Opening               what is printed, the table, and whether the program stopped
---   opened_made a t        after the header: the made table t, or refusal 11
---   headed o              the same after the header
---   opened bs             the opening of an input whose first two bytes, or all that it has, are bs
---   memory_words           the longest memory of a decoder of a made table
---   started_in t s         s with a decoder started in its first words
+--   Opening                 what is printed, the table, and whether the program stopped
+--   opened_made a t         after the header: the made table t, or refusal 11
+--   headed o                the same after the header
+--   opened bs               the opening of an input whose first two bytes, or all that it has, are bs
+--   memory_words            the longest memory of a decoder of a made table
+--   started_in t s          s with a decoder started in its first words
 --   opened_words, opened_memory   how many words the decoder has, and the memory; none where the program stopped
---   opening_room words bytes     whether so many words for the memory, and so many bytes for the lines, are room
+--   opening_room words bytes      whether so many words for the memory, and so many bytes for the lines, are room
 --   opened_within words bytes bs what a call does that has them
---   Opens o at s s' out out' r  what such a call leaves and answers, its bytes from the position `at` on
---   joined parts          the parts of an input, joined
---   whole_blocks parts     no part ends in the middle of a block, unless no byte follows
+--   Opens o at s s' out out' r    what such a call leaves and answers, its bytes from the position `at` on
+--   joined parts            the parts of an input, joined
+--   whole_blocks parts      no part ends in the middle of a block, unless no byte follows
 --   parts_listed t l parts the parts listed one after the other, after l
---   nothing_listed t       a decoder started, and nothing listed
---   after_opening o parts  what the parts print, if the opening has not stopped
---   ListingLaw               the opening, and then the parts, are the listing of the input
---   ProgramRoom          with the program's buffers `opening` and `part` have the room that `ListingLaw` takes for
---                         granted
+--   nothing_listed t        a decoder started, and nothing listed
+--   after_opening o parts   what the parts print, if the opening has not stopped
+--   ListingLaw              the opening, and then the parts, are the listing of the input
+--   ProgramRoom             with the program's buffers `opening` and `part` have the room that `ListingLaw` takes for
+--                           granted
 use Rattle.std.specs.Prelude.{◌≡◌, Bool, true, false, ◌&&◌, cond, ◌⊎◌, List, [], ◌∷◌, ◌++◌, ℕ, ◌+◌, ◌*◌, ◌%◌, ◌^◌, ◌≤◌, ◌<◌, leb, length, get_or, drop}
 use Rattle.tables.specs.declared.table.Table.{Table}
 use Rattle.tables.specs.declared.make.MakeAnswer.{MakeAnswer}

@@ -1,16 +1,16 @@
 -- The lines of the listing program, as bytes: 01, "It prints a header, then one line a delivery: number from 0,
 -- information, mark, e or 0."
 --
---   decimal_of x         the decimal digits of x, with no zero in front, and "0" for 0
---   glyph d             the byte of a digit
+--   decimal_of x       the decimal digits of x, with no zero in front, and "0" for 0
+--   glyph d            the byte of a digit
 --   decimal_within fuel x   the digits of x, if they are at most `fuel`
---   space, newline      the two other bytes
---   header_line          "block info mark error"
---   mark_word k          the word of a mark
---   line_of number d     the line of a delivery
---   refused_line k       "refused", a space and the number
---   odd_line             "odd byte"
---   Decimal             what the digits of a number are
+--   space, newline     the two other bytes
+--   header_line        "block info mark error"
+--   mark_word k        the word of a mark
+--   line_of number d   the line of a delivery
+--   refused_line k     "refused", a space and the number
+--   odd_line           "odd byte"
+--   Decimal            what the digits of a number are
 use Rattle.std.specs.Prelude.{◌≡◌, cond, List, [], ◌∷◌, ◌++◌, ℕ, zero, suc, ◌+◌, ◌/◌, ◌%◌, ◌≤◌, ◌<◌, ltb}
 use Rattle.link.specs.declared.decode.Mark.{Mark}
 use Rattle.link.specs.declared.decode.Mark.TheVariants.{Clean, Held, Corrected, Doubtful, Parity}

@@ -5,8 +5,8 @@
 --   longest                 a line has no more bytes
 --   room out at             whether as many are free
 --   put out at bs           the bytes after a call that is to write bs: where there is no room, nothing is written
---   put_end out at bs        the position after it: where there is no room, it stays
---   Longest, LongestLaw        no line is longer
+--   put_end out at bs       the position after it: where there is no room, it stays
+--   Longest, LongestLaw     no line is longer
 use Rattle.std.specs.Prelude.{◌≡◌, Bool, cond, List, ◌++◌, ℕ, ◌+◌, ◌^◌, ◌≤◌, ◌<◌, leb, length, take, drop}
 use Rattle.link.specs.declared.decode.Delivered.{Delivered}
 use Rattle.link.specs.Decoder.{mark_error}

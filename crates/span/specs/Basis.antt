@@ -1,10 +1,10 @@
 -- A basis by value, and what reducing a word by it gives, of every value of the struct.
 --
---   basis n vs hs qs    the struct of size n with these vectors, check words and coefficients
+--   basis n vs hs qs     the struct of size n with these vectors, check words and coefficients
 --   reduced_by v h q r   one step of a reduction, by the triple of vector v, check word h and coefficients q
 --   reduced_to b i x     x reduced by the first i triples of b
---   reduction b x       x reduced by all triples of b
---   answer r            what a reduction says of the word: its coefficients where nothing is left of it
+--   reduction b x        x reduced by all triples of b
+--   answer r             what a reduction says of the word: its coefficients where nothing is left of it
 use Rattle.std.specs.Prelude.{ℕ, zero, suc, min, cond, List, ◌==◌, slice_index}
 use Rattle.span.specs.declared.eliminate.Basis.{Basis}
 use Rattle.span.specs.declared.eliminate.Reduced.{Reduced}

@@ -2,16 +2,16 @@
 --
 --   crossed vs ds h i   the check word h, with each of the first i new check words ds added whose vector of vs has an
 --                       odd count of common ones with h
---   dual_to vs hs i      the new check words of the first i triples, of 32; the others are 0
---   dual_checks b        the new check words of a basis
+--   dual_to vs hs i     the new check words of the first i triples, of 32; the others are 0
+--   dual_checks b       the new check words of a basis
 --   dual b              b with these in place of its check words
---   at_once_to b i x      x reduced by the first i triples of b, each of which tests x itself
---   at_once b x          x reduced by all triples of b, in that way
+--   at_once_to b i x    x reduced by the first i triples of b, each of which tests x itself
+--   at_once b x         x reduced by all triples of b, in that way
 --   together ws i       the ones of the first i words of ws together
---   AtOnce             with the new check words that is the reduction, of every value of the struct
---   DualReduces        so that the basis of words answers with the least coefficients
---   least_by b ones x    what the basis says of a word
---   LeastBy            that is its least coefficients
+--   AtOnce              with the new check words that is the reduction, of every value of the struct
+--   DualReduces         so that the basis of words answers with the least coefficients
+--   least_by b ones x   what the basis says of a word
+--   LeastBy             that is its least coefficients
 --   Unmet               a word that has no one in common with the check words is left as it is
 use Rattle.std.specs.Prelude.{◌≡◌, ℕ, zero, suc, ◌≤◌, min, cond, List, length, replicate, ◌==◌, bit_and, bit_or, slice_index, slice_set}
 use Rattle.span.specs.declared.eliminate.Basis.{Basis}

@@ -3,11 +3,11 @@
 -- `dual_basis` says the struct's whole value.
 --
 --   pivot v           the place of the one of a word that is nearest an end
---   empty_basis        the basis of no words
+--   empty_basis       the basis of no words
 --   grown i b r       b with what is left of word i, reduced to r, as one more triple
 --   joined i b r      b with word i, reduced to r, taken up
 --   extended i b ws   b with the words ws taken up, the first of them word i
---   basis_of ws        the basis of a list of words
+--   basis_of ws       the basis of a list of words
 use Rattle.std.specs.Prelude.{ℕ, suc, ◌+◌, ◌-◌, ◌^◌, cond, List, [], ◌∷◌, replicate, ◌==◌, nat_le, slice_set}
 use Rattle.std.specs.Int.Count.{count_leading_zeros, count_trailing_zeros}
 use Rattle.span.specs.declared.eliminate.Basis.{Basis}

@@ -5,15 +5,15 @@
 --   ShiftedLinear       shifting is linear
 --   CombinationLinear   combination is linear in the coefficients
 --   LeastRelation       what the search for a relation finds is one, and no smaller one is; where it finds none, there
---                        is none
+--                       is none
 --   LeastCoefficients   the same of the coefficients of a target
 --   LeastUnique         there is only one least
 --   LeastRaised         the least coefficients of a target are the least relation that ends in it
---   Membership           a target has least coefficients exactly if it is a combination of the words
---   Independence         there is no least relation from 0 exactly if the words are independent
---   ReducesLaw              a basis built from words answers, of any word, with its least coefficients
---   DimensionLaw            words below 2^N without a relation are at most N
---   Spanning             N of them span everything below 2^N
+--   Membership          a target has least coefficients exactly if it is a combination of the words
+--   Independence        there is no least relation from 0 exactly if the words are independent
+--   ReducesLaw          a basis built from words answers, of any word, with its least coefficients
+--   DimensionLaw        words below 2^N without a relation are at most N
+--   Spanning            N of them span everything below 2^N
 use Rattle.std.specs.Prelude.{◌≡◌, ℕ, ◌^◌, ◌<◌, ◌≤◌, ◌↔◌, List, [], ◌∷◌, ◌++◌, length, ◌≢◌, bit_and, count_ones}
 use Rattle.span.specs.declared.eliminate.Least.{Least}
 use Rattle.span.specs.declared.eliminate.Least.TheVariants.{Missing}

@@ -1,11 +1,11 @@
 -- Combinations by lookup: four tables of 16 words, one after another, for the combinations of up to 16 words.
 --
 --   combinations ws c              the combinations of the words ws by the numbers from 0 to c − 1
---   lookup_tables g ws              g tables, one after another: of the first four words, of the next four, and so on
---   lookup_of ws                    the tables of the words ws
---   looked_up ls c                  the exclusive or of one word of each table: by bits 0 to 3 of c, 4 to 7, 8 to 11 and
+--   lookup_tables g ws             g tables, one after another: of the first four words, of the next four, and so on
+--   lookup_of ws                   the tables of the words ws
+--   looked_up ls c                 the exclusive or of one word of each table: by bits 0 to 3 of c, 4 to 7, 8 to 11 and
 --                                  12 to 15
---   LookedUp                      the tables give the combination
+--   LookedUp                       the tables give the combination
 --   Doubled at width n row ls ms   how the code takes up one word: of the tables before, ls, and after, ms
 --   Grouped ws g ls ms             how the code makes table g
 use Rattle.std.specs.Prelude.{◌≡◌, ℕ, zero, suc, ◌+◌, ◌*◌, ◌/◌, ◌%◌, ◌<◌, ◌≤◌, List, [], ◌∷◌, ◌++◌, length, drop, slice_index, slice_index_or}

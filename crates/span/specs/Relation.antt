@@ -1,9 +1,9 @@
 -- The least relation among words: the one question that the layers above ask about rows.
 --
---   least_from p a n           the least number that passes the test p, of the n numbers from a on
---   least_relation ws f        the least relation among ws from f: the least c with 2^f ≤ c < 2^k and combination c = 0,
+--   least_from p a n          the least number that passes the test p, of the n numbers from a on
+--   least_relation ws f       the least relation among ws from f: the least c with 2^f ≤ c < 2^k and combination c = 0,
 --                             of k words
---   least_coefficients ws x    the least c below 2^k whose combination is x
+--   least_coefficients ws x   the least c below 2^k whose combination is x
 --   raised k r                the coefficients of a target as a relation that ends in it
 --   IsLeast P a b r           r is the least number from a to b − 1 of which P holds, or `Missing` where P holds of
 --                             none

@@ -1,12 +1,12 @@
 -- Words over GF(2): a number stands for its binary digits.
 --
---   a ⊕ b                exclusive or
---   odd x                the parity of a number: whether it is odd, which is its bit 0
---   bit p x              whether bit p of x is 1
---   sel s x              x where s holds, and 0 where it does not
---   digit s              s as a number, 1 or 0
+--   a ⊕ b                 exclusive or
+--   odd x                 the parity of a number: whether it is odd, which is its bit 0
+--   bit p x               whether bit p of x is 1
+--   sel s x               x where s holds, and 0 where it does not
+--   digit s               s as a number, 1 or 0
 --   common_parity k a b   whether a and b have an odd count of common ones among places 0 to k − 1
---   shifted N l x        x shifted by l in N bits
+--   shifted N l x         x shifted by l in N bits
 use Rattle.std.specs.Prelude.{ℕ, zero, suc, ◌*◌, ◌/◌, ◌%◌, ◌^◌, Bool, true, false, ◌&&◌, ◌==◌, bit_xor}
 use Rattle.std.specs.Bool.{xor}
 

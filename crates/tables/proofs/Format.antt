@@ -1,14 +1,14 @@
 -- The fault of a record, by its kind, and one record of a parse. Assumes nothing.
 --
---   word_fits                          a row's number fits a word
---   fault-ended, -unknown, -cut        refusals 1 to 3
---   fault-sizes, -row, -end            the tests of a whole record
---   header, Passed                     the first of 1 to 4, and what it says where there is none
---   passed-sizes, -row, -end           the tests that are left then
---   fault-sound                        what a fault of 0 says
---   parse-refused, -done, -next        what one record does to a parse
---   parse-step                         the same in one law
---   Reaches                            the parse of the whole comes by a place
+--   word_fits                     a row's number fits a word
+--   fault-ended, -unknown, -cut   refusals 1 to 3
+--   fault-sizes, -row, -end       the tests of a whole record
+--   header, Passed                the first of 1 to 4, and what it says where there is none
+--   passed-sizes, -row, -end      the tests that are left then
+--   fault-sound                   what a fault of 0 says
+--   parse-refused, -done, -next   what one record does to a parse
+--   parse-step                    the same in one law
+--   Reaches                       the parse of the whole comes by a place
 use mathlib.Core.Path.{◌≡◌, refl, sym, ◌∙◌, subst}
 use mathlib.Core.Bool.{Bool, true, false, cond, not, ◌&&◌, ◌||◌}
 use mathlib.Core.Logic.{◌≢◌}

@@ -1,9 +1,9 @@
 -- Tables that are the same: n, N, m and rows 1 to n − 1. Assumes nothing.
 --
---   trimmed t   t with its rows past n − 1 set to 0, as reading returns it: it is the same as t, and whole
---   same_row    their rows
---   whole_same  whole ones are equal
---   sizes-are   one with the sizes of the other
+--   trimmed t    t with its rows past n − 1 set to 0, as reading returns it: it is the same as t, and whole
+--   same_row     their rows
+--   whole_same   whole ones are equal
+--   sizes-are    one with the sizes of the other
 use mathlib.Core.Path.{◌≡◌, refl, sym, ap, ◌∙◌}
 use mathlib.Core.Bool.{Bool, true, false}
 use mathlib.Core.List.{List, ◌++◌}

@@ -1,16 +1,16 @@
 -- 02, CR 5, "The first clash": which triple refusal 10 returns. The rows are n in number, the parity's among them.
 --
 --   Triple, triple l e0 e1 a shift l and two error blocks, e0 and e1
---   first_from f a c        what f finds at the first number where it finds something, of the c numbers from a on
+--   first_from f a c       what f finds at the first number where it finds something, of the c numbers from a on
 --   clash_by N rows l e0 e1 the triple, if the image of e0 is that of e1 shifted by l
---   clash_of N rows l e0    the first clash of the block e0 at the shift l
---   clash_at N rows l       the first clash at the shift l
---   first_clash N rows      the first clash of a table, or none
+--   clash_of N rows l e0   the first clash of the block e0 at the shift l
+--   clash_at N rows l      the first clash at the shift l
+--   first_clash N rows     the first clash of a table, or none
 --   First N rows l e0 e1   of all triples that clash this one has the least l, of those the least e0, of those the
 --                          least e1
---   FirstClash            the search finds exactly that triple
---   NoClash               it finds none exactly if the table is suitable
---   ClashZero             a first clash with e1 = 0 is at the shift 1, and the image of e0 is 0
+--   FirstClash             the search finds exactly that triple
+--   NoClash                it finds none exactly if the table is suitable
+--   ClashZero              a first clash with e1 = 0 is at the shift 1, and the image of e0 is 0
 use Rattle.std.specs.Prelude.{◌≡◌, ◌↔◌, cond, List, ℕ, zero, suc, ◌-◌, ◌^◌, ◌≤◌, eqb, length}
 use Rattle.std.proofs.Math.Option.{Option, none, some, or_else}
 use Rattle.tables.specs.Code.{image, shifted_image, Clashes, Suitable}

@@ -1,13 +1,13 @@
 -- 01, "The code", over the list of rows 1 to n, the last of them the parity's, and the decoding span N.
 --
---   Block n e                   e is the number of a block of n symbols
---   weight j                    the weight of symbol j in a block's number
---   image rows e                the image of an error block
---   shifted_image N rows l e     the image of e shifted by l
---   Clashes N rows l e0 e1      what the triple of refusal 10 shows: l is a shift, e0 and e1 are blocks, e0 is not 0,
---                               and the image of e0 is that of e1 shifted by l
---   Unsuitable N rows           some triple shows it
---   Suitable N rows             none does
+--   Block n e                  e is the number of a block of n symbols
+--   weight j                   the weight of symbol j in a block's number
+--   image rows e               the image of an error block
+--   shifted_image N rows l e   the image of e shifted by l
+--   Clashes N rows l e0 e1     what the triple of refusal 10 shows: l is a shift, e0 and e1 are blocks, e0 is not 0,
+--                              and the image of e0 is that of e1 shifted by l
+--   Unsuitable N rows          some triple shows it
+--   Suitable N rows            none does
 use Rattle.std.specs.Prelude.{◌≡◌, ◌≢◌, List, ℕ, ◌-◌, ◌^◌, ◌≤◌, ◌<◌, length}
 use Rattle.span.specs.Word.{shifted}
 use Rattle.span.specs.Combination.{combination}

@@ -1,20 +1,20 @@
 -- 01, "Table bytes" and refusals 1 to 9: what bytes say, record by record. A record is told by the list of bytes that
 -- it begins; the bytes after it are the rest of that list.
 --
---   kind s, size k         the kind of the record that begins s; the length of a record of kind k, its kind byte
---                          included
---   word s k c             the number of c bytes of s from place k on, low byte first
---   row_word s              the row of a row record
---   progress, begun        the table so far and the rows given; before the first record
---   all_given, unavailable  whether all rows were given, and whether a row number is none or was given
+--   kind s, size k           the kind of the record that begins s; the length of a record of kind k, its kind byte
+--                            included
+--   word s k c               the number of c bytes of s from place k on, low byte first
+--   row_word s               the row of a row record
+--   progress, begun          the table so far and the rows given; before the first record
+--   all_given, unavailable   whether all rows were given, and whether a row number is none or was given
 --   ended, unknown, cut, misplaced, sizes_out, misnumbered, too_long, missing, followed   the tests of 1 to 9
---   fault g s              the first of 1 to 9 that applies, or 0
---   place k p              the place of refusal k at a record that begins at p
---   sized, rowed, after    the progress after a sizes record, after a row record, and after either
---   Parse                  refused, with number and place, or a table
+--   fault g s                the first of 1 to 9 that applies, or 0
+--   place k p                the place of refusal k at a record that begins at p
+--   sized, rowed, after      the progress after a sizes record, after a row record, and after either
+--   Parse                    refused, with number and place, or a table
 --   parse_from, parse_at     what the bytes from a place on say
---   parse bytes            what bytes say
---   ParseStep             the same, record by record
+--   parse bytes              what bytes say
+--   ParseStep                the same, record by record
 use Rattle.std.specs.Prelude.{◌≡◌, Bool, true, false, cond, not, ◌&&◌, ◌||◌, List, [], ◌∷◌, ℕ, zero, suc, ◌+◌, ◌-◌, ◌*◌, ◌^◌, leb, ltb, eqb, length, get_or, drop, set, replicate}
 use Rattle.tables.specs.declared.table.Table.{Table}
 use Rattle.tables.specs.declared.read.Progress.{Progress}

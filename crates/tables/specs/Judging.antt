@@ -1,10 +1,10 @@
 -- What judging a table value says.
 --
 --   judgement_of o   what the search for a clash says of a fit table: the clash that it found, or sound
---   judging t       the judgement of t: unfit, its first clash, or sound
---   Judges t j      the judgement j is right of t: not fit; fit, and the triple is the first that shows it unsuitable;
---                   or fit and suitable
---   Judged          the judgement of t is the one that is right
+--   judging t        the judgement of t: unfit, its first clash, or sound
+--   Judges t j       the judgement j is right of t: not fit; fit, and the triple is the first that shows it unsuitable;
+--                    or fit and suitable
+--   Judged           the judgement of t is the one that is right
 use Rattle.std.specs.Prelude.{◌≡◌, ◌↔◌, true, false, cond}
 use Rattle.std.proofs.Math.Option.{Option, none, some}
 use Rattle.tables.specs.declared.table.Table.{Table}

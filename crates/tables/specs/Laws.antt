@@ -1,7 +1,7 @@
 -- What the crate proves of tables and refusals.
 --
 --   CodeRows     a fit table by value has n rows, the parity's among them
---   ImageLaw         the image of one symbol is its row, and images are linear
+--   ImageLaw     the image of one symbol is its row, and images are linear
 --   FirstApplies the test that it has the number of applies, and none before it
 --   FirstNone    no refusal is the first that applies only if none applies
 --   FirstRange   the first that applies has the number of one of the tests

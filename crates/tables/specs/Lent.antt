@@ -1,9 +1,9 @@
 -- A table whose rows are lent beside it, so that a caller need not copy them into one: its own rows do not count then.
 --
 --   with_rows t rows   the table of t's sizes and these rows
---   lent t rows       the same, if they are fifteen, as a table holds; otherwise the zero table, which 12 refuses
---   LentLaw              fifteen rows are the table's, any other count is the zero table; a table with its own rows is
---                     that table
+--   lent t rows        the same, if they are fifteen, as a table holds; otherwise the zero table, which 12 refuses
+--   LentLaw            fifteen rows are the table's, any other count is the zero table; a table with its own rows is
+--                      that table
 use Rattle.std.specs.Prelude.{◌≡◌, cond, ◌≢◌, List, ℕ, eqb, length}
 use Rattle.tables.specs.declared.table.Table.{Table}
 use Rattle.tables.specs.Table.{table, zero_table}

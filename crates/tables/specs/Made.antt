@@ -1,15 +1,15 @@
 -- 01, "Made tables": tables from a triangle of bits (001, 21.15).
 --
---   columns             the triangle's columns 2 to 16, a number each: place j at bit j − 1
---   upper cs n j i      what the first i columns of cs (columns 2 to i + 1) add to row j of the table for n
+--   columns              the triangle's columns 2 to 16, a number each: place j at bit j − 1
+--   upper cs n j i       what the first i columns of cs (columns 2 to i + 1) add to row j of the table for n
 --   made_row cs n j      row j of the table for n from the columns cs
 --   made_rows cs n i     rows 1 to i
 --   triangle_rows cs n   rows 1 to n
---   Triangle cs         cs is a triangle: column k has places 1 to k − 1
+--   Triangle cs          cs is a triangle: column k has places 1 to k − 1
 --   made_table n m       the table that we make
---   making n m          what making answers: the table, or refusal 11 and the zero table
+--   making n m           what making answers: the table, or refusal 11 and the zero table
 --   made_numbers a       01's number of the answer: 0, or 11
---   Makes n m r         what `make` promises
+--   Makes n m r          what `make` promises
 use Rattle.std.specs.Prelude.{cond, ◌≡◌, List, [], ◌∷◌, ◌++◌, ℕ, zero, suc, ◌+◌, ◌-◌, ◌*◌, ◌^◌, ◌<◌, length, get_or, replicate}
 use Rattle.span.specs.Word.{bit, digit}
 use Rattle.tables.specs.declared.table.Table.{Table}

@@ -1,18 +1,18 @@
 -- What reading a table says.
 --
---   read_numbers a       the number of 01 and the values that a refusal returns; 0 of an accepted table
---   read_table t o       what is read of bytes that say t, by its first clash
---   read_parse p         what is read of bytes whose parse is p
+--   read_numbers a      the number of 01 and the values that a refusal returns; 0 of an accepted table
+--   read_table t o      what is read of bytes that say t, by its first clash
+--   read_parse p        what is read of bytes whose parse is p
 --   reading bytes       what reading answers: the answer, with the table beside it
 --   clash_result, read_result   the numbers that are due, by the first clash, and by the parse
 --   Read bytes r        what `read` promises
---   AcceptedSuitable   an accepted table is the one that the bytes say, fit and suitable
---   SuitableAccepted   bytes that say a suitable table are accepted
---   RefusedRange       a parse that is refused has a number from 1 to 9
---   RefusedPlace       its place lies in the bytes, or, of 1, at their end
---   RefusedNumbers     the number and place of a parse that is refused are those of the reading
---   RefusedUnsuitable  a table refused for 10 is unsuitable, and the triple is the first that shows it
---   UnsuitableNumbers  10, with the first triple, is the answer to bytes that say a table that is not suitable
+--   AcceptedSuitable    an accepted table is the one that the bytes say, fit and suitable
+--   SuitableAccepted    bytes that say a suitable table are accepted
+--   RefusedRange        a parse that is refused has a number from 1 to 9
+--   RefusedPlace        its place lies in the bytes, or, of 1, at their end
+--   RefusedNumbers      the number and place of a parse that is refused are those of the reading
+--   RefusedUnsuitable   a table refused for 10 is unsuitable, and the triple is the first that shows it
+--   UnsuitableNumbers   10, with the first triple, is the answer to bytes that say a table that is not suitable
 use Rattle.std.specs.Prelude.{◌≡◌, true, ◌≢◌, List, [], ◌∷◌, ℕ, ◌≤◌, ◌<◌, length}
 use Rattle.std.proofs.Math.Option.{Option, none, some}
 use Rattle.tables.specs.declared.table.Table.{Table}

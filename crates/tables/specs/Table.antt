@@ -2,12 +2,12 @@
 -- is 1 always and is not stored.
 --
 --   table n N m rows   the one constructor
---   zero_table          the table beside every refusal
---   info_rows t         rows 1 to n − 1, those of the information
---   code_rows n rows    rows 1 to n of the code: those stored, and the parity's
---   rows_of t           the same of a table
---   sizes_fit n N m     n is 2 to 16, N is 2 to 64, m is 1 to 64
---   rows_fit N rows     no row has a one at bit N or above
+--   zero_table         the table beside every refusal
+--   info_rows t        rows 1 to n − 1, those of the information
+--   code_rows n rows   rows 1 to n of the code: those stored, and the parity's
+--   rows_of t          the same of a table
+--   sizes_fit n N m    n is 2 to 16, N is 2 to 64, m is 1 to 64
+--   rows_fit N rows    no row has a one at bit N or above
 --   fit t              refusal 12 does not apply
 --   Whole t            t is fit, it holds fifteen rows, and those past n − 1 are 0
 --   SameTable u t      u and t have the same n, N, m and rows 1 to n − 1: no call tells them apart

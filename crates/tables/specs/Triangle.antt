@@ -1,14 +1,14 @@
 -- What the crate proves of made tables: of the triangle, and of what making answers.
 --
---   OurTriangle  our columns are a triangle of all sizes to 16
---   MadeLaw          a made table has the sizes asked for and N = 2n, is fit and suitable, and has the rows of our
---                 triangle
---   MadeWholeLaw    its other rows are 0
---   MadeDepth    making with another depth changes only the depth
---   NestedRows   each row of the larger table is twice that of the smaller one and its bit of the new column
---   FillingLaw       a suitable table has exactly one column that makes the next one suitable
---   Forced        with our columns before it, a column makes its size suitable exactly if it is ours
---   Unique        a triangle all of whose sizes are suitable is ours
+--   OurTriangle    our columns are a triangle of all sizes to 16
+--   MadeLaw        a made table has the sizes asked for and N = 2n, is fit and suitable, and has the rows of our
+--                  triangle
+--   MadeWholeLaw   its other rows are 0
+--   MadeDepth      making with another depth changes only the depth
+--   NestedRows     each row of the larger table is twice that of the smaller one and its bit of the new column
+--   FillingLaw     a suitable table has exactly one column that makes the next one suitable
+--   Forced         with our columns before it, a column makes its size suitable exactly if it is ours
+--   Unique         a triangle all of whose sizes are suitable is ours
 --   another, NotUnique   a triangle that is not ours whose size 5 is suitable: `Unique` needs the smaller sizes
 use Rattle.std.specs.Prelude.{◌≡◌, true, ◌≢◌, ◌↔◌, List, [], ◌∷◌, ◌++◌, ℕ, suc, ◌+◌, ◌-◌, ◌*◌, ◌^◌, ◌≤◌, ◌<◌, length, get_or, take}
 use Rattle.span.specs.Word.{bit, digit}

@@ -1,28 +1,28 @@
 -- 02, CR 2, "Tables written back": the bytes of a table with its rows ascending, what writing answers, and what it
 -- leaves of the lent buffer.
 --
---   ascending j c       the c numbers from j on
---   written t           the bytes of t: sizes, rows ascending, end
---   written_length t     how many they are, 10n − 5
---   write_numbers a      the number of an answer and its values: 0 and the count of bytes written; 12 or 16; 10 and its
---                       triple
---   write_by t room j    the answer, by the judgement of t and the length of the buffer
---   write_answer t room  what writing answers
+--   ascending j c         the c numbers from j on
+--   written t             the bytes of t: sizes, rows ascending, end
+--   written_length t      how many they are, 10n − 5
+--   write_numbers a       the number of an answer and its values: 0 and the count of bytes written; 12 or 16; 10 and its
+--                         triple
+--   write_by t room j     the answer, by the judgement of t and the length of the buffer
+--   write_answer t room   what writing answers
 --   write_result t room j   the numbers that are due
 --   write_buffer a t before   what the answer a leaves of the buffer
 --   Writes t before a after   what `write` promises
---   row_number r         the row number of a row record
---   inserted key r qs   r put into a list that is sorted by the key
---   sorted key rs       rs by the key, ascending: insertion sort
---   records_in c s       the first c row records of s
---   sorted_file bytes    a file with its rows sorted
---   WrittenLength      the bytes of a table are 10n − 5, and of a fit one at most 155
---   SoundWritten       with room for them, a fit and suitable table is written
---   ReadsBack          what was written is accepted, and says the table
---   SameBytes          fit tables are the same exactly if their bytes are
---   AcceptedBytes      so are accepted ones
---   FileSorted         writing an accepted file gives that file with its rows sorted
---   WritesSame         rows of a handed table past n − 1 do not matter
+--   row_number r          the row number of a row record
+--   inserted key r qs     r put into a list that is sorted by the key
+--   sorted key rs         rs by the key, ascending: insertion sort
+--   records_in c s        the first c row records of s
+--   sorted_file bytes     a file with its rows sorted
+--   WrittenLength         the bytes of a table are 10n − 5, and of a fit one at most 155
+--   SoundWritten          with room for them, a fit and suitable table is written
+--   ReadsBack             what was written is accepted, and says the table
+--   SameBytes             fit tables are the same exactly if their bytes are
+--   AcceptedBytes         so are accepted ones
+--   FileSorted            writing an accepted file gives that file with its rows sorted
+--   WritesSame            rows of a handed table past n − 1 do not matter
 use Rattle.std.specs.Prelude.{◌≡◌, ◌↔◌, true, cond, ℕ, zero, suc, ◌+◌, ◌-◌, ◌*◌, ◌≤◌, ◌<◌, leb, ltb, length, get_or, take, drop}
 use mathlib.Core.List.{List, [], ◌∷◌, ◌++◌, flat_map}
 use Rattle.tables.specs.declared.table.Table.{Table}

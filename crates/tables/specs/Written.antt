@@ -1,12 +1,12 @@
 -- The bytes that say a table: the sizes record, the row records in some order, the end. The format read backwards.
 --
---   bytes_of c w        the c bytes of the number w, low byte first
---   sizes_record t      the sizes record of t
+--   bytes_of c w     the c bytes of the number w, low byte first
+--   sizes_record t   the sizes record of t
 --   row_record t j, row_records t js   the row record of t for row j, and those for the row numbers js
---   times j js         how often j stands in js
---   EachOnce n js      each of 1 to n − 1 stands in js exactly once, and nothing else does
---   Says bytes t       the bytes say t
---   ParsesExactly     bytes parse to a table exactly if they are written so
+--   times j js       how often j stands in js
+--   EachOnce n js    each of 1 to n − 1 stands in js exactly once, and nothing else does
+--   Says bytes t     the bytes say t
+--   ParsesExactly    bytes parse to a table exactly if they are written so
 use Rattle.std.specs.Prelude.{◌≡◌, ◌↔◌, cond, ◌&&◌, List, [], ◌∷◌, ◌++◌, ℕ, zero, suc, ◌+◌, ◌-◌, ◌/◌, ◌%◌, ◌<◌, leb, ltb, eqb, get_or}
 use Rattle.tables.specs.declared.table.Table.{Table}
 use Rattle.tables.specs.Table.{Whole}

@@ -38,9 +38,9 @@ returns-then-has_room c =
     sym c.has_room.ensures ∙ c.if-has_room.true in
     let free = room-free a.out.now a.at h in
     let p =
-        put-there (refused_line a.number) h
-        (wrote_then (114 ∷ 101 ∷ 102 ∷ 117 ∷ 115 ∷ 101 ∷ 100 ∷ 32 ∷ []) (decimal_of a.number ++ (10 ∷ []))
-        c.put_bytes-end.ensures c.field.ensures (omega arith)) in
+    put-there (refused_line a.number) h
+    (wrote_then (114 ∷ 101 ∷ 102 ∷ 117 ∷ 115 ∷ 101 ∷ 100 ∷ 32 ∷ []) (decimal_of a.number ++ (10 ∷ []))
+    c.put_bytes-end.ensures c.field.ensures (omega arith)) in
     record { position = p.0; bytes = p.1 }
 
 pub returns : goal.returns
