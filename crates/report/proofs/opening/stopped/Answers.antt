@@ -1,7 +1,6 @@
 -- `report::opening::stopped`: the zero table. Assumes nothing.
 use mathlib.Core.Path.{ap}
 use mathlib.Core.Bool.{true}
-use borrow.Author.Rules.{rules}
 use Rattle.tables.specs.declared.table.Table.{Table}
 use Rattle.report.proofs.opening.stopped.Goals as goal
 

@@ -5,7 +5,6 @@ use Prim.Native.Nat.{◌+◌, ◌/◌, ◌^◌}
 use lib.Dec.{leb}
 use Rattle.report.specs.Listing.{part_room}
 use Rattle.report.proofs.Room.{room-divided}
-use borrow.Author.Rules.{rules}
 use Rattle.report.proofs.part.fits.Goals as goal
 
 pub returns : goal.returns

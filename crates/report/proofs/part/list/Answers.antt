@@ -1,7 +1,6 @@
 use mathlib.Core.Path.{◌≡◌, sym, ap, subst, ◌∙◌}
-use Prim.Native.Nat.{ℕ, ◌+◌, ◌-◌, ◌*◌, ◌/◌, ◌^◌, ◌≤◌, ◌<◌}
+use Prim.Native.Nat.{ℕ, ◌+◌, ◌*◌, ◌/◌, ◌^◌, ◌≤◌, ◌<◌}
 use native.Mathlib.Omega.{arith}
-use borrow.Author.Rules.{rules}
 use lib.ListN.{length, get_or}
 use Rattle.link.specs.declared.decode.DecodeAnswer.{DecodeAnswer}
 use Rattle.link.specs.Decoder.{decode_answer, decode_memory}
@@ -9,7 +8,7 @@ use Rattle.report.specs.Text.{odd_line}
 use Rattle.report.specs.Writing.{longest}
 use Rattle.report.specs.Listing.{block_of, Printed}
 use Rattle.report.proofs.Answer.{put-wrote}
-use Rattle.report.proofs.Loop.{Going, going_start, going_next, going_stops, going_odd, going_even}
+use Rattle.report.proofs.Loop.{going_start, going_next, going_stops, going_odd, going_even}
 use Rattle.report.proofs.part.list.Goals as goal
 use Rattle.report.proofs.part.list.Goals.{After-answer_line-p, Start}
 

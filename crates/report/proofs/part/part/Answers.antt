@@ -2,7 +2,6 @@
 use mathlib.Core.Path.{sym, ◌∙◌}
 use lib.ListN.{length}
 use Rattle.report.proofs.Room.{room-there, listed-there, listed-nowhere}
-use borrow.Author.Rules.{rules}
 use Rattle.report.proofs.part.part.Goals as goal
 
 pub list-requires : goal.list-requires

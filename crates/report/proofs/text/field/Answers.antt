@@ -2,7 +2,6 @@
 use native.Mathlib.Omega.{arith}
 use Rattle.report.specs.Text.{decimal_of}
 use Rattle.report.proofs.Written.{wrote_then}
-use borrow.Author.Rules.{rules}
 use Rattle.report.proofs.text.field.Goals as goal
 
 pub returns : goal.returns

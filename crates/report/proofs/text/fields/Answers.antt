@@ -9,7 +9,6 @@ use Rattle.report.specs.Writing.{Wrote, longest}
 use Rattle.report.specs.Text.{decimal_of, space, newline}
 use Rattle.report.proofs.Digits.{digits-64, digits-16}
 use Rattle.report.proofs.Written.{wrote_then, field-length, word-length, line-fields}
-use borrow.Author.Rules.{rules}
 use Rattle.report.proofs.text.fields.Goals as goal
 use Rattle.report.proofs.text.fields.Goals.{Start}
 

@@ -4,7 +4,6 @@ use mathlib.Core.Bool.{true, false}
 use native.Mathlib.Omega.{arith}
 use Rattle.report.specs.Writing.{room}
 use Rattle.report.proofs.Written.{room-free, put-there, put-nothing}
-use borrow.Author.Rules.{rules}
 use Rattle.report.proofs.text.fixed.Goals as goal
 
 pub put_bytes-requires : goal.put_bytes-requires

@@ -6,7 +6,6 @@ use lib.ListN.{length}
 use Rattle.report.specs.Writing.{longest}
 use borrow.Author.Tests.{lt-leb}
 use Rattle.report.proofs.Written.{room-left}
-use borrow.Author.Rules.{rules}
 use Rattle.report.proofs.text.has_room.Goals as goal
 
 pub returns-then-at-out : goal.returns-then-at-out

@@ -5,7 +5,6 @@ use native.Mathlib.Omega.{arith}
 use Rattle.report.specs.Text.{line_of}
 use Rattle.report.specs.Writing.{room}
 use Rattle.report.proofs.Written.{room-free, put-there, put-nothing}
-use borrow.Author.Rules.{rules}
 use Rattle.report.proofs.text.line.Goals as goal
 
 pub fields-requires : goal.fields-requires

@@ -1,7 +1,6 @@
 -- `report::text::put_byte`: a store. Assumes nothing.
 use native.Mathlib.Omega.{arith}
 use Rattle.report.proofs.Written.{wrote-byte}
-use borrow.Author.Rules.{rules}
 use Rattle.report.proofs.text.put_byte.Goals as goal
 
 pub returns : goal.returns

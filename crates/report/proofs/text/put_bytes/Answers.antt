@@ -1,11 +1,8 @@
-use mathlib.Core.Path.{◌≡◌, refl, ◌∙◌}
-use Prim.Native.Nat.{◌-◌, ◌≤◌}
+use mathlib.Core.Path.{refl, ◌∙◌}
 use native.Mathlib.Omega.{arith}
-use borrow.Author.Rules.{rules}
 use native.Mathlib.Numerals.{add-one}
-use lib.ListN.{length, take}
+use lib.ListN.{take}
 use lib.Seq.{take-suc, take_all, length-take-le}
-use Rattle.report.specs.Writing.{Wrote}
 use Rattle.report.proofs.Written.{wrote_nothing, wrote_then}
 use Rattle.report.proofs.text.put_bytes.Goals as goal
 

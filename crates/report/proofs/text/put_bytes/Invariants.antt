@@ -1,13 +1,8 @@
 -- `report::text::put_bytes`: after i turns the first i bytes are written. Assumes nothing.
-use mathlib.Core.Path.{◌≡◌, refl, ◌∙◌}
+use mathlib.Core.Path.{◌≡◌}
 use Prim.Native.Nat.{◌-◌, ◌≤◌}
-use native.Mathlib.Omega.{arith}
-use borrow.Author.Rules.{rules}
-use native.Mathlib.Numerals.{add-one}
 use lib.ListN.{length, take}
-use lib.Seq.{take-suc, take_all, length-take-le}
 use Rattle.report.specs.Writing.{Wrote}
-use Rattle.report.proofs.Written.{wrote_nothing, wrote_then}
 use Rattle.report.proofs.text.put_bytes.Given as goal
 
 abbrev pub invariant-loop-i : goal.invariant-loop-i

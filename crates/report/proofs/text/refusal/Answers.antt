@@ -7,7 +7,6 @@ use Rattle.report.specs.Text.{decimal_of, refused_line}
 use Rattle.report.specs.Writing.{room}
 use Rattle.report.proofs.Digits.{digits-64}
 use Rattle.report.proofs.Written.{wrote_then, room-free, put-there, put-nothing}
-use borrow.Author.Rules.{rules}
 use Rattle.report.proofs.text.refusal.Goals as goal
 
 pub put_bytes-end-requires : goal.put_bytes-end-requires
