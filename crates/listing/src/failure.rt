@@ -1,18 +1,24 @@
 // Telling a failure on standard error.
 use std::io;
+use std::io::{Cursor, Write};
 
 // The system's words alone, without the number that stands after them.
-fn words(text: &str) -> &str {
+fn words(text: &[u8]) -> &str {
+    let text = str::from_utf8(text).unwrap_or("");
     match text.split_once(" (os error ") {
         Some((before, _)) => before,
         None => text,
     }
 }
 
-// In one line. Where there is no memory for the words alone, the number is told too. A line that is not written is lost.
-pub(crate) fn tell(rt: &(impl Eprint + AllocGlobal), what: &str, error: &io::Error) {
-    let _ = match format!(in rt.alloc(); "{error}") {
-        Ok(text) => eprintln!(rt; "listing: {what}: {}", words(text.as_str())),
-        Err(_) => eprintln!(rt; "listing: {what}: {error}"),
-    };
+// In one line: what failed, a colon and the system's words. If that cannot be written, nobody is told.
+pub(crate) fn tell(rt: &impl Eprint, what: &str, error: &io::Error) {
+    let mut text = Cursor::new([0u8; 256]);
+    let _ = write!(text, "{error}");
+    let end = text.position() as usize;
+    let bytes = text.into_inner();
+    let _ = eprintln!(rt;
+        "listing: {what}: {}",
+        words(bytes.get(..end).unwrap_or(&bytes))
+    );
 }

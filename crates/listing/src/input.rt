@@ -12,7 +12,7 @@ pub(crate) struct Input {
 }
 
 // One read. A failure is told here.
-fn read_once(rt: &(impl Eprint + AllocGlobal), from: &mut impl Read, buf: &mut [u8]) -> Input
+fn read_once(rt: &impl Eprint, from: &mut impl Read, buf: &mut [u8]) -> Input
     ensures within { result.count ≤ length buf.new }
     ensures front { result.count ≡ length (take result.count buf.new) }
 {
@@ -39,7 +39,7 @@ fn counted(done: usize, is_failed: bool) -> usize
 }
 
 // Reads until the buffer is full, the input ends or a read fails.
-pub(crate) fn read(rt: &(impl Eprint + AllocGlobal), from: &mut impl Read, buf: &mut [u8]) -> Input
+pub(crate) fn read(rt: &impl Eprint, from: &mut impl Read, buf: &mut [u8]) -> Input
     ensures within { result.count ≤ length buf.new }
     ensures front { result.count ≡ length (take result.count buf.new) }
 {

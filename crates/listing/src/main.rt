@@ -19,7 +19,7 @@ const PART: usize = 2048;
 const ROOM: usize = 65536;
 
 // The first `end` bytes of a buffer are written. A failure is told, unless one of the input has been: a run tells one.
-fn print(rt: &(impl Print + Eprint + AllocGlobal), out: &[u8], end: usize, is_told: bool) -> bool {
+fn print(rt: &(impl Print + Eprint), out: &[u8], end: usize, is_told: bool) -> bool {
     if end > out.len() {
         return false;
     }
@@ -37,7 +37,7 @@ fn print(rt: &(impl Print + Eprint + AllocGlobal), out: &[u8], end: usize, is_to
 // One part of the input: it is read and its lines are written. Where the program is to go on, the next delivery's
 // number is returned.
 fn turn(
-    rt: &(impl Print + Eprint + AllocGlobal),
+    rt: &(impl Print + Eprint),
     from: &mut impl Read,
     t: Table,
     state: &mut [u64],
@@ -58,7 +58,7 @@ fn turn(
 
 // No input has as many turns as the loop.
 fn turns(
-    rt: &(impl Print + Eprint + AllocGlobal),
+    rt: &(impl Print + Eprint),
     from: &mut impl Read,
     t: Table,
     state: &mut [u64],
@@ -76,7 +76,7 @@ fn turns(
 
 // The decoder's memory is the first words.
 fn list(
-    rt: &(impl Print + Eprint + AllocGlobal),
+    rt: &(impl Print + Eprint),
     from: &mut impl Read,
     t: Table,
     memory: &mut [u64],
