@@ -1,13 +1,12 @@
 -- Writing one thing after another. Assumes nothing.
 use mathlib.Core.Path.{◌≡◌, refl, sym, ap, ◌∙◌}
-use mathlib.Core.Bool.{Bool, true, false}
+use mathlib.Core.Bool.{true, false}
 use mathlib.Core.List.{List, [], ◌∷◌, ◌++◌, append_assoc}
-use Prim.Native.Nat.{ℕ, ◌+◌, ◌-◌, ◌≤◌, ◌<◌}
+use Prim.Native.Nat.{ℕ, ◌+◌, ◌≤◌, ◌<◌}
 use native.Mathlib.Omega.{arith}
 use native.Mathlib.Numerals.{add-one}
 use native.Mathlib.Nat.{add-zero, add_assoc}
-use lib.Dec.{leb}
-use borrow.Author.Tests.{le-leb, lt-leb, leb-true, leb-false}
+use borrow.Author.Tests.{leb-true}
 use lib.ListN.{length, take, drop, set, length-append, take-append-drop}
 use lib.Seq.{set_split, length-take-le, take_at, drop_at, drop-drop}
 use Rattle.link.specs.declared.decode.Mark.{Mark}
@@ -17,13 +16,6 @@ use Rattle.link.specs.Decoder.{mark_error}
 use Rattle.report.specs.Text.{mark_word}
 use Rattle.report.specs.Text.{decimal_of, space, newline, line_of}
 use Rattle.report.specs.Writing.{written, Wrote, longest, room, put, put_end}
-
-pub room-left : (n at : ℕ) → at ≤ n → leb longest (n - at) ≡ leb (at + longest) n
-room-left n at h = go (leb longest (n - at)) refl
-  where
-    go : (b : Bool) → leb longest (n - at) ≡ b → leb longest (n - at) ≡ leb (at + longest) n
-    go true e = e ∙ sym (le-leb (at + longest) n (omega (arith, leb-true longest (n - at) e)))
-    go false e = e ∙ sym (lt-leb (at + longest) n (omega (arith, leb-false longest (n - at) e)))
 
 -- nothing is written
 pub wrote_nothing : (out : List ℕ) (at : ℕ) → Wrote out at [] out at

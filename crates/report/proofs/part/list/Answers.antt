@@ -21,21 +21,6 @@ known s = (s.requires.0, s.requires.1, omega arith)
 pub loop-i-init : goal.loop-i-init
 loop-i-init c = going_start _ _ _ _ _
 
-pub answer_line-p-requires : goal.answer_line-p-requires
-answer_line-p-requires c =
-    let l = c.loop-i in
-    let k = known (goal.at.answer_line-p-requires c).Start in
-    let n : l.i < length c.args.bytes.now / 2 = omega arith in
-    (omega (arith, l.invariant.short, l.invariant.out_length), omega (arith, l.invariant.few))
-
-pub shape_of-state-then-p : goal.shape_of-state-then-p
-shape_of-state-then-p c =
-    c.decode-answer.auto.state ∙ c.loop-i.invariant.memory_length
-
-pub shape_of-out-then-p : goal.shape_of-out-then-p
-shape_of-out-then-p c =
-    c.answer_line-p.auto.out ∙ c.loop-i.invariant.out_length
-
 -- this turn's block, its answer printed, and the memory after its step
 abbrev received : goal.After-answer_line-p → ℕ
 received c =
@@ -71,9 +56,6 @@ returns-then-p c =
     rw (remembered (goal.at.returns-then-p c).After-answer_line-p) (going_stops a.t a.state.now a.number a.bytes.now a.out.now
     (known (goal.at.returns-then-p c).Start).1 c.loop-i.invariant (omega arith) (printed (goal.at.returns-then-p c).After-answer_line-p) c.if-p.true)
 
-pub loop-i-smaller : goal.loop-i-smaller
-loop-i-smaller c = omega arith
-
 pub loop-i-preserved : goal.loop-i-preserved
 loop-i-preserved c =
     let a = c.args in
@@ -81,13 +63,6 @@ loop-i-preserved c =
     rw m (going_next a.t a.state.now a.number a.bytes.now a.out.now (known (goal.at.loop-i-preserved c).Start).1
     c.loop-i.invariant (omega arith) (printed (goal.at.loop-i-preserved c).After-answer_line-p) c.if-p.false c.answer_line-p.auto.out
     (sym (ap length m) ∙ c.decode-answer.auto.state))
-
-pub shape_of-state-then-bytes-eq1 : goal.shape_of-state-then-bytes-eq1
-shape_of-state-then-bytes-eq1 c = c.loop-i.invariant.memory_length
-
-pub shape_of-out-then-bytes-eq1 : goal.shape_of-out-then-bytes-eq1
-shape_of-out-then-bytes-eq1 c =
-    c.odd_byte.auto.out ∙ c.loop-i.invariant.out_length
 
 pub returns-then-bytes-eq1 : goal.returns-then-bytes-eq1
 returns-then-bytes-eq1 c =
@@ -98,12 +73,6 @@ returns-then-bytes-eq1 c =
     let r : l.end + longest ≤ length l.out = omega (arith, l.invariant.short, l.invariant.out_length, l.invariant.below) in
     going_odd a.t a.state.now a.number a.bytes.now a.out.now k.1 l.invariant (omega arith)
     (put-wrote odd_line r o.ensures.position o.ensures.bytes)
-
-pub shape_of-state : goal.shape_of-state
-shape_of-state c = c.loop-i.invariant.memory_length
-
-pub shape_of-out : goal.shape_of-out
-shape_of-out c = c.loop-i.invariant.out_length
 
 pub returns : goal.returns
 returns c =

@@ -1,16 +1,9 @@
 -- `report::text::fixed`: with room and without. Assumes nothing.
 use mathlib.Core.Path.{◌≡◌, sym, ◌∙◌}
 use mathlib.Core.Bool.{true, false}
-use native.Mathlib.Omega.{arith}
 use Rattle.report.specs.Writing.{room}
-use Rattle.report.proofs.Written.{room-free, put-there, put-nothing}
+use Rattle.report.proofs.Written.{put-there, put-nothing}
 use Rattle.report.proofs.text.fixed.Goals as goal
-
-pub put_bytes-requires : goal.put_bytes-requires
-put_bytes-requires c =
-    let a = c.args in
-    let h : room a.out.now a.at ≡ true = sym c.has_room.ensures ∙ c.if-has_room.true in
-    omega (arith, room-free a.out.now a.at h, c.requires)
 
 pub returns-then-has_room : goal.returns-then-has_room
 returns-then-has_room c =

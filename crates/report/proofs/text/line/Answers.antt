@@ -4,14 +4,8 @@ use mathlib.Core.Bool.{true, false}
 use native.Mathlib.Omega.{arith}
 use Rattle.report.specs.Text.{line_of}
 use Rattle.report.specs.Writing.{room}
-use Rattle.report.proofs.Written.{room-free, put-there, put-nothing}
+use Rattle.report.proofs.Written.{put-there, put-nothing}
 use Rattle.report.proofs.text.line.Goals as goal
-
-pub fields-requires : goal.fields-requires
-fields-requires c =
-    let a = c.args in
-    let h : room a.out.now a.at ≡ true = sym c.has_room.ensures ∙ c.if-has_room.true in
-    room-free a.out.now a.at h
 
 pub returns-then-has_room : goal.returns-then-has_room
 returns-then-has_room c =

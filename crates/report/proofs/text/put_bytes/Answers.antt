@@ -2,22 +2,12 @@ use mathlib.Core.Path.{refl, ◌∙◌}
 use native.Mathlib.Omega.{arith}
 use native.Mathlib.Numerals.{add-one}
 use lib.ListN.{take}
-use lib.Seq.{take-suc, take_all, length-take-le}
+use lib.Seq.{take-suc, length-take-le}
 use Rattle.report.proofs.Written.{wrote_nothing, wrote_then}
 use Rattle.report.proofs.text.put_bytes.Goals as goal
 
 pub loop-i-init : goal.loop-i-init
 loop-i-init c = (omega arith, refl, wrote_nothing _ _)
-
-pub put_byte-end-requires : goal.put_byte-end-requires
-put_byte-end-requires c = let l = c.loop-i in omega (
-  arith,
-  l.invariant.2.position,
-  length-take-le l.i c.args.bytes.now (omega arith),
-)
-
-pub loop-i-smaller : goal.loop-i-smaller
-loop-i-smaller c = omega arith
 
 pub loop-i-preserved : goal.loop-i-preserved
 loop-i-preserved c =
@@ -29,12 +19,3 @@ loop-i-preserved c =
       rw (add-one, take-suc a.bytes.now l.i 0 (omega arith))
           (wrote_then (take l.i a.bytes.now) _ l.invariant.2 c.put_byte-end.ensures (omega arith)),
     )
-
-pub shape_of-out : goal.shape_of-out
-shape_of-out c = c.loop-i.invariant.1
-
-pub returns : goal.returns
-returns c =
-    let l = c.loop-i in
-    let a = c.args in
-    rw (take_all l.i a.bytes.now (omega arith)) at l.invariant.2

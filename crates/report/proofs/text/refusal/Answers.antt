@@ -9,13 +9,6 @@ use Rattle.report.proofs.Digits.{digits-64}
 use Rattle.report.proofs.Written.{wrote_then, room-free, put-there, put-nothing}
 use Rattle.report.proofs.text.refusal.Goals as goal
 
-pub put_bytes-end-requires : goal.put_bytes-end-requires
-put_bytes-end-requires c =
-    let a = c.args in
-    let h : room a.out.now a.at ≡ true =
-    sym c.has_room.ensures ∙ c.if-has_room.true in
-    omega (arith, room-free a.out.now a.at h)
-
 pub field-requires : goal.field-requires
 field-requires c =
     let a = c.args in
