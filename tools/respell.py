@@ -1,7 +1,7 @@
 #!/usr/bin/env python3
 """Respells this repository's own definitions, lemmas, fields and theorems as today's Rattle spells names.
 
-usage: python3 tools/respell.py     at the top of the repository, once, after /opt/rattle/port/port.py
+usage: python3 tools/respell.py     at the top of the repository, once, after port.py of the kit
 
 tools/respell.tsv has each old name and its new one: words in snake case, statements in camel case. A statement whose new name would be that
 of a type, a variant or a module has Law at its end, and a lemma whose new name would be that of a definition has _lem.
