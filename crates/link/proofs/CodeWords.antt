@@ -4,9 +4,12 @@
 --   counted_words   also as a basis counts them
 --   image-by        an image by the tables of a lookup of the first n words
 --   code_below      a fit table's rows have 64 bits at most
+--   lent_width      rows lent beside a fit table are enough for its information
+--   lent_size       with them its code has n rows
+use mathlib.Core.Bool.{true}
 use mathlib.Core.Path.{◌≡◌, sym, ap, ◌∙◌}
 use mathlib.Core.List.{List, [], ◌∷◌, ◌++◌}
-use Prim.Native.Nat.{ℕ, ◌+◌, ◌≤◌}
+use Prim.Native.Nat.{ℕ, ◌+◌, ◌-◌, ◌≤◌}
 use native.Mathlib.Omega.{arith}
 use lib.ListN.{length, take}
 use lib.Pow.{pow_mono}
@@ -15,8 +18,9 @@ use Rattle.span.specs.Combination.{Below, combination, counted}
 use Rattle.span.specs.Lookup.{lookup_of, looked_up}
 use Rattle.span.proofs.Lookups.{looked-up}
 use Rattle.tables.specs.declared.table.Table.{Table}
-use Rattle.tables.specs.Table.{rows_of, info_rows}
-use Rattle.tables.proofs.Fit.{Fits}
+use Rattle.tables.specs.Lent.{with_rows}
+use Rattle.tables.specs.Table.{rows_of, info_rows, fit}
+use Rattle.tables.proofs.Fit.{Fits, fit-facts, code-length}
 use Rattle.link.proofs.Origin.{below-snoc}
 
 module _ (R words : List ℕ) (n x : ℕ) (size : length R ≡ n) (e : take (n + 1) words ≡ R ++ (x ∷ [])) where
@@ -38,3 +42,13 @@ code_below t z i h =
     let l = below-snoc t.span (info_rows t) (omega arith) z.below i h in
     let m = pow_mono z.N_to in
     omega arith
+
+pub lent_width : (t : Table) (rows : List ℕ) → fit (with_rows t rows) ≡ true → length rows ≡ 15
+    → t.symbols - 1 ≤ length rows
+lent_width t rows f l = let n = (fit-facts (with_rows t rows) f).n_to in omega arith
+
+pub lent_size : (t : Table) (rows : List ℕ) → fit (with_rows t rows) ≡ true → length rows ≡ 15
+    → length (rows_of (with_rows t rows)) ≡ t.symbols
+lent_size t rows f l =
+    let n = (fit-facts (with_rows t rows) f).n_from in
+    code-length t.symbols rows (omega arith) (lent_width t rows f l)

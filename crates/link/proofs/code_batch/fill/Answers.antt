@@ -13,7 +13,7 @@ use Rattle.span.proofs.Masks.{above-mask}
 use Rattle.tables.specs.declared.table.Table.{Table}
 use Rattle.tables.specs.Lent.{with_rows}
 use Rattle.tables.specs.Table.{info_rows, fit}
-use Rattle.tables.proofs.Fit.{Fits, fit-facts}
+use Rattle.tables.proofs.Fit.{fit-facts}
 use Rattle.link.specs.Memory.{coder_words}
 use Rattle.link.specs.Refusals.{coder_malformed, coder_fault}
 use Rattle.link.specs.Coder.{coded_block, coder_next, code_answer, code_memory}
@@ -28,15 +28,15 @@ use Rattle.link.proofs.code_batch.fill.Invariants.{made}
 use Rattle.link.proofs.code_batch.fill.Goals as goal
 use Rattle.link.proofs.code_batch.fill.Goals.{At-loop-i, Else-most-info, In-loop-i, Start}
 
-facts : (c : goal.Start)
-    → Fits c.args.t.symbols c.args.t.span c.args.t.depth (info_rows (with_rows c.args.t c.args.rows.now))
-facts c = fit-facts (with_rows c.args.t c.args.rows.now) c.requires.0
-
 pub overflow_sub-width : goal.overflow_sub-width
-overflow_sub-width c = let n = (facts (goal.at.overflow_sub-width c).Start).n_from in omega arith
+overflow_sub-width c =
+    let u = with_rows c.args.t c.args.rows.now in
+    let n = (fit-facts u c.requires.0).n_from in omega arith
 
 pub one_at-weight-requires : goal.one_at-weight-requires
-one_at-weight-requires c = let n = (facts (goal.at.one_at-weight-requires c).Start).n_to in omega arith
+one_at-weight-requires c =
+    let u = with_rows c.args.t c.args.rows.now in
+    let n = (fit-facts u c.requires.0).n_to in omega arith
 
 pub loop-i-init : goal.loop-i-init
 loop-i-init c =
@@ -53,7 +53,8 @@ overflow_cast-info c =
 
 pub malformed-requires : goal.malformed-requires
 malformed-requires c =
-    let z = facts (goal.at.malformed-requires c).Start in
+    let u = with_rows c.args.t c.args.rows.now in
+    let z = fit-facts u c.requires.0 in
     (c.loop-i.invariant.1 ∙ c.requires.2, z.N_to, (let h = z.N_from in omega arith), z.m_to)
 
 -- the fault of a block, by its two tests
@@ -62,58 +63,79 @@ settled : (u : Table) (s : List ℕ) (b : ℕ) → fit u ≡ true → length s �
 unfolding coder_fault
 settled u s b = step_settled u (coder_words u) (coder_malformed u s) (2 ^ (u.symbols - 1)) s b
 
-refused : (c : goal.At-loop-i) → c.loop-i.i < length c.args.infos.now → (k : ℕ)
-    → coder_fault (with_rows c.args.t c.args.rows.now) c.loop-i.state (get_or c.args.infos.now c.loop-i.i 0) ≡ k → 0 < k
+refused : (c : goal.At-loop-i) →
+    let u = with_rows c.args.t c.args.rows.now in
+    let block = get_or c.args.infos.now c.loop-i.i 0 in
+    c.loop-i.i < length c.args.infos.now → (k : ℕ)
+    → coder_fault u c.loop-i.state block ≡ k → 0 < k
     → let a = c.args in
-    Fills (code_batch (with_rows c.args.t c.args.rows.now) (length a.out.now) a.state.now a.infos.now) a.out.now
+    Fills (code_batch u (length a.out.now) a.state.now a.infos.now) a.out.now
     c.loop-i.i c.loop-i.state c.loop-i.out
 unfolding code_batch
 refused c left k e some =
+    let u = with_rows c.args.t c.args.rows.now in
+    let block = get_or c.args.infos.now c.loop-i.i 0 in
     let a = c.args in
-    let u = (with_rows c.args.t c.args.rows.now) in
     reached_refused (λ s b. code_entries (code_answer u s b)) (code_memory u) a.state.now a.infos.now a.out.now
     c.loop-i.i c.loop-i.state c.loop-i.out c.loop-i.invariant.0 left
-    (coded_none u c.loop-i.state (get_or c.args.infos.now c.loop-i.i 0) k e some)
+    (coded_none u c.loop-i.state block k e some)
 
 -- the turn's block is there, and so is its room
 inside : (c : goal.In-loop-i)
     → (c.loop-i.i < length c.args.infos.now) × (c.loop-i.i < length c.args.out.now)
 inside c = let e = c.min-end.ensures in (omega arith, omega arith)
 
-tested : (c : goal.At-loop-i) → ltb c.mask-most.result (get_or c.args.infos.now c.loop-i.i 0) ≡ leb (2 ^ (c.args.t.symbols - 1)) (get_or c.args.infos.now c.loop-i.i 0)
+tested : (c : goal.At-loop-i) →
+    let block = get_or c.args.infos.now c.loop-i.i 0 in
+    ltb c.mask-most.result block ≡ leb (2 ^ (c.args.t.symbols - 1)) block
 tested c =
-    let n = (fit-facts (with_rows c.args.t c.args.rows.now) c.requires.0).n_to in
-    above-mask (c.args.t.symbols - 1) c.mask-most.result (get_or c.args.infos.now c.loop-i.i 0) (omega arith)
+    let u = with_rows c.args.t c.args.rows.now in
+    let block = get_or c.args.infos.now c.loop-i.i 0 in
+    let n = (fit-facts u c.requires.0).n_to in
+    above-mask (c.args.t.symbols - 1) c.mask-most.result block (omega arith)
     c.mask-most.ensures
 
 pub returns-then-malformed : goal.returns-then-malformed
 returns-then-malformed c =
-    refused (goal.at.returns-then-malformed c).At-loop-i (inside (goal.at.returns-then-malformed c).In-loop-i).0 14 (settled (with_rows c.args.t c.args.rows.now) c.loop-i.state (get_or c.args.infos.now c.loop-i.i 0) c.requires.0
+    let at = goal.at.returns-then-malformed c in
+    let u = with_rows c.args.t c.args.rows.now in
+    let block = get_or c.args.infos.now c.loop-i.i 0 in
+    refused at.At-loop-i (inside at.In-loop-i).0 14 (settled u c.loop-i.state block c.requires.0
     (c.loop-i.invariant.1 ∙ c.requires.2) true _
     (sym c.malformed.ensures ∙ c.if-malformed.true) refl)
     (omega arith)
 
 pub returns-then-most-info : goal.returns-then-most-info
 returns-then-most-info c =
-    refused (goal.at.returns-then-most-info c).At-loop-i (inside (goal.at.returns-then-most-info c).In-loop-i).0 15
-    (settled (with_rows c.args.t c.args.rows.now) c.loop-i.state (get_or c.args.infos.now c.loop-i.i 0) c.requires.0
+    let at = goal.at.returns-then-most-info c in
+    let u = with_rows c.args.t c.args.rows.now in
+    let block = get_or c.args.infos.now c.loop-i.i 0 in
+    refused at.At-loop-i (inside at.In-loop-i).0 15
+    (settled u c.loop-i.state block c.requires.0
     (c.loop-i.invariant.1 ∙ c.requires.2) false true (sym c.malformed.ensures ∙ c.if-malformed.false)
-    (sym (tested (goal.at.returns-then-most-info c).At-loop-i) ∙ lt-ltb _ _ c.if-most-info.true)) (omega arith)
+    (sym (tested at.At-loop-i) ∙ lt-ltb _ _ c.if-most-info.true)) (omega arith)
 
 -- no refusal applies
-none : (c : goal.Else-most-info)
-    → ltb c.mask-most.result (get_or c.args.infos.now c.loop-i.i 0)
-    ≡ leb (2 ^ (c.args.t.symbols - 1)) (get_or c.args.infos.now c.loop-i.i 0)
-    → coder_fault (with_rows c.args.t c.args.rows.now) c.loop-i.state (get_or c.args.infos.now c.loop-i.i 0) ≡ 0
+none : (c : goal.Else-most-info) →
+    let u = with_rows c.args.t c.args.rows.now in
+    let block = get_or c.args.infos.now c.loop-i.i 0 in
+    ltb c.mask-most.result block
+    ≡ leb (2 ^ (c.args.t.symbols - 1)) block
+    → coder_fault u c.loop-i.state block ≡ 0
 none c by-mask =
-    settled (with_rows c.args.t c.args.rows.now) c.loop-i.state (get_or c.args.infos.now c.loop-i.i 0) c.requires.0
+    let u = with_rows c.args.t c.args.rows.now in
+    let block = get_or c.args.infos.now c.loop-i.i 0 in
+    settled u c.loop-i.state block c.requires.0
     (c.loop-i.invariant.1 ∙ c.requires.2) false false
     (sym c.malformed.ensures ∙ c.if-malformed.false) (sym by-mask ∙ le-ltb _ _ c.if-most-info.false)
 
 pub taken-requires : goal.taken-requires
 taken-requires c =
-    let k = coder-taken (with_rows c.args.t c.args.rows.now) c.loop-i.state (get_or c.args.infos.now c.loop-i.i 0)
-    (none (goal.at.taken-requires c).Else-most-info (tested (goal.at.taken-requires c).At-loop-i)) in
+    let at = goal.at.taken-requires c in
+    let u = with_rows c.args.t c.args.rows.now in
+    let block = get_or c.args.infos.now c.loop-i.i 0 in
+    let k = coder-taken u c.loop-i.state block
+    (none at.Else-most-info (tested at.At-loop-i)) in
     let e = c.one_at-weight.ensures
     in
     let n = k.sizes.n_to in
@@ -123,70 +145,88 @@ taken-requires c =
       k.sizes.m_to,
       k.turn,
       subst
-          (λ (w : ℕ). (get_or c.args.infos.now c.loop-i.i 0) < w) (sym e)
+          (λ (w : ℕ). block < w) (sym e)
           k.info,
       rw e (pow_mono h),
     )
 
 -- the rows of the information's ones, looked up
-image-is : (c : goal.After-slice_known-in-loop-i-1)
-    → c.look_up-image.result ≡ combination (info_rows (with_rows c.args.t c.args.rows.now))
-    (get_or c.args.infos.now c.loop-i.i 0)
+image-is : (c : goal.After-slice_known-in-loop-i-1) →
+    let u = with_rows c.args.t c.args.rows.now in
+    let block = get_or c.args.infos.now c.loop-i.i 0 in
+    c.look_up-image.result ≡ combination (info_rows u)
+    block
 image-is c =
+    let u = with_rows c.args.t c.args.rows.now in
+    let block = get_or c.args.infos.now c.loop-i.i 0 in
     let a = c.args in
     let w = a.t.symbols - 1 in
-    let n = (facts (goal.at.overflow_cast-out c).Start).n_to in
+    let n = (fit-facts u c.requires.0).n_to in
     let long = length-take-le w a.rows.now (let z = c.requires.1 in omega arith) in
     let tables = c.lookup_of-tables in
     c.look_up-image.ensures
-    ∙ image-by (info_rows (with_rows c.args.t c.args.rows.now)) a.rows.now w refl (omega arith) tables.result tables.ensures
-    (get_or c.args.infos.now c.loop-i.i 0)
+    ∙ image-by (info_rows u) a.rows.now w refl (omega arith) tables.result tables.ensures
+    block
 
-block-is : (c : goal.After-slice_known-in-loop-i-1)
-    → c.taken.result ≡ coded_block (with_rows c.args.t c.args.rows.now) c.loop-i.state (get_or c.args.infos.now c.loop-i.i 0)
+block-is : (c : goal.After-slice_known-in-loop-i-1) →
+    let u = with_rows c.args.t c.args.rows.now in
+    let block = get_or c.args.infos.now c.loop-i.i 0 in
+    c.taken.result ≡ coded_block u c.loop-i.state block
 block-is c =
+    let u = with_rows c.args.t c.args.rows.now in
+    let block = get_or c.args.infos.now c.loop-i.i 0 in
     c.taken.ensures.block
-    ∙ block_in_numbers (with_rows c.args.t c.args.rows.now) c.loop-i.state (get_or c.args.infos.now c.loop-i.i 0) c.look_up-image.result
+    ∙ block_in_numbers u c.loop-i.state block c.look_up-image.result
     (image-is c)
     c.one_at-weight.result c.one_at-weight.ensures
 
-memory_is : (c : goal.After-slice_known-in-loop-i-1)
-    → c.taken.new.state ≡ coder_next (with_rows c.args.t c.args.rows.now) c.loop-i.state (get_or c.args.infos.now c.loop-i.i 0)
+memory_is : (c : goal.After-slice_known-in-loop-i-1) →
+    let u = with_rows c.args.t c.args.rows.now in
+    let block = get_or c.args.infos.now c.loop-i.i 0 in
+    c.taken.new.state ≡ coder_next u c.loop-i.state block
 memory_is c =
+    let u = with_rows c.args.t c.args.rows.now in
+    let block = get_or c.args.infos.now c.loop-i.i 0 in
     c.taken.ensures.memory
-    ∙ memory_in_numbers (with_rows c.args.t c.args.rows.now) c.loop-i.state (get_or c.args.infos.now c.loop-i.i 0)
+    ∙ memory_in_numbers u c.loop-i.state block
     c.look_up-image.result (image-is c)
 
 pub overflow_cast-out : goal.overflow_cast-out
 overflow_cast-out c =
-    let f = coded-fits (with_rows c.args.t c.args.rows.now) c.loop-i.state (get_or c.args.infos.now c.loop-i.i 0) (none (goal.at.overflow_cast-out c).Else-most-info (tested (goal.at.overflow_cast-out c).At-loop-i)) in
+    let at = goal.at.overflow_cast-out c in
+    let u = with_rows c.args.t c.args.rows.now in
+    let block = get_or c.args.infos.now c.loop-i.i 0 in
+    let f = coded-fits u c.loop-i.state block (none at.Else-most-info (tested at.At-loop-i)) in
     let e = block-is c in
     record { fits = omega arith }
 
 pub loop-i-preserved : goal.loop-i-preserved
 loop-i-preserved c =
+    let at = goal.at.loop-i-preserved c in
+    let u = with_rows c.args.t c.args.rows.now in
+    let block = get_or c.args.infos.now c.loop-i.i 0 in
     let a = c.args in
-    let u = (with_rows c.args.t c.args.rows.now) in
     let s = c.loop-i.state in
     let e = memory_is c in (
       subst (λ (m : List ℕ).
           Reached (made u) a.state.now a.infos.now a.out.now (c.loop-i.i + 1) m
           (set c.loop-i.out c.loop-i.i c.taken.result))
-          (sym (e ∙ (codes u s (get_or c.args.infos.now c.loop-i.i 0) (none (goal.at.loop-i-preserved c).Else-most-info (tested (goal.at.loop-i-preserved c).At-loop-i))).1))
+          (sym (e ∙ (codes u s block (none at.Else-most-info (tested at.At-loop-i))).1))
           (reached_next (λ s b. code_entries (code_answer u s b)) (code_memory u) a.state.now a.infos.now
           a.out.now c.loop-i.i s c.loop-i.out c.loop-i.invariant.0
-          (inside (goal.at.loop-i-preserved c).In-loop-i).0
-          (inside (goal.at.loop-i-preserved c).In-loop-i).1
+          (inside at.In-loop-i).0
+          (inside at.In-loop-i).1
           c.taken.result
-          (coded_one u s (get_or c.args.infos.now c.loop-i.i 0) (none (goal.at.loop-i-preserved c).Else-most-info (tested (goal.at.loop-i-preserved c).At-loop-i)) ∙ ap (λ (x : ℕ). x ∷ []) (sym (block-is c)))),
-      ap length e ∙ coder-length u s (get_or c.args.infos.now c.loop-i.i 0) ∙ c.loop-i.invariant.1,
+          (coded_one u s block (none at.Else-most-info (tested at.At-loop-i))
+          ∙ ap (λ (x : ℕ). x ∷ []) (sym (block-is c)))),
+      ap length e ∙ coder-length u s block ∙ c.loop-i.invariant.1,
     )
 
 pub returns : goal.returns
 unfolding code_batch
 returns c =
+    let u = with_rows c.args.t c.args.rows.now in
     let a = c.args in
-    let u = (with_rows c.args.t c.args.rows.now) in
     reached_all (λ s b. code_entries (code_answer u s b)) (code_memory u) a.state.now a.infos.now a.out.now
     c.loop-i.i c.loop-i.state c.loop-i.out c.loop-i.invariant.0
     (let e = c.min-end.ensures in omega arith)

@@ -43,7 +43,8 @@ module _ (N m : ℕ) (s : List ℕ) (room : stream_at (table 0 N m []) (turn_of 
 
 -- the turn's part lies inside, and nothing overflows
 room : (c : goal.Start)
-    → (stream_at (table 0 c.args.span c.args.depth []) (turn_of c.args.state.now) + (c.args.span + 1) ≤ length c.args.state.now)
+    → (stream_at (table 0 c.args.span c.args.depth []) (turn_of c.args.state.now) + (c.args.span + 1)
+    ≤ length c.args.state.now)
     × (length c.args.state.now ≤ 4162) × (delay_of (table 0 c.args.span c.args.depth []) ≤ 4096)
 room c =
     let most = fit-room (table 0 c.args.span c.args.depth []) c.requires.3 c.requires.1 in

@@ -29,7 +29,9 @@ use Rattle.link.proofs.decode.taken.Goals.{After-keep-oldest, Start}
 
 -- what the tests of the step said
 tests : (c : goal.Start) → DecoderTaken (with_rows c.args.t c.args.rows.now) c.args.state.now c.args.received
-tests c = decoder-taken (with_rows c.args.t c.args.rows.now) c.args.state.now c.args.received c.requires.0
+tests c =
+    let u = with_rows c.args.t c.args.rows.now in
+    decoder-taken u c.args.state.now c.args.received c.requires.0
 
 width : (c : goal.Start) → c.args.t.symbols - 1 ≤ length c.args.rows.now
 width c = let n = (tests c).sizes.n_to in let l = c.requires.1 in omega arith
@@ -45,19 +47,22 @@ one_at-requires c = let k = (tests (goal.at.one_at-requires c).Start).sizes.N_to
 
 pub image-requires : goal.image-requires
 image-requires c =
-    let k = tests (goal.at.image-requires c).Start in
+    let at = goal.at.image-requires c in
+    let k = tests at.Start in
     let n = k.sizes.n_from in
-    (omega arith, k.sizes.n_to, width (goal.at.image-requires c).Start, k.block)
+    (omega arith, k.sizes.n_to, width at.Start, k.block)
 
 pub terms-x-requires : goal.terms-x-requires
 terms-x-requires c =
+    let at = goal.at.terms-x-requires c in
+    let u = with_rows c.args.t c.args.rows.now in
     let a = c.args in
-    let r = terms_room (with_rows c.args.t c.args.rows.now) a.state.now a.received (tests (goal.at.terms-x-requires c).Start) in
+    let r = terms_room u a.state.now a.received (tests at.Start) in
     let e = sym c.one_at.ensures in
     let s = a.state.now in (
       r.0,
       r.1,
-      subst (λ (x : ℕ). syndrome_of (with_rows c.args.t c.args.rows.now) s (turn_of s) < x) e r.2,
+      subst (λ (x : ℕ). syndrome_of u s (turn_of s) < x) e r.2,
       subst (λ (x : ℕ). x ≤ 2 ^ 63) e
           r.3,
       r.4,
@@ -65,8 +70,9 @@ terms-x-requires c =
 
 pub explain-requires : goal.explain-requires
 explain-requires c =
-    let k = tests (goal.at.explain-requires c).Start in
-    (k.sizes.n_from, k.sizes.n_to, width (goal.at.explain-requires c).Start)
+    let at = goal.at.explain-requires c in
+    let k = tests at.Start in
+    (k.sizes.n_from, k.sizes.n_to, width at.Start)
 
 pub overflow_sub-n : goal.overflow_sub-n
 overflow_sub-n c =
@@ -80,85 +86,104 @@ one_at-requires-2 c =
 
 pub judged-v-requires : goal.judged-v-requires
 judged-v-requires c =
+    let at = goal.at.judged-v-requires c in
+    let u = with_rows c.args.t c.args.rows.now in
     let a = c.args in
-    let k = tests (goal.at.judged-v-requires c).Start in
-    let size : length (rows_of (with_rows c.args.t c.args.rows.now)) ≡ a.t.symbols =
-    code-length a.t.symbols a.rows.now (let n = k.sizes.n_from in omega arith) (width (goal.at.judged-v-requires c).Start) in
+    let k = tests at.Start in
+    let size : length (rows_of u) ≡ a.t.symbols =
+    code-length a.t.symbols a.rows.now (let n = k.sizes.n_from in omega arith) (width at.Start) in
     subst (λ (f : Least). error_of f < 2 ^ 16) (sym c.explain.ensures)
-    (error_lt (rows_of (with_rows c.args.t c.args.rows.now)) _ (let n = k.sizes.n_to in omega arith))
+    (error_lt (rows_of u) _ (let n = k.sizes.n_to in omega arith))
 
 pub information-requires : goal.information-requires
-information-requires c = let k = (tests (goal.at.information-requires c).Start).sizes
+information-requires c =
+    let at = goal.at.information-requires c in
+    let k = (tests at.Start).sizes
     in
     (let n = k.n_from in omega arith, k.n_to)
 
 pub keep-oldest-requires : goal.keep-oldest-requires
 keep-oldest-requires c =
+    let at = goal.at.keep-oldest-requires c in
+    let u = with_rows c.args.t c.args.rows.now in
     let a = c.args in
-    keep_room (with_rows c.args.t c.args.rows.now) a.state.now a.received (tests (goal.at.keep-oldest-requires c).Start)
+    keep_room u a.state.now a.received (tests at.Start)
 
 pub overflow_sub-t-2 : goal.overflow_sub-t-2
 overflow_sub-t-2 c = let k = (tests (goal.at.overflow_sub-t-2 c).Start).sizes.N_from in omega arith
 
 pub overflow_mul-t : goal.overflow_mul-t
 overflow_mul-t c =
-    let k = (tests (goal.at.overflow_mul-t c).Start).sizes in
-    let m = fit-room (with_rows c.args.t c.args.rows.now) k.N_to k.m_to in
+    let at = goal.at.overflow_mul-t c in
+    let u = with_rows c.args.t c.args.rows.now in
+    let k = (tests at.Start).sizes in
+    let m = fit-room u k.N_to k.m_to in
     record { fits = omega arith }
 
-joined : (c : goal.After-keep-oldest)
-    → let a = c.args in
+joined : (c : goal.After-keep-oldest) →
+    let u = with_rows c.args.t c.args.rows.now in
+    let a = c.args in
     c.terms-x.result.w
-    ≡ pending_of (with_rows c.args.t c.args.rows.now) a.state.now (turn_of a.state.now) ⊕ combination (rows_of (with_rows c.args.t c.args.rows.now))
+    ≡ pending_of u a.state.now (turn_of a.state.now) ⊕ combination (rows_of u)
     a.received
 joined c =
+    let u = with_rows c.args.t c.args.rows.now in
     let a = c.args in
     c.terms-x.ensures.w
-    ∙ ap (λ (x : ℕ). pending_of (with_rows c.args.t c.args.rows.now) a.state.now (turn_of a.state.now) ⊕ x)
+    ∙ ap (λ (x : ℕ). pending_of u a.state.now (turn_of a.state.now) ⊕ x)
     c.image.ensures
 
 registered : (c : goal.After-keep-oldest)
     → let a = c.args in
-    a.t.symbols - 1 ≤ length a.rows.now → c.terms-x.result.register ≡ decoder_register (with_rows c.args.t c.args.rows.now) a.state.now a.received
+    a.t.symbols - 1 ≤ length a.rows.now
+    → c.terms-x.result.register ≡ decoder_register (with_rows a.t a.rows.now) a.state.now a.received
 registered c w =
+    let u = with_rows c.args.t c.args.rows.now in
     let a = c.args in
-    register_is (with_rows c.args.t c.args.rows.now) a.state.now a.received _ w (joined c) c.terms-x.result.register
+    register_is u a.state.now a.received _ w (joined c) c.terms-x.result.register
     c.one_at.result
     c.terms-x.ensures.register
     c.one_at.ensures
 
 kept : (c : goal.After-keep-oldest)
     → let a = c.args in
-    a.t.symbols - 1 ≤ length a.rows.now → c.keep-oldest.new.state ≡ decoder_next (with_rows c.args.t c.args.rows.now) a.state.now a.received
+    a.t.symbols - 1 ≤ length a.rows.now
+    → c.keep-oldest.new.state ≡ decoder_next (with_rows a.t a.rows.now) a.state.now a.received
 kept c w =
+    let u = with_rows c.args.t c.args.rows.now in
     let a = c.args in
     let e = c.explain in
     c.keep-oldest.ensures.memory
     ∙ ap₂ (λ (k i : ℕ). advanced a.t.span a.t.depth a.state.now
     (c.terms-x.result.w / 2) k i)
     c.judged-v.ensures.kept c.information.ensures
-    ∙ memory_is (with_rows c.args.t c.args.rows.now) a.state.now a.received _ w (joined c) c.terms-x.result.register (registered c w)
+    ∙ memory_is u a.state.now a.received _ w (joined c) c.terms-x.result.register (registered c w)
     e.result e.ensures
 
 pub returns-then-fill-t : goal.returns-then-fill-t
 unfolding delivery
 returns-then-fill-t c =
+    let at = goal.at.returns-then-fill-t c in
+    let u = with_rows c.args.t c.args.rows.now in
     let a = c.args in
-    let t = (with_rows c.args.t c.args.rows.now) in
     let s = a.state.now in record {
-      answer = picked (ltb (fill_of s) (delay_of t)) NothingYet (Delivery (delivered t s a.received))
-          (lt-ltb (fill_of s) (delay_of t) c.if-fill-t.true);
-      memory = kept (goal.at.returns-then-fill-t c).After-keep-oldest (width (goal.at.returns-then-fill-t c).Start);
+      answer = picked (ltb (fill_of s) (delay_of u)) NothingYet (Delivery (delivered u s a.received))
+          (lt-ltb (fill_of s) (delay_of u) c.if-fill-t.true);
+      memory = kept at.After-keep-oldest (width at.Start);
     }
 
 pub information-requires-2 : goal.information-requires-2
-information-requires-2 c = let k = (tests (goal.at.information-requires-2 c).Start).sizes in (let n = k.n_from in omega arith, k.n_to)
+information-requires-2 c =
+    let at = goal.at.information-requires-2 c in
+    let k = (tests at.Start).sizes in (let n = k.n_from in omega arith, k.n_to)
 
 corrected : (c : goal.After-information-2)
     → let a = c.args in
     bit_xor c.keep-oldest.result c.information-2.result
     ≡ (delivered (with_rows c.args.t c.args.rows.now) a.state.now a.received).info
 corrected c =
+    let at = goal.at.overflow_cast-result c in
+    let u = with_rows c.args.t c.args.rows.now in
     let a = c.args in
     let s = a.state.now in
     let e = c.explain in
@@ -166,30 +191,34 @@ corrected c =
     ∙ ap₂ ◌⊕◌ c.keep-oldest.ensures.oldest
     (c.information-2.ensures ∙ ap (information a.t.symbols)
     c.judged-v.ensures.error)
-    ∙ info_is (with_rows c.args.t c.args.rows.now) s a.received _ (width (goal.at.overflow_cast-result c).Start) (joined (goal.at.overflow_cast-result c).After-keep-oldest) c.terms-x.result.register (registered (goal.at.overflow_cast-result c).After-keep-oldest (width (goal.at.overflow_cast-result c).Start))
+    ∙ info_is u s a.received _ (width at.Start) (joined at.After-keep-oldest) c.terms-x.result.register
+    (registered at.After-keep-oldest (width at.Start))
     e.result e.ensures
 
 pub overflow_cast-result : goal.overflow_cast-result
 overflow_cast-result c =
+    let u = with_rows c.args.t c.args.rows.now in
     let a = c.args in
-    let l = delivered-fits (with_rows c.args.t c.args.rows.now) a.state.now a.received c.requires.0 in
+    let l = delivered-fits u a.state.now a.received c.requires.0 in
     let e = corrected c in
     record { fits = omega arith }
 
 pub returns : goal.returns
 unfolding delivery
 returns c =
+    let at = goal.at.returns c in
+    let u = with_rows c.args.t c.args.rows.now in
     let a = c.args in
-    let t = (with_rows c.args.t c.args.rows.now) in
     let s = a.state.now in
     let e = c.explain in
     let mark = c.judged-v.ensures.mark
     ∙ ap (λ (k : ℕ). mark_of k e.result c.terms-x.result.register)
     c.one_at-2.ensures
-    ∙ mark_is t s a.received _ (width (goal.at.returns c).Start) (joined (goal.at.returns c).After-keep-oldest) c.terms-x.result.register (registered (goal.at.returns c).After-keep-oldest (width (goal.at.returns c).Start)) e.result
+    ∙ mark_is u s a.received _ (width at.Start) (joined at.After-keep-oldest) c.terms-x.result.register
+    (registered at.After-keep-oldest (width at.Start)) e.result
     e.ensures in record {
       answer = ap₂ (λ (i : ℕ) (m : Mark). Delivery (record { info = i; mark = m })) (corrected c) mark
-          ∙ passed (ltb (fill_of s) (delay_of t)) NothingYet (Delivery (delivered t s a.received))
-          (le-ltb (fill_of s) (delay_of t) c.if-fill-t.false);
-      memory = kept (goal.at.returns c).After-keep-oldest (width (goal.at.returns c).Start);
+          ∙ passed (ltb (fill_of s) (delay_of u)) NothingYet (Delivery (delivered u s a.received))
+          (le-ltb (fill_of s) (delay_of u) c.if-fill-t.false);
+      memory = kept at.After-keep-oldest (width at.Start);
     }

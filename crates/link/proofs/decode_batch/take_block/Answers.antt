@@ -36,8 +36,9 @@ kept c =
 
 pub returns-then-fill-depth : goal.returns-then-fill-depth
 returns-then-fill-depth c =
-    let s = c.args.state.now in record {
-      entry = picked (ltb (fill_of s) (delay_of (table c.args.n c.args.span c.args.depth []))) 0 _ (lt-ltb (fill_of s) (delay_of (table c.args.n c.args.span c.args.depth [])) c.if-fill-depth.true);
+    let s = c.args.state.now in
+    let delay = delay_of (table c.args.n c.args.span c.args.depth []) in record {
+      entry = picked (ltb (fill_of s) delay) 0 _ (lt-ltb (fill_of s) delay c.if-fill-depth.true);
       memory = kept (goal.at.returns-then-fill-depth c).After-keep-oldest;
     }
 
@@ -45,7 +46,7 @@ returns-then-fill-depth c =
 corrected : (c : goal.After-information-2)
     → let a = c.args in
     bit_xor c.keep-oldest.result c.information-2.result
-    ≡ delayed_of (table c.args.n c.args.span c.args.depth []) a.state.now (turn_of a.state.now) 0 ⊕ information a.n a.v.error
+    ≡ delayed_of (table a.n a.span a.depth []) a.state.now (turn_of a.state.now) 0 ⊕ information a.n a.v.error
 corrected c =
     xor-code c.keep-oldest.result c.information-2.result ∙ ap₂ ◌⊕◌ c.keep-oldest.ensures.oldest
     c.information-2.ensures
@@ -55,7 +56,7 @@ entry-requires c =
     let a = c.args in
     let n = c.requires.5 in
     let low : information a.n a.v.error < 2 ^ (a.n - 1) = mod-lt a.v.error (pow_pos (a.n - 1)) in
-    let l = xor_lt (a.n - 1) (delayed_of (table c.args.n c.args.span c.args.depth []) a.state.now (turn_of a.state.now) 0)
+    let l = xor_lt (a.n - 1) (delayed_of (table a.n a.span a.depth []) a.state.now (turn_of a.state.now) 0)
     (information a.n a.v.error) c.requires.7 low in
     let h : a.n - 1 ≤ 16 = omega arith in
     let most = pow_mono h in
@@ -64,9 +65,10 @@ entry-requires c =
 pub returns : goal.returns
 returns c =
     let a = c.args in
-    let s = a.state.now in record {
-      entry = c.entry.ensures ∙ ap (decode_entry (mark_number a.v.mark)) (corrected (goal.at.returns c).After-information-2)
-          ∙ passed (ltb (fill_of s) (delay_of (table c.args.n c.args.span c.args.depth []))) 0 _
-          (le-ltb (fill_of s) (delay_of (table c.args.n c.args.span c.args.depth [])) c.if-fill-depth.false);
+    let s = a.state.now in
+    let delay = delay_of (table a.n a.span a.depth []) in record {
+      entry = c.entry.ensures
+          ∙ ap (decode_entry (mark_number a.v.mark)) (corrected (goal.at.returns c).After-information-2)
+          ∙ passed (ltb (fill_of s) delay) 0 _ (le-ltb (fill_of s) delay c.if-fill-depth.false);
       memory = kept (goal.at.returns c).After-keep-oldest;
     }
