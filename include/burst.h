@@ -100,7 +100,8 @@ extern "C" {
 #define BURST_MOST_DEPTH 64
 
 /* The words of a coder's and of a decoder's memory; how many blocks a block waits in a decoder, which is also how many
-   right ones the promise asks for between two bursts; the bytes of a written table. Constant expressions if the arguments are. */
+   right ones the promise asks for between two bursts; the bytes of a written table. Constant expressions if the
+   arguments are. */
 #define BURST_CODER_WORDS(depth) (1 + (depth))
 #define BURST_DECODER_WORDS(span, depth) (2 + (depth) * ((span) + 1))
 #define BURST_DELAY(span, depth) ((depth) * ((span) - 1))
@@ -269,12 +270,12 @@ struct burst_coded burst_code(const struct burst_table *table, uint64_t *words, 
  * Let one table, read or made, be used throughout. Let both memories be started, and then written by steps alone. Let
  * every coded block be taken, in order, and let wrong blocks come only in bursts within m blocks, with at least
  * m * (N - 1) right blocks between. Then every block delivered is right, and none is doubtful. From any other memory,
- * and after any other damage, that holds once 2 * m * (N - 1) right blocks in a row were taken. What the steps that take the last m of these deliver is right
- * already, and is marked clean or parity. Earlier steps may be marked so too, and that tells nothing. Of the
- * 2 * m * (N - 1), the last 2 * m need not be right, if bursts keep to the rule from there on: what comes after all of
- * them is right, though those last m steps may not be. A doubtful block may be wrong, and so may any other, where
- * bursts were longer or closer than this. A block that was not received is a wrong one: any block below 2^n, such as 0,
- * is handed in for it. One that is left out, or refused, shifts all later ones by a place.
+ * and after any other damage, that holds once 2 * m * (N - 1) right blocks in a row were taken. What the steps that
+ * take the last m of these deliver is right already, and is marked clean or parity. Earlier steps may be marked so too,
+ * and that tells nothing. Of the 2 * m * (N - 1), the last 2 * m need not be right, if bursts keep to the rule from
+ * there on: what comes after all of them is right, though those last m steps may not be. A doubtful block may be wrong,
+ * and so may any other, where bursts were longer or closer than this. A block that was not received is a wrong one: any
+ * block below 2^n, such as 0, is handed in for it. One that is left out, or refused, shifts all later ones by a place.
  *
  * Deliveries are not linear. With n = 2, N = 4, m = 1 and row 10 the blocks 2, 2, 0, 0 and 2, 0, 0, 2 deliver 0 each
  * from a start, and their exclusive or, 0, 2, 0, 2, delivers 1. The terms of the syndrome, which no call returns, do
@@ -383,11 +384,11 @@ struct burst_coded burst_iwadare_code(uint64_t *words, size_t count, uint16_t in
  *
  * Let both memories be started, and then written by steps alone. Let every coded block be taken, in order, and let
  * wrong bits, counted as they are sent, come only in bursts within 10 consecutive bits, with at least 56 right bits
- * between. Then every block delivered is right. From any other memory within the bounds, and after any other damage, that holds once 30
- * right blocks in a row were taken, bursts keeping to the rule from there on; while all blocks are right it holds from
- * the 22nd of them on. There is no mark: where bursts are longer or closer, nothing tells a wrong block. A block that
- * was not received is handed in as any block below 8, and those of its bits that differ are wrong ones. One that is
- * left out, or refused, shifts all later ones by a place.
+ * between. Then every block delivered is right. From any other memory within the bounds, and after any other damage,
+ * that holds once 30 right blocks in a row were taken, bursts keeping to the rule from there on; while all blocks are
+ * right it holds from the 22nd of them on. There is no mark: where bursts are longer or closer, nothing tells a wrong
+ * block. A block that was not received is handed in as any block below 8, and those of its bits that differ are wrong
+ * ones. One that is left out, or refused, shifts all later ones by a place.
  *
  * Refused, 13 to 15, it writes no word.
  */
