@@ -23,7 +23,8 @@ use Rattle.iwadare.specs.Memory.{delay, fill_of}
 use Rattle.iwadare.specs.Refusals.{coder_fault, decoder_fault}
 use Rattle.iwadare.specs.Coder.{coded_block, coder_next, code_answer, code_memory}
 use Rattle.iwadare.specs.Decoder.{delivered, delivery, decoder_next, decode_answer, decode_memory}
-use Rattle.iwadare.specs.Runs.{Sent, Taken, sent_of, taken_of, handed, sent_by, taken_by, none_sent, none_taken, sent_at}
+use Rattle.iwadare.specs.Runs.{Sent, Taken, sent_of, taken_of, handed, sent_by, taken_by, none_sent, none_taken}
+use Rattle.iwadare.specs.Runs.{sent_at}
 use Rattle.iwadare.specs.Runs.{taken_at, IwadareRefusedSkipped}
 use Rattle.iwadare.proofs.Decoder.{DecoderTaken, decoder-taken}
 use Rattle.iwadare.proofs.Words.{CoderStep, coder-step, DecoderStep, decoder_step}

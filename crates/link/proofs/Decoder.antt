@@ -233,11 +233,11 @@ delivery-numbers t s r = go (ltb (fill_of s) (delay_of t))
     go false = refl
 
 -- answer and memory are all that is promised: the numbers follow
-pub decodes-so : (t : Table) (s : List ℕ) (b : ℕ) (r : DecodeAnswer) (after : List ℕ) → r ≡ decode_answer t s b
-    → after ≡ decode_memory t s b
-    → Decodes t s b r after
+pub decodes-so : (t : Table) (s : List ℕ) (b : ℕ) (r : DecodeAnswer) (left : List ℕ) → r ≡ decode_answer t s b
+    → left ≡ decode_memory t s b
+    → Decodes t s b r left
 unfolding decode_answer
-decodes-so t s b r after p q = record {
+decodes-so t s b r left p q = record {
   answer = p;
   memory = q;
   numbers = ap decode_numbers p

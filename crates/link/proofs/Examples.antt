@@ -11,7 +11,8 @@ use Rattle.tables.specs.declared.read.ReadAnswer.TheVariants.{Accepted}
 use Rattle.tables.specs.Code.{image, shifted_image}
 use Rattle.tables.specs.Table.{table, sizes_fit, rows_fit, fit}
 use Rattle.tables.specs.Refusal.{first_of}
-use Rattle.tables.specs.Format.{size, word, all_given, unavailable, fault, place, sized, rowed, after, parse_from, parse}
+use Rattle.tables.specs.Format.{size, word, all_given, unavailable, fault, place, sized, rowed, after, parse_from}
+use Rattle.tables.specs.Format.{parse}
 use Rattle.tables.specs.Clash.{first_from, clash_of, clash_at, first_clash}
 use Rattle.tables.specs.Reading.{reading}
 use Rattle.tables.specs.Made.{columns, upper, made_row, made_rows, made_table, making}

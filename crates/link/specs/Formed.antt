@@ -11,7 +11,8 @@
 use Rattle.std.specs.Prelude.{◌≡◌, Bool, true, false, ◌≢◌, ◌↔◌, List, ℕ, ◌-◌, ◌^◌, ◌≤◌, ◌<◌, length, set}
 use Rattle.tables.specs.declared.table.Table.{Table}
 use Rattle.tables.specs.Table.{fit, SameTable}
-use Rattle.link.specs.Memory.{coder_words, decoder_words, turn_of, fill_of, delay_of, pending_at, pending_of, syndrome_of}
+use Rattle.link.specs.Memory.{coder_words, decoder_words, turn_of, fill_of, delay_of, pending_at, pending_of}
+use Rattle.link.specs.Memory.{syndrome_of}
 use Rattle.link.specs.Memory.{delayed_of, delayed_bound, started}
 use Rattle.link.specs.Refusals.{coder_malformed, decoder_malformed, coder_fault, decoder_fault}
 use Rattle.link.specs.Coder.{coder_next}

@@ -22,7 +22,8 @@
 --   Pending, PendingReceived             what a bit of a pending word is, of coder and of decoder
 --   DeliveryLaw                          which block a delivery is of, from any memory
 --   Waiting                              until the fill is complete nothing is delivered
-use Rattle.std.specs.Prelude.{◌≡◌, ◌↔◌, Bool, false, cond, ◌&&◌, ◌⊎◌, List, ℕ, zero, suc, ◌+◌, ◌-◌, ◌*◌, ◌^◌, ◌≤◌, ◌<◌, leb, ltb, length, get_or}
+use Rattle.std.specs.Prelude.{◌≡◌, ◌↔◌, Bool, false, cond, ◌&&◌, ◌⊎◌, List, ℕ, zero, suc, ◌+◌, ◌-◌, ◌*◌, ◌^◌, ◌≤◌, ◌<◌}
+use Rattle.std.specs.Prelude.{leb, ltb, length, get_or}
 use Rattle.std.specs.Bool.{xor}
 use Rattle.span.specs.declared.eliminate.Least.{Least}
 use Rattle.span.specs.declared.eliminate.Least.TheVariants.{Found, Missing}

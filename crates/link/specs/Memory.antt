@@ -13,7 +13,8 @@
 --   next_pending w                   the pending word that it leaves
 --   next_turn m turn, fill_next t fill   turn and fill after a step
 --   pushed from y s                  the words of s from `from` on without the first of them, and y as the last
-use Rattle.std.specs.Prelude.{cond, List, [], ◌∷◌, ◌++◌, ℕ, suc, ◌+◌, ◌-◌, ◌*◌, ◌/◌, ◌^◌, ltb, eqb, length, get_or, take, drop, replicate}
+use Rattle.std.specs.Prelude.{cond, List, [], ◌∷◌, ◌++◌, ℕ, suc, ◌+◌, ◌-◌, ◌*◌, ◌/◌, ◌^◌, ltb, eqb, length, get_or}
+use Rattle.std.specs.Prelude.{take, drop, replicate}
 use Rattle.span.specs.Word.{◌⊕◌}
 use Rattle.span.specs.Combination.{combination}
 use Rattle.tables.specs.declared.table.Table.{Table}

@@ -10,7 +10,8 @@
 --   BitsChanged      how many coded bits change, however many blocks follow
 --   ReachAfter least, OneBitReach   how many change, where at least so many blocks follow
 --   OneBitReachSharp   with one block less following it may be fewer
-use Rattle.std.specs.Prelude.{◌≡◌, true, ◌&&◌, ◌↔◌, ℕ, zero, suc, ◌+◌, ◌-◌, ◌*◌, ◌/◌, ◌%◌, ◌^◌, ◌≤◌, ◌<◌, eqb, length, get_or}
+use Rattle.std.specs.Prelude.{◌≡◌, true, ◌&&◌, ◌↔◌, ℕ, zero, suc, ◌+◌, ◌-◌, ◌*◌, ◌/◌, ◌%◌, ◌^◌, ◌≤◌, ◌<◌, eqb, length}
+use Rattle.std.specs.Prelude.{get_or}
 use Rattle.std.specs.Bool.{xor}
 use mathlib.Core.List.{List, ◌∷◌, ◌++◌, map, zip_with, sum}
 use Rattle.std.specs.Int.Count.{ones}

@@ -9,7 +9,8 @@
 --   answered fault x refused   the answer of a call that has this fault: x, or a refusal with its number
 --   leaves fault next before   the memory after it
 --   call_numbers fault values   the numbers of its answer
-use Rattle.std.specs.Prelude.{Bool, false, cond, not, ◌||◌, List, [], ◌∷◌, ℕ, zero, suc, ◌+◌, ◌-◌, ◌^◌, leb, ltb, eqb, length, get_or}
+use Rattle.std.specs.Prelude.{Bool, false, cond, not, ◌||◌, List, [], ◌∷◌, ℕ, zero, suc, ◌+◌, ◌-◌, ◌^◌, leb, ltb, eqb}
+use Rattle.std.specs.Prelude.{length, get_or}
 use Rattle.tables.specs.declared.table.Table.{Table}
 use Rattle.tables.specs.Table.{fit}
 use Rattle.tables.specs.Refusal.{first_of}

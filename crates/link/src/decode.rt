@@ -1,5 +1,6 @@
 // The decoder: one step on lent memory, in 01's four lines.
-ghost use Rattle.std.specs.Prelude.{◌≡◌, cond, ◌||◌, [], ◌∷◌, ◌++◌, ◌+◌, ◌-◌, ◌/◌, ◌^◌, ◌≤◌, ◌<◌, leb, ltb, length, get_or, take, drop};
+ghost use Rattle.std.specs.Prelude.{◌≡◌, cond, ◌||◌, [], ◌∷◌, ◌++◌, ◌+◌, ◌-◌, ◌/◌, ◌^◌, ◌≤◌, ◌<◌, leb, ltb, length};
+ghost use Rattle.std.specs.Prelude.{get_or, take, drop};
 ghost use Rattle.span.specs.Word.{◌⊕◌, odd, sel};
 ghost use Rattle.span.specs.Combination.{combination};
 ghost use Rattle.tables.specs.Lent.{with_rows, lent};

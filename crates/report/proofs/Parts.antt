@@ -41,9 +41,9 @@ parts-listed t l (p ∷ ps) w =
 opened-listing : (a : MakeAnswer) (t : Table) (parts : List (List ℕ)) → whole_blocks parts
     → let o = headed (opened_made a t) in
     header_line ++ made_listing a t (joined parts) ≡ o.text ++ after_opening o parts
-opened-listing Made t parts w =
-    ap (λ (l : Listed). header_line ++ l.text) (sym (parts-listed t (nothing_listed t) parts w))
-opened-listing OutOfRange t parts w = sym (append-nil (header_line ++ refused_line 11))
+opened-listing Made t ps w =
+    ap (λ (l : Listed). header_line ++ l.text) (sym (parts-listed t (nothing_listed t) ps w))
+opened-listing OutOfRange t ps w = sym (append-nil (header_line ++ refused_line 11))
 
 -- under two bytes there is no part
 short-listing : (sizes rest : List ℕ) → length sizes < 2 → rest ≡ [] → listing (sizes ++ rest) ≡ header_line ++ []

@@ -15,7 +15,8 @@
 --   part_room k bytes room      whether the lines of a part of so many bytes have room, and the numbers from k on
 --   part_listed t s k bs room   what a call that lists a part does, with `room` bytes for the lines
 --   Lists l out r memory end number stopped   what such a call leaves and answers
-use Rattle.std.specs.Prelude.{◌≡◌, Bool, true, false, ◌&&◌, cond, List, [], ◌∷◌, ◌++◌, ℕ, ◌+◌, ◌*◌, ◌/◌, ◌%◌, ◌^◌, ◌≤◌, leb, length, get_or}
+use Rattle.std.specs.Prelude.{◌≡◌, Bool, true, false, ◌&&◌, cond, List, [], ◌∷◌, ◌++◌, ℕ, ◌+◌, ◌*◌, ◌/◌, ◌%◌, ◌^◌, ◌≤◌}
+use Rattle.std.specs.Prelude.{leb, length, get_or}
 use Rattle.tables.specs.declared.table.Table.{Table}
 use Rattle.tables.specs.declared.make.MakeAnswer.{MakeAnswer}
 use Rattle.tables.specs.declared.make.MakeAnswer.TheVariants.{Made, OutOfRange}

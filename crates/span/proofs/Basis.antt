@@ -1,5 +1,9 @@
 -- A basis built from words reduces a further word to its least coefficients. Assumes nothing.
-use Rattle.std.proofs.Common.{◌≡◌, ℕ, zero, suc, ◌+◌, ◌^◌, ◌<◌, ◌≤◌, min, Bool, true, false, cond, eqb, ◌≢◌, List, [], ◌∷◌, ◌++◌, length, get_or, take, drop, set, sym, refl, ap, ◌∙◌, subst, append-nil, zero-le, le_refl, lt_of_le_of_lt, add-zero, le_of_lt, zero-add, add-one, arith, length-append, length-set, take-append-drop, length-take-le, get_or-set_other, take-suc, get_or-set_same, pow_mono, eq-eqb, ne_eqb, eqb-true}
+use Rattle.std.proofs.Common.{◌≡◌, ℕ, zero, suc, ◌+◌, ◌^◌, ◌<◌, ◌≤◌, min, Bool, true, false, cond, eqb, ◌≢◌, List, []}
+use Rattle.std.proofs.Common.{◌∷◌, ◌++◌, length, get_or, take, drop, set, sym, refl, ap, ◌∙◌, subst, append-nil}
+use Rattle.std.proofs.Common.{zero-le, le_refl, lt_of_le_of_lt, add-zero, le_of_lt, zero-add, add-one, arith}
+use Rattle.std.proofs.Common.{length-append, length-set, take-append-drop, length-take-le, get_or-set_other, take-suc}
+use Rattle.std.proofs.Common.{get_or-set_same, pow_mono, eq-eqb, ne_eqb, eqb-true}
 use mathlib.Core.Path.{fun_ext}
 use native.Mathlib.Decide.{dec_le}
 use borrow.Author.Tests.{eqb-false}

@@ -1,6 +1,9 @@
 -- The laws of linear combinations: linear in the coefficients, carried by every linear map, and split over append.
 -- Assumes nothing.
-use Rattle.std.proofs.Common.{◌≡◌, ℕ, zero, suc, ◌+◌, ◌-◌, ◌/◌, ◌%◌, ◌^◌, ◌<◌, ◌≤◌, min, Bool, true, false, List, [], ◌∷◌, ◌++◌, map, length, get_or, take, drop, sym, refl, ap, ◌∙◌, subst, ap₂, zero-lt-suc, div-one, add-one, one-add, arith, length-append, take-append-drop, length-take, length-take-le, take_all, get_or-take, take-take, get_or-append-add, pow_pos, shr-shr}
+use Rattle.std.proofs.Common.{◌≡◌, ℕ, zero, suc, ◌+◌, ◌-◌, ◌/◌, ◌%◌, ◌^◌, ◌<◌, ◌≤◌, min, Bool, true, false, List, []}
+use Rattle.std.proofs.Common.{◌∷◌, ◌++◌, map, length, get_or, take, drop, sym, refl, ap, ◌∙◌, subst, ap₂, zero-lt-suc}
+use Rattle.std.proofs.Common.{div-one, add-one, one-add, arith, length-append, take-append-drop, length-take}
+use Rattle.std.proofs.Common.{length-take-le, take_all, get_or-take, take-take, get_or-append-add, pow_pos, shr-shr}
 use native.Mathlib.Nat.{div-eq_of_lt}
 use native.Mathlib.Decide.{dec_lt}
 use lib.Pow.{mod-mod-pow, field}

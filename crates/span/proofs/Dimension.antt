@@ -1,6 +1,7 @@
 -- Words below 2^N without a relation are at most N, and N of them span everything below 2^N: their combinations are all
 -- different, and there is no room for more than 2^N different numbers below 2^N. Assumes nothing.
-use Rattle.std.proofs.Common.{◌≡◌, ℕ, zero, suc, ◌^◌, ◌<◌, ◌≤◌, Bool, true, false, eqb, ◌≢◌, List, length, sym, refl, ap, ◌∙◌, suc-le-suc, zero-le, le_refl, lt_irrefl, arith, eqb-true}
+use Rattle.std.proofs.Common.{◌≡◌, ℕ, zero, suc, ◌^◌, ◌<◌, ◌≤◌, Bool, true, false, eqb, ◌≢◌, List, length, sym, refl}
+use Rattle.std.proofs.Common.{ap, ◌∙◌, suc-le-suc, zero-le, le_refl, lt_irrefl, arith, eqb-true}
 use native.Mathlib.Decide.{dec_le}
 use borrow.Author.Tests.{eqb-false}
 use lib.Pow.{pow-lt}

@@ -1,6 +1,8 @@
 -- The laws of reduction at once: by the bilinearity of the parity alone, a step's test of what is left of a word is the
 -- new check word's test of the word itself. Assumes nothing.
-use Rattle.std.proofs.Common.{◌≡◌, ℕ, zero, suc, ◌<◌, ◌≤◌, min, Bool, true, false, cond, eqb, List, length, get_or, set, sym, refl, ap, ◌∙◌, subst, ap₂, le_refl, arith, length-set, get_or-set_other, get_or-set_same, ne_eqb, eqb-true}
+use Rattle.std.proofs.Common.{◌≡◌, ℕ, zero, suc, ◌<◌, ◌≤◌, min, Bool, true, false, cond, eqb, List, length, get_or, set}
+use Rattle.std.proofs.Common.{sym, refl, ap, ◌∙◌, subst, ap₂, le_refl, arith, length-set, get_or-set_other}
+use Rattle.std.proofs.Common.{get_or-set_same, ne_eqb, eqb-true}
 use mathlib.Core.Bool.{xor}
 use native.Mathlib.Decide.{dec_le}
 use borrow.Author.Tests.{eqb-false}

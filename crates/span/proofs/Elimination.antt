@@ -3,7 +3,10 @@
 -- nothing is left keeps it (`pass`), and so does a word of which something is left, once that has joined with a check
 -- word that has an odd count of common ones with it (`join`). A reduction answers with the least coefficients
 -- (`least_by_lem`). Assumes nothing.
-use Rattle.std.proofs.Common.{◌≡◌, ℕ, suc, ◌-◌, ◌^◌, ◌<◌, ◌≤◌, Bool, true, false, cond, eqb, leb, ◌≢◌, ◌⊎◌, List, [], ◌∷◌, ◌++◌, length, sym, refl, ap, ◌∙◌, subst, ap₂, inl, inr, zero-le, le_of_eq, le_refl, lt_of_lt_of_le, le_of_lt, eq-zero-or-pos, add-one, arith, length-append, pow_pos, pow_mono, eqb-true}
+use Rattle.std.proofs.Common.{◌≡◌, ℕ, suc, ◌-◌, ◌^◌, ◌<◌, ◌≤◌, Bool, true, false, cond, eqb, leb, ◌≢◌, ◌⊎◌, List, []}
+use Rattle.std.proofs.Common.{◌∷◌, ◌++◌, length, sym, refl, ap, ◌∙◌, subst, ap₂, inl, inr, zero-le, le_of_eq, le_refl}
+use Rattle.std.proofs.Common.{lt_of_lt_of_le, le_of_lt, eq-zero-or-pos, add-one, arith, length-append, pow_pos}
+use Rattle.std.proofs.Common.{pow_mono, eqb-true}
 use mathlib.Core.Bool.{xor}
 use native.Mathlib.Decide.{dec_lt}
 use borrow.Author.Tests.{eqb-false}

@@ -1,7 +1,10 @@
 -- Shifts, single bits and linear maps of words, from the laws of words and combinations: what the proof about the
 -- triangle rests on. A linear map is fixed by its values at single ones (`linear-same`), and one of k-bit words that
 -- maps only 0 to 0 reaches every word (`linear-onto`). Assumes nothing.
-use Rattle.std.proofs.Common.{◌≡◌, ℕ, zero, suc, ◌+◌, ◌-◌, ◌*◌, ◌/◌, ◌%◌, ◌^◌, ◌<◌, ◌≤◌, Bool, true, false, ◌≢◌, List, [], ◌∷◌, ◌++◌, length, get_or, sym, refl, ap, ◌∙◌, subst, ap₂, le_refl, mod-lt, mod-eq_of_lt, mul_assoc, mul_comm, one-mul, zero-mul, add-one, arith, length-append, pow_pos, pow-add}
+use Rattle.std.proofs.Common.{◌≡◌, ℕ, zero, suc, ◌+◌, ◌-◌, ◌*◌, ◌/◌, ◌%◌, ◌^◌, ◌<◌, ◌≤◌, Bool, true, false, ◌≢◌, List}
+use Rattle.std.proofs.Common.{[], ◌∷◌, ◌++◌, length, get_or, sym, refl, ap, ◌∙◌, subst, ap₂, le_refl, mod-lt}
+use Rattle.std.proofs.Common.{mod-eq_of_lt, mul_assoc, mul_comm, one-mul, zero-mul, add-one, arith, length-append}
+use Rattle.std.proofs.Common.{pow_pos, pow-add}
 use mathlib.Core.Bool.{xor}
 use native.Mathlib.Nat.{mul-mod_left, zero-mod, zero-div}
 use native.Mathlib.Decide.{dec_le}

@@ -1,6 +1,9 @@
 -- The laws of tables for lookup: four bits at a time give the combination, and a table is made by doubling, one word
 -- after another. Assumes nothing.
-use Rattle.std.proofs.Common.{◌≡◌, ℕ, zero, suc, ◌+◌, ◌-◌, ◌*◌, ◌/◌, ◌%◌, ◌^◌, ◌<◌, ◌≤◌, Bool, List, [], ◌∷◌, ◌++◌, length, get_or, drop, set, replicate, sym, refl, ap, ◌∙◌, subst, ap₂, zero-add, div-one, add-one, one-add, arith, length-append, length-set, drop_of_length-le, get_or-drop, get_or-set_other, get_or-set_same, drop-drop, get_or-append-add, ext_get_or, shr-shr}
+use Rattle.std.proofs.Common.{◌≡◌, ℕ, zero, suc, ◌+◌, ◌-◌, ◌*◌, ◌/◌, ◌%◌, ◌^◌, ◌<◌, ◌≤◌, Bool, List, [], ◌∷◌, ◌++◌}
+use Rattle.std.proofs.Common.{length, get_or, drop, set, replicate, sym, refl, ap, ◌∙◌, subst, ap₂, zero-add, div-one}
+use Rattle.std.proofs.Common.{add-one, one-add, arith, length-append, length-set, drop_of_length-le, get_or-drop}
+use Rattle.std.proofs.Common.{get_or-set_other, get_or-set_same, drop-drop, get_or-append-add, ext_get_or, shr-shr}
 use native.Mathlib.Nat.{mod-one}
 use native.Mathlib.Decide.{dec_le, dec_lt}
 use lib.ListN.{get_or-append}

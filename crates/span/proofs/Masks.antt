@@ -6,7 +6,9 @@
 --   bit-most      a bit at place k is at most 2^k
 --   bit_shifted   no bit is lost where it is shifted to a place of the word
 --   topped-lt     a number below 2^k with a bit at place k is below 2^(k+1)
-use Rattle.std.proofs.Common.{◌≡◌, ℕ, suc, ◌+◌, ◌-◌, ◌*◌, ◌%◌, ◌^◌, ◌<◌, ◌≤◌, min, Bool, true, false, ◌||◌, ltb, leb, sym, ap, ◌∙◌, mod-eq_of_lt, one-mul, zero-mul, arith, pow_pos, pow_mono, le-ltb, lt-ltb, le-leb}
+use Rattle.std.proofs.Common.{◌≡◌, ℕ, suc, ◌+◌, ◌-◌, ◌*◌, ◌%◌, ◌^◌, ◌<◌, ◌≤◌, min, Bool, true, false, ◌||◌, ltb, leb}
+use Rattle.std.proofs.Common.{sym, ap, ◌∙◌, mod-eq_of_lt, one-mul, zero-mul, arith, pow_pos, pow_mono, le-ltb, lt-ltb}
+use Rattle.std.proofs.Common.{le-leb}
 use native.Mathlib.Decide.{dec_lt}
 use borrow.Author.Tests.{lt-leb}
 use lib.Bits.{bit_and, bit_or, and_mask, or_lt, or_add_and, and_le_l, and_le_r}

@@ -1,5 +1,9 @@
 -- What the search finds is the least there is, and the least is one. Assumes nothing.
-use Rattle.std.proofs.Common.{◌≡◌, ℕ, zero, suc, ◌+◌, ◌-◌, ◌^◌, ◌<◌, ◌≤◌, Bool, true, false, cond, eqb, ◌⊎◌, List, [], ◌∷◌, ◌++◌, length, get_or, take, sym, refl, ap, ◌∙◌, subst, inl, inr, zero-le, le_trans, le_refl, lt_of_lt_of_le, le_of_suc-le-suc, le_of_lt, eq-zero-or-pos, le_antisymm, lt_of_not-le, add-one, arith, length-append, length-take-le, take-suc, pow_mono, eq-eqb, eqb-true}
+use Rattle.std.proofs.Common.{◌≡◌, ℕ, zero, suc, ◌+◌, ◌-◌, ◌^◌, ◌<◌, ◌≤◌, Bool, true, false, cond, eqb, ◌⊎◌, List, []}
+use Rattle.std.proofs.Common.{◌∷◌, ◌++◌, length, get_or, take, sym, refl, ap, ◌∙◌, subst, inl, inr, zero-le, le_trans}
+use Rattle.std.proofs.Common.{le_refl, lt_of_lt_of_le, le_of_suc-le-suc, le_of_lt, eq-zero-or-pos, le_antisymm}
+use Rattle.std.proofs.Common.{lt_of_not-le, add-one, arith, length-append, length-take-le, take-suc, pow_mono, eq-eqb}
+use Rattle.std.proofs.Common.{eqb-true}
 use mathlib.Core.Bool.{false≢true}
 use native.Mathlib.Decide.{dec_lt}
 use lib.Arith.{lt_of_le-ne}

@@ -2,7 +2,9 @@
 --
 --   Storing s d out i   after i turns `out` has the first i elements of s, and then those of d, as they were
 --   storing-first, storing-next, storing-all   at first, after a turn's store, and at the end
-use Rattle.std.proofs.Common.{◌≡◌, ℕ, suc, ◌+◌, ◌<◌, ◌≤◌, List, [], ◌∷◌, ◌++◌, length, get_or, take, drop, set, sym, refl, ap, ◌∙◌, append-nil, add-one, arith, length-set, drop_of_length-le, length-take-le, take_all, drop-cons, take-suc}
+use Rattle.std.proofs.Common.{◌≡◌, ℕ, suc, ◌+◌, ◌<◌, ◌≤◌, List, [], ◌∷◌, ◌++◌, length, get_or, take, drop, set, sym}
+use Rattle.std.proofs.Common.{refl, ap, ◌∙◌, append-nil, add-one, arith, length-set, drop_of_length-le, length-take-le}
+use Rattle.std.proofs.Common.{take_all, drop-cons, take-suc}
 use lib.Seq.{set_at, append_snoc}
 
 abbrev stored : List ℕ → List ℕ → ℕ → List ℕ

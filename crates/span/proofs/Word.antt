@@ -1,7 +1,10 @@
 -- The laws of words: exclusive or is an abelian group in which each word is its own inverse, and halves, bits, shifts
 -- and masks pass through it; parity with a fixed word is linear. Each law follows from a number's lowest bit and its
 -- half. Assumes nothing.
-use Rattle.std.proofs.Common.{◌≡◌, ℕ, zero, suc, ◌+◌, ◌-◌, ◌*◌, ◌/◌, ◌%◌, ◌^◌, ◌<◌, ◌≤◌, Bool, true, false, ◌&&◌, ◌≢◌, sym, refl, ap, ◌∙◌, subst, ap₂, add-zero, mod-lt, mul_assoc, suc-mul, add_comm, one-mul, zero-mul, div-one, add-one, one-add, arith, pow_pos, pow-add, shl_exact, shr-shr, eq-eqb, ne_eqb, eqb-true}
+use Rattle.std.proofs.Common.{◌≡◌, ℕ, zero, suc, ◌+◌, ◌-◌, ◌*◌, ◌/◌, ◌%◌, ◌^◌, ◌<◌, ◌≤◌, Bool, true, false, ◌&&◌, ◌≢◌}
+use Rattle.std.proofs.Common.{sym, refl, ap, ◌∙◌, subst, ap₂, add-zero, mod-lt, mul_assoc, suc-mul, add_comm, one-mul}
+use Rattle.std.proofs.Common.{zero-mul, div-one, add-one, one-add, arith, pow_pos, pow-add, shl_exact, shr-shr, eq-eqb}
+use Rattle.std.proofs.Common.{ne_eqb, eqb-true}
 use mathlib.Core.Bool.{xor}
 use native.Mathlib.Nat.{mul-mod_left, zero-mod, mod-mod}
 use native.Mathlib.Nat.{div-eq_of_lt, div-eq_of_lt-le}

@@ -13,7 +13,8 @@
 --   least_by b ones x   what the basis says of a word
 --   LeastBy             that is its least coefficients
 --   Unmet               a word that has no one in common with the check words is left as it is
-use Rattle.std.specs.Prelude.{◌≡◌, ℕ, zero, suc, ◌≤◌, min, cond, List, length, replicate, ◌==◌, bit_and, bit_or, slice_index, slice_set}
+use Rattle.std.specs.Prelude.{◌≡◌, ℕ, zero, suc, ◌≤◌, min, cond, List, length, replicate, ◌==◌, bit_and, bit_or}
+use Rattle.std.specs.Prelude.{slice_index, slice_set}
 use Rattle.span.specs.declared.eliminate.Basis.{Basis}
 use Rattle.span.specs.declared.eliminate.Reduced.{Reduced}
 use Rattle.span.specs.declared.eliminate.Least.{Least}

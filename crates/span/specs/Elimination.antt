@@ -17,7 +17,9 @@ use Rattle.span.specs.Basis.{basis, reduction}
 
 -- 01, "leading and trailing zero counts pick pivots in the span layer": the smaller of the two counts picks
 unfoldable pub pivot : ℕ → ℕ
-pivot v = cond (nat_le (count_trailing_zeros 64 v) (count_leading_zeros 64 v)) (count_trailing_zeros 64 v) (63 - count_leading_zeros 64 v)
+pivot v =
+    cond (nat_le (count_trailing_zeros 64 v) (count_leading_zeros 64 v)) (count_trailing_zeros 64 v)
+    (63 - count_leading_zeros 64 v)
 
 abbrev pub empty_basis : Basis
 empty_basis = basis 0 (replicate 32 0) (replicate 32 0) (replicate 32 0)

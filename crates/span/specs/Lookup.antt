@@ -8,7 +8,8 @@
 --   LookedUp                       the tables give the combination
 --   Doubled at width n row ls ms   how the code takes up one word: of the tables before, ls, and after, ms
 --   Grouped ws g ls ms             how the code makes table g
-use Rattle.std.specs.Prelude.{◌≡◌, ℕ, zero, suc, ◌+◌, ◌*◌, ◌/◌, ◌%◌, ◌<◌, ◌≤◌, List, [], ◌∷◌, ◌++◌, length, drop, slice_index, slice_index_or}
+use Rattle.std.specs.Prelude.{◌≡◌, ℕ, zero, suc, ◌+◌, ◌*◌, ◌/◌, ◌%◌, ◌<◌, ◌≤◌, List, [], ◌∷◌, ◌++◌, length, drop}
+use Rattle.std.specs.Prelude.{slice_index, slice_index_or}
 use Rattle.span.specs.Word.{◌⊕◌}
 use Rattle.span.specs.Combination.{combination}
 
@@ -26,7 +27,8 @@ lookup_of ws = lookup_tables 4 ws
 
 unfoldable pub looked_up : List ℕ → ℕ → ℕ
 looked_up ls c =
-    slice_index_or ls (c % 16) 0 ⊕ slice_index_or ls (16 + c / 16 % 16) 0 ⊕ slice_index_or ls (32 + c / 256 % 16) 0 ⊕ slice_index_or ls (48 + c / 4096 % 16) 0
+    slice_index_or ls (c % 16) 0 ⊕ slice_index_or ls (16 + c / 16 % 16) 0
+    ⊕ slice_index_or ls (32 + c / 256 % 16) 0 ⊕ slice_index_or ls (48 + c / 4096 % 16) 0
 
 -- the tables give the combination, of at most 16 words
 abbrev pub LookedUp : Type 0
@@ -42,6 +44,7 @@ pub record Doubled (at width n row : ℕ) (ls ms : List ℕ) : Type 0 where
 -- the table is made, where its first entry was 0, and no other is changed
 pub record Grouped (ws : List ℕ) (g : ℕ) (ls ms : List ℕ) : Type 0 where
   pub size : length ms ≡ length ls
-  pub made : slice_index_or ls (16 * g) 0 ≡ 0 → (v : ℕ) → v < 16 → slice_index ms (16 * g + v) ≡ combination (drop (4 * g) ws) v
+  pub made : slice_index_or ls (16 * g) 0 ≡ 0 → (v : ℕ) → v < 16
+      → slice_index ms (16 * g + v) ≡ combination (drop (4 * g) ws) v
   pub below : (i : ℕ) → i < 16 * g → slice_index ms i ≡ slice_index ls i
   pub above : (i : ℕ) → 16 * g + 16 ≤ i → slice_index ms i ≡ slice_index ls i

@@ -20,7 +20,8 @@ use Rattle.span.proofs.Combination.{combination-xor, combination-pow, combinatio
 use Rattle.tables.specs.Code.{image}
 use Rattle.tables.specs.Made.{upper, made_row, made_rows, triangle_rows, Triangle}
 use Rattle.tables.specs.Triangle.{NestedRows}
-use Rattle.span.proofs.Linear.{listed, listed-zero, listed_suc, length-listed, get_or-listed, shl-low, bits_none, Linear}
+use Rattle.span.proofs.Linear.{listed, listed-zero, listed_suc, length-listed, get_or-listed, shl-low, bits_none}
+use Rattle.span.proofs.Linear.{Linear}
 use Rattle.span.proofs.Linear.{linear-zero, parity-same}
 
 -- ---- a table of n rows in 2n bits, and one with a row and two bits more

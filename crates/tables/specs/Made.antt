@@ -10,7 +10,8 @@
 --   making n m           what making answers: the table, or refusal 11 and the zero table
 --   made_numbers a       01's number of the answer: 0, or 11
 --   Makes n m r          what `make` promises
-use Rattle.std.specs.Prelude.{cond, ◌≡◌, List, [], ◌∷◌, ◌++◌, ℕ, zero, suc, ◌+◌, ◌-◌, ◌*◌, ◌^◌, ◌<◌, length, get_or, replicate}
+use Rattle.std.specs.Prelude.{cond, ◌≡◌, List, [], ◌∷◌, ◌++◌, ℕ, zero, suc, ◌+◌, ◌-◌, ◌*◌, ◌^◌, ◌<◌, length, get_or}
+use Rattle.std.specs.Prelude.{replicate}
 use Rattle.span.specs.Word.{bit, digit}
 use Rattle.tables.specs.declared.table.Table.{Table}
 use Rattle.tables.specs.declared.make.Making.{Making}

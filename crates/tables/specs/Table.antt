@@ -11,7 +11,8 @@
 --   fit t              refusal 12 does not apply
 --   Whole t            t is fit, it holds fifteen rows, and those past n − 1 are 0
 --   SameTable u t      u and t have the same n, N, m and rows 1 to n − 1: no call tells them apart
-use Rattle.std.specs.Prelude.{◌≡◌, Bool, true, ◌&&◌, List, [], ◌∷◌, ◌++◌, ℕ, suc, ◌-◌, ◌^◌, ◌≤◌, leb, ltb, length, get_or, take, replicate}
+use Rattle.std.specs.Prelude.{◌≡◌, Bool, true, ◌&&◌, List, [], ◌∷◌, ◌++◌, ℕ, suc, ◌-◌, ◌^◌, ◌≤◌, leb, ltb, length}
+use Rattle.std.specs.Prelude.{get_or, take, replicate}
 use Rattle.tables.specs.declared.table.Table.{Table}
 
 abbrev pub table : ℕ → ℕ → ℕ → List ℕ → Table

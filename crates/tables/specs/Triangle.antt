@@ -10,7 +10,8 @@
 --   Forced         with our columns before it, a column makes its size suitable exactly if it is ours
 --   Unique         a triangle all of whose sizes are suitable is ours
 --   another, NotUnique   a triangle that is not ours whose size 5 is suitable: `Unique` needs the smaller sizes
-use Rattle.std.specs.Prelude.{◌≡◌, true, ◌≢◌, ◌↔◌, List, [], ◌∷◌, ◌++◌, ℕ, suc, ◌+◌, ◌-◌, ◌*◌, ◌^◌, ◌≤◌, ◌<◌, length, get_or, take}
+use Rattle.std.specs.Prelude.{◌≡◌, true, ◌≢◌, ◌↔◌, List, [], ◌∷◌, ◌++◌, ℕ, suc, ◌+◌, ◌-◌, ◌*◌, ◌^◌, ◌≤◌, ◌<◌, length}
+use Rattle.std.specs.Prelude.{get_or, take}
 use Rattle.span.specs.Word.{bit, digit}
 use Rattle.tables.specs.Code.{Suitable}
 use Rattle.tables.specs.Table.{table, rows_of, fit, Whole}

@@ -7,7 +7,8 @@
 --   EachOnce n js    each of 1 to n − 1 stands in js exactly once, and nothing else does
 --   Says bytes t     the bytes say t
 --   ParsesExactly    bytes parse to a table exactly if they are written so
-use Rattle.std.specs.Prelude.{◌≡◌, ◌↔◌, cond, ◌&&◌, List, [], ◌∷◌, ◌++◌, ℕ, zero, suc, ◌+◌, ◌-◌, ◌/◌, ◌%◌, ◌<◌, leb, ltb, eqb, get_or}
+use Rattle.std.specs.Prelude.{◌≡◌, ◌↔◌, cond, ◌&&◌, List, [], ◌∷◌, ◌++◌, ℕ, zero, suc, ◌+◌, ◌-◌, ◌/◌, ◌%◌, ◌<◌, leb}
+use Rattle.std.specs.Prelude.{ltb, eqb, get_or}
 use Rattle.tables.specs.declared.table.Table.{Table}
 use Rattle.tables.specs.Table.{Whole}
 use Rattle.tables.specs.Format.{parsed, parse}

@@ -1,6 +1,7 @@
 // Reading a table: 01, "Table bytes" and refusals 1 to 10. The fault of a record stands apart from what a sound record
 // does.
-ghost use Rattle.std.specs.Prelude.{◌≡◌, ◌≢◌, true, cond, not, ◌+◌, ◌-◌, ◌^◌, ◌≤◌, ◌<◌, leb, ltb, eqb, length, get_or, drop};
+ghost use Rattle.std.specs.Prelude.{◌≡◌, ◌≢◌, true, cond, not, ◌+◌, ◌-◌, ◌^◌, ◌≤◌, ◌<◌, leb, ltb, eqb, length, get_or};
+ghost use Rattle.std.specs.Prelude.{drop};
 ghost use Rattle.tables.specs.Table.{fit};
 ghost use Rattle.tables.specs.Format.{kind, size, row_word, all_given, unavailable, fault, place, after, refused};
 ghost use Rattle.tables.specs.Format.{parsed};

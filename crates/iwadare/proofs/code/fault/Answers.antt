@@ -27,12 +27,15 @@ settled c p q e g =
     p q e g)
 
 pub returns-then-state-ge262144 : goal.returns-then-state-ge262144
-returns-then-state-ge262144 c = settled (goal.at.returns-then-state-ge262144 c).Else-state-ne1 true _ (le-leb _ _ c.if-state-ge262144.true) refl
+returns-then-state-ge262144 c =
+    settled (goal.at.returns-then-state-ge262144 c).Else-state-ne1 true _ (le-leb _ _ c.if-state-ge262144.true) refl
 
 pub returns-then-info-ge4 : goal.returns-then-info-ge4
 returns-then-info-ge4 c =
-    settled (goal.at.returns-then-info-ge4 c).Else-state-ne1 false true (lt-leb _ _ c.if-state-ge262144.false) (le-leb _ _ c.if-info-ge4.true)
+    settled (goal.at.returns-then-info-ge4 c).Else-state-ne1 false true (lt-leb _ _ c.if-state-ge262144.false)
+    (le-leb _ _ c.if-info-ge4.true)
 
 pub returns : goal.returns
 returns c =
-    settled (goal.at.returns c).Else-state-ne1 false false (lt-leb _ _ c.if-state-ge262144.false) (lt-leb _ _ c.if-info-ge4.false)
+    settled (goal.at.returns c).Else-state-ne1 false false (lt-leb _ _ c.if-state-ge262144.false)
+    (lt-leb _ _ c.if-info-ge4.false)

@@ -30,7 +30,9 @@ pub returns-then-malformed : goal.returns-then-malformed
 returns-then-malformed c = settled (goal.at.returns-then-malformed c).After-malformed true _ c.if-malformed.true refl
 
 pub returns-then-received-ge8 : goal.returns-then-received-ge8
-returns-then-received-ge8 c = settled (goal.at.returns-then-received-ge8 c).After-malformed false true c.if-malformed.false (le-leb _ _ c.if-received-ge8.true)
+returns-then-received-ge8 c =
+    settled (goal.at.returns-then-received-ge8 c).After-malformed false true c.if-malformed.false
+    (le-leb _ _ c.if-received-ge8.true)
 
 pub returns : goal.returns
 returns c = settled (goal.at.returns c).After-malformed false false c.if-malformed.false (lt-leb _ _ c.if-received-ge8.false)

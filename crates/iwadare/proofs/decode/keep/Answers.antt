@@ -42,8 +42,9 @@ kept c =
     let flipped = c.flip.new.state in
     let is = c.flip.ensures in
     let n = c.next_fill in
+    let l = sized c.before.before.before.before.before.before in
     c.push.ensures
-    ∙ moved flipped n.result (a.w / 2) a.terms a.youngest (let l = sized c.before.before.before.before.before.before in omega arith)
+    ∙ moved flipped n.result (a.w / 2) a.terms a.youngest (omega arith)
     ∙ ap₂ (λ (f : ℕ) (l : List ℕ). f ∷ a.w / 2 ∷ a.terms ∷ (drop 4 l ++ (a.youngest ∷ [])))
     (n.ensures ∙ ap fill_next (ap fill_of is
     ∙ get_or-set_other s 6 0 (get_or s 6 0 ⊕ a.weight) 0 (λ (z : 0 ≡ 6). omega arith)))

@@ -65,7 +65,8 @@ block-is c =
 pub overflow_cast-result : goal.overflow_cast-result
 overflow_cast-result c =
     let a = c.args in
-    record { fits = rw (block-is c) (coded-fits (with_rows c.args.t c.args.rows.now) a.state.now a.info (taken-whole (goal.at.overflow_cast-result c).Else-number-ne0).none) }
+    let k = taken-whole (goal.at.overflow_cast-result c).Else-number-ne0 in
+    record { fits = rw (block-is c) (coded-fits (with_rows a.t a.rows.now) a.state.now a.info k.none) }
 
 pub returns : goal.returns
 returns c =

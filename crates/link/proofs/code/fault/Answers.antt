@@ -26,7 +26,9 @@ fitted : (c : goal.Else-not-lent_fits) → let a = c.args in fit (lent a.t a.row
 fitted c = sym c.lent_fits.ensures ∙ c.if-not-lent_fits.false
 
 pub overflow_add-t : goal.overflow_add-t
-overflow_add-t c = let z = lent-facts _ _ (fitted (goal.at.overflow_add-t c).Else-not-lent_fits) in record { fits = omega arith }
+overflow_add-t c =
+    let z = lent-facts _ _ (fitted (goal.at.overflow_add-t c).Else-not-lent_fits) in
+    record { fits = omega arith }
 
 pub returns-then-state-t : goal.returns-then-state-t
 unfolding coder_fault
@@ -70,4 +72,5 @@ returns-then-mask-block c = settled (goal.at.returns-then-mask-block c).After-ma
     (fitted (goal.at.returns-then-mask-block c).Else-not-lent_fits) (lt-ltb _ _ c.if-mask-block.true)
 
 pub returns : goal.returns
-returns c = settled (goal.at.returns c).After-mask false (fitted (goal.at.returns c).Else-not-lent_fits) (le-ltb _ _ c.if-mask-block.false)
+returns c = settled (goal.at.returns c).After-mask false
+    (fitted (goal.at.returns c).Else-not-lent_fits) (le-ltb _ _ c.if-mask-block.false)

@@ -13,7 +13,9 @@ abbrev pub made : Table → ℕ → List ℕ → List ℕ → Batch
 made u = batch (λ s b. code_entries (code_answer u s b)) (code_memory u)
 
 abbrev pub invariant-loop-i : goal.invariant-loop-i
-invariant-loop-i l = Reached (made (with_rows l.t l.rows)) l.initial.state l.infos l.initial.out l.i l.state l.out × (length l.state ≡ length l.initial.state)
+invariant-loop-i l =
+    Reached (made (with_rows l.t l.rows)) l.initial.state l.infos l.initial.out l.i l.state l.out
+    × (length l.state ≡ length l.initial.state)
 
 abbrev pub decreases-loop-i : goal.decreases-loop-i
 decreases-loop-i l = l.end - l.i

@@ -34,7 +34,9 @@ fitted : (c : goal.Else-not-lent_fits) → let a = c.args in fit (lent a.t a.row
 fitted c = sym c.lent_fits.ensures ∙ c.if-not-lent_fits.false
 
 pub overflow_add-t : goal.overflow_add-t
-overflow_add-t c = let z = lent-facts _ _ (fitted (goal.at.overflow_add-t c).Else-not-lent_fits) in record { fits = omega arith }
+overflow_add-t c =
+    let z = lent-facts _ _ (fitted (goal.at.overflow_add-t c).Else-not-lent_fits) in
+    record { fits = omega arith }
 
 pub returns-then-state-t : goal.returns-then-state-t
 returns-then-state-t c =

@@ -85,4 +85,5 @@ returns-then-mask-block c = settled (goal.at.returns-then-mask-block c).After-ma
     (fitted (goal.at.returns-then-mask-block c).Else-not-lent_fits) (lt-ltb _ _ c.if-mask-block.true)
 
 pub returns : goal.returns
-returns c = settled (goal.at.returns c).After-mask false (fitted (goal.at.returns c).Else-not-lent_fits) (le-ltb _ _ c.if-mask-block.false)
+returns c = settled (goal.at.returns c).After-mask false
+    (fitted (goal.at.returns c).Else-not-lent_fits) (le-ltb _ _ c.if-mask-block.false)

@@ -30,7 +30,9 @@ late t s r turn fill e =
     (sym (ap₂ ◌||◌ (lt-leb t.depth (turn_of s) turn) (le-ltb (delay_of t) (fill_of s) fill)))
 
 -- the turn's part lies inside, and nothing overflows
-room : (c : goal.Start) → (decoder_words (table c.args.n c.args.span c.args.depth []) ≤ 4162) × (delay_of (table c.args.n c.args.span c.args.depth []) ≤ 4096)
+room : (c : goal.Start)
+    → let t = table c.args.n c.args.span c.args.depth [] in
+    (decoder_words t ≤ 4162) × (delay_of t ≤ 4096)
 room c = fit-room (table c.args.n c.args.span c.args.depth []) c.requires.3 c.requires.5
 
 pub returns-then-depth-turn : goal.returns-then-depth-turn

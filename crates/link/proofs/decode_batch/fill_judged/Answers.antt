@@ -26,7 +26,8 @@ use Rattle.link.proofs.CodeWords.{lent_width, lent_size, first_words, counted_wo
 use Rattle.link.proofs.Room.{terms_room, keep_room, oldest_lt}
 use Rattle.link.proofs.StepWords.{step_words}
 use Rattle.link.proofs.decode_batch.fill_judged.Goals as goal
-use Rattle.link.proofs.decode_batch.fill_judged.Goals.{After-least_by-found, After-terms-x, At-loop-i, Else-declines, In-loop-i, Start}
+use Rattle.link.proofs.decode_batch.fill_judged.Goals.{After-least_by-found, After-terms-x, At-loop-i, Else-declines}
+use Rattle.link.proofs.decode_batch.fill_judged.Goals.{In-loop-i, Start}
 
 -- what owning a slice tells: it has fewer than 2^63 bytes
 taken-bytes : (c : goal.Start) → length c.args.out.now * 4 < 2 ^ 63

@@ -4,7 +4,8 @@ use Prim.Native.Nat.{ℕ, suc, ◌+◌, ◌-◌, ◌≤◌, ◌<◌}
 use native.Mathlib.Decide.{dec_lt, ℕ_discrete}
 use native.Mathlib.Omega.{arith}
 use lib.ListN.{length, get_or, set, take, drop, length-append, length-drop, length-set, get_or-append}
-use lib.Seq.{ext_get_or, length-take-le, get_or-take, get_or-drop, get_or-set_same, get_or-set_other, get_or-append-add, get_or_at}
+use lib.Seq.{ext_get_or, length-take-le, get_or-take, get_or-drop, get_or-set_same, get_or-set_other, get_or-append-add}
+use lib.Seq.{get_or_at}
 use Rattle.link.proofs.Memory.{pushed_none, pushed-some}
 use Rattle.link.proofs.stream.push.Invariants.{Moved}
 use Rattle.link.proofs.stream.push.Goals as goal

@@ -33,7 +33,8 @@ overflow_cast-out-in-loop-i c =
     let n = c.args.n in
     let l = mod-lt c.draw-d.result.number (pow_pos n) in
     let most : 2 ^ n ≤ 2 ^ 16 = pow_mono {i = n} {j = 16} (omega arith) in
-    record { fits = subst (λ (z : ℕ). z < 2 ^ 16) (sym (error (goal.at.overflow_cast-out-in-loop-i c).After-draw-d)) (omega arith) }
+    let e = error (goal.at.overflow_cast-out-in-loop-i c).After-draw-d in
+    record { fits = subst (λ (z : ℕ). z < 2 ^ 16) (sym e) (omega arith) }
 
 pub loop-i-smaller : goal.loop-i-smaller
 loop-i-smaller c = omega arith

@@ -8,7 +8,9 @@ use Rattle.span.proofs.Stored.{Storing}
 use Rattle.load.proofs.fill.fill_errors.Given as goal
 
 abbrev pub invariant-loop-i : goal.invariant-loop-i
-invariant-loop-i l = Storing (errors l.n (length l.initial.out) l.initial.g.state) l.initial.out l.out l.i × (l.g.state ≡ after l.i l.initial.g.state)
+invariant-loop-i l =
+    Storing (errors l.n (length l.initial.out) l.initial.g.state) l.initial.out l.out l.i
+    × (l.g.state ≡ after l.i l.initial.g.state)
 
 abbrev pub decreases-loop-i : goal.decreases-loop-i
 decreases-loop-i l = length l.initial.out - l.i

@@ -35,18 +35,21 @@ headed c =
 pub returns-then-sizes-lt2 : goal.returns-then-sizes-lt2
 returns-then-sizes-lt2 c =
     let a = c.args in
-    opens-short a.memory.now a.sizes.now c.stopped-then-sizes-lt2.result (with-room (goal.at.returns-then-sizes-lt2 c).After-header-end) c.if-sizes-lt2.true (headed (goal.at.returns-then-sizes-lt2 c).After-header-end)
+    let h = (goal.at.returns-then-sizes-lt2 c).After-header-end in
+    opens-short a.memory.now a.sizes.now c.stopped-then-sizes-lt2.result (with-room h) c.if-sizes-lt2.true (headed h)
     c.stopped-then-sizes-lt2.ensures
 
 pub after_header-requires : goal.after_header-requires
 after_header-requires c =
     let a = c.args in
-    let r = room-there (length a.memory.now) (length a.out.now) (with-room (goal.at.after_header-requires c).After-header-end) in
-    (r.0, omega (arith, r.1, (headed (goal.at.after_header-requires c).After-header-end).position, c.header-end.auto.out))
+    let h = (goal.at.after_header-requires c).After-header-end in
+    let r = room-there (length a.memory.now) (length a.out.now) (with-room h) in
+    (r.0, omega (arith, r.1, (headed h).position, c.header-end.auto.out))
 
 pub returns : goal.returns
 returns c =
     let a = c.args in
-    let r = room-there (length a.memory.now) (length a.out.now) (with-room (goal.at.returns c).After-header-end) in
-    opens-sizes a.sizes.now (with-room (goal.at.returns c).After-header-end) c.if-sizes-lt2.false (headed (goal.at.returns c).After-header-end)
+    let h = (goal.at.returns c).After-header-end in
+    let r = room-there (length a.memory.now) (length a.out.now) (with-room h) in
+    opens-sizes a.sizes.now (with-room h) c.if-sizes-lt2.false (headed h)
     c.after_header.ensures (omega (arith, r.1))

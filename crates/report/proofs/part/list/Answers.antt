@@ -53,15 +53,17 @@ remembered c =
 pub returns-then-p : goal.returns-then-p
 returns-then-p c =
     let a = c.args in
-    rw (remembered (goal.at.returns-then-p c).After-answer_line-p) (going_stops a.t a.state.now a.number a.bytes.now a.out.now
-    (known (goal.at.returns-then-p c).Start).1 c.loop-i.invariant (omega arith) (printed (goal.at.returns-then-p c).After-answer_line-p) c.if-p.true)
+    let p = (goal.at.returns-then-p c).After-answer_line-p in
+    rw (remembered p) (going_stops a.t a.state.now a.number a.bytes.now a.out.now
+    (known (goal.at.returns-then-p c).Start).1 c.loop-i.invariant (omega arith) (printed p) c.if-p.true)
 
 pub loop-i-preserved : goal.loop-i-preserved
 loop-i-preserved c =
     let a = c.args in
-    let m = remembered (goal.at.loop-i-preserved c).After-answer_line-p in
+    let p = (goal.at.loop-i-preserved c).After-answer_line-p in
+    let m = remembered p in
     rw m (going_next a.t a.state.now a.number a.bytes.now a.out.now (known (goal.at.loop-i-preserved c).Start).1
-    c.loop-i.invariant (omega arith) (printed (goal.at.loop-i-preserved c).After-answer_line-p) c.if-p.false c.answer_line-p.auto.out
+    c.loop-i.invariant (omega arith) (printed p) c.if-p.false c.answer_line-p.auto.out
     (sym (ap length m) ∙ c.decode-answer.auto.state))
 
 pub returns-then-bytes-eq1 : goal.returns-then-bytes-eq1

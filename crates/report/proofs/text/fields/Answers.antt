@@ -24,7 +24,8 @@ field-after_number-requires c = let a = c.args in omega (arith, digits-64 a.numb
 pub field-after_info-requires : goal.field-after_info-requires
 field-after_info-requires c =
     let f = c.field-after_number in
-    omega (arith, known (goal.at.field-after_info-requires c).Start, f.ensures.position, f.auto.out, field-length c.args.number space)
+    let k = known (goal.at.field-after_info-requires c).Start in
+    omega (arith, k, f.ensures.position, f.auto.out, field-length c.args.number space)
 
 pub word-after_mark-requires : goal.word-after_mark-requires
 word-after_mark-requires c =

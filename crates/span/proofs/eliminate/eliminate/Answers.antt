@@ -1,4 +1,5 @@
-use Rattle.std.proofs.Common.{◌≡◌, ℕ, ◌+◌, ◌^◌, ◌<◌, ◌≤◌, List, length, get_or, take, sym, refl, ap, ◌∙◌, arith, length-take-le, take_all, get_or-take, pow_pos}
+use Rattle.std.proofs.Common.{◌≡◌, ℕ, ◌+◌, ◌^◌, ◌<◌, ◌≤◌, List, length, get_or, take, sym, refl, ap, ◌∙◌, arith}
+use Rattle.std.proofs.Common.{length-take-le, take_all, get_or-take, pow_pos}
 use Rattle.span.specs.Combination.{combination, Below}
 use Rattle.span.specs.Relation.{least_relation, IsLeast}
 use Rattle.span.specs.Basis.{reduction}

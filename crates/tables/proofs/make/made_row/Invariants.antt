@@ -5,7 +5,8 @@ use Rattle.tables.specs.Made.{columns, upper}
 use Rattle.tables.proofs.make.made_row.Given as goal
 
 abbrev pub invariant-loop-i : goal.invariant-loop-i
-invariant-loop-i l = (1 ≤ l.i) × (l.i ≤ l.n) × (l.row ≡ 2 ^ (l.n - l.j) + upper columns l.n l.j (l.i - 1)) × (l.row < 2 ^ (l.n + l.i))
+invariant-loop-i l =
+    (1 ≤ l.i) × (l.i ≤ l.n) × (l.row ≡ 2 ^ (l.n - l.j) + upper columns l.n l.j (l.i - 1)) × (l.row < 2 ^ (l.n + l.i))
 
 abbrev pub decreases-loop-i : goal.decreases-loop-i
 decreases-loop-i l = l.n - l.i

@@ -109,9 +109,10 @@ ended n k z e = eqb-true k 0 (not-false _ (rw z at e))
 pub returns-then-number-ne0 : goal.returns-then-number-ne0
 returns-then-number-ne0 c =
     let bytes = c.args.bytes.now in
-    let n : fault c.loop-number.g (drop c.loop-number.at bytes) ≢ 0 = λ e. c.if-number-ne0.true (c.loop-number.invariant.3 ∙ e) in
-    read_by bytes (refused c.loop-number.number (place c.loop-number.number c.loop-number.at)) c.refusal.result
-    (rw c.loop-number.invariant.3 (reaches-refused bytes c.loop-number.at c.loop-number.g c.loop-number.invariant.2 n)) c.refusal.ensures
+    let l = c.loop-number in
+    let n : fault l.g (drop l.at bytes) ≢ 0 = λ e. c.if-number-ne0.true (l.invariant.3 ∙ e) in
+    read_by bytes (refused l.number (place l.number l.at)) c.refusal.result
+    (rw l.invariant.3 (reaches-refused bytes l.at l.g l.invariant.2 n)) c.refusal.ensures
 
 -- the bytes say the table that the loop has
 says : (c : goal.Else-number-ne0) →

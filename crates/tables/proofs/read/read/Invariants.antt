@@ -9,7 +9,8 @@ use Rattle.tables.proofs.Progress.{Good}
 use Rattle.tables.proofs.read.read.Given as goal
 
 abbrev pub invariant-loop-number : goal.invariant-loop-number
-invariant-loop-number l = (l.at ≤ length l.bytes) × Good l.g × Reaches l.bytes l.at l.g × (l.number ≡ fault l.g (drop l.at l.bytes))
+invariant-loop-number l =
+    (l.at ≤ length l.bytes) × Good l.g × Reaches l.bytes l.at l.g × (l.number ≡ fault l.g (drop l.at l.bytes))
 
 abbrev pub decreases-loop-number : goal.decreases-loop-number
 decreases-loop-number l = length l.bytes - l.at

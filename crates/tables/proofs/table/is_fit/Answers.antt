@@ -104,4 +104,5 @@ returns c =
     below c.loop-i.ones c.mask-most.result a.span (omega arith) ∙ c.loop-i.invariant.1
     ∙ ap (λ (i : ℕ). rows_fit a.span (take i a.rows.now)) done
     ∙ ap (rows_fit a.span) (clamped a.rows.now (a.symbols - 1))
-    ∙ ap (λ (s : Bool). s && rows_fit a.span (take (a.symbols - 1) a.rows.now)) (sym (sizes (goal.at.returns c).Else-not-sizes_fit))
+    ∙ ap (λ (s : Bool). s && rows_fit a.span (take (a.symbols - 1) a.rows.now))
+    (sym (sizes (goal.at.returns c).Else-not-sizes_fit))
