@@ -1,5 +1,5 @@
 # make run         the listing program, proved and built, on the sample of examples/listing
-# make test        the gate: everything proved from nothing, every must-fail edit refused, every other test
+# make test        the gate: everything proved, every must-fail edit refused, every other test
 # make library     the library for C and C++, target/lib/libburst.a and libburst.so; include/burst.h declares it
 # make staticlib   libburst.a alone
 # make tool        the tool burst, target/tool/burst

@@ -3,9 +3,10 @@
 
 usage: python3 tools/respell.py     at the top of the repository, once, after port.py of the kit
 
-tools/respell.tsv has each old name and its new one: words in snake case, statements in camel case. A statement whose new name would be that
-of a type, a variant or a module has Law at its end, and a lemma whose new name would be that of a definition has _lem.
-It turns proof and definition files whole; of a .rt file the ghost use lines, clauses and comments, since names of src/ stay as they are.
+tools/respell.tsv has each old name and its new one: words in snake case, statements in camel case. A statement whose
+new name would be that of a type, a variant or a module has Law at its end, and a lemma whose new name would be that of
+a definition has _lem. It turns proof and definition files whole; of a .rt file the ghost use lines, clauses and
+comments, since names of src/ stay as they are.
 """
 
 import os
