@@ -18,7 +18,7 @@ use borrow.Author.Tests.{lt-ltb, le-ltb}
 use lib.Dec.{leb, ltb, eqb}
 use lib.ListN.{length, get_or, set, take, drop, length-append, length-set, length-drop, get_or-append}
 use lib.Seq.{get_or-set_same, get_or-set_other, length-take-le, get_or-append-add, get_or-take, get_or-drop, get_or_at}
-use Rattle.span.specs.declared.eliminate.Least.{Least}
+use Rattle.std.specs.Prelude.{Option}
 use Rattle.span.specs.Word.{◌⊕◌, odd, bit, digit}
 use Rattle.tables.specs.declared.table.Table.{Table}
 use Rattle.tables.specs.Table.{fit, info_rows}
@@ -337,7 +337,7 @@ pub decoder-length : (t : Table) (s : List ℕ) (r : ℕ) → decoder_fault t s 
 unfolding decoder_next
 decoder-length t s r e = simp length-set (replaced-front t s r (decoder-taken t s r e)).0
 
-pub record Verdict (n N : ℕ) (infos : List ℕ) (s : List ℕ) (r : ℕ) (raw : Bool) (register : ℕ) (error : Least)
+pub record Verdict (n N : ℕ) (infos : List ℕ) (s : List ℕ) (r : ℕ) (raw : Bool) (register : ℕ) (error : Option ℕ)
     : Type 0 where
   pub raw_is : raw ≡ xor (odd (joining infos (pending_in N s) (r % 2 ^ (n - 1)))) (bit (n - 1) r)
   pub register_is : register ≡ register_in n N infos s r

@@ -9,7 +9,7 @@ use mathlib.Core.List.{List}
 use Prim.Native.Nat.{ℕ, suc, ◌+◌, ◌-◌, ◌*◌, ◌%◌, ◌^◌, ◌≤◌, ◌<◌}
 use native.Mathlib.Omega.{arith}
 use lib.ListN.{length, get_or}
-use Rattle.span.specs.declared.eliminate.Least.{Least}
+use Rattle.std.specs.Prelude.{Option}
 use Rattle.span.specs.Word.{◌⊕◌, odd, bit}
 use Rattle.span.proofs.Word.{xor-swap-bool}
 use Rattle.span.proofs.Combination.{combination-lt}
@@ -40,7 +40,7 @@ module _ {n N m : ℕ} {infos : List ℕ} (size : length infos ≤ n - 1) where
 
   pub raws_differ : {S S' : ℕ → List ℕ} {R R' : ℕ → ℕ} {A A' : ℕ → DecodeAnswer} {count count' : ℕ}
       (l : DecoderRun n N m infos S R A count) (l' : DecoderRun n N m infos S' R' A' count') → S 0 ≡ S' 0
-      → (raw raw' : ℕ → Bool) (register register' : ℕ → ℕ) (error error' : ℕ → Least)
+      → (raw raw' : ℕ → Bool) (register register' : ℕ → ℕ) (error error' : ℕ → Option ℕ)
       → ((p : ℕ) → p < count → Verdict n N infos (S p) (R p) (raw p) (register p) (error p))
       → ((p : ℕ) → p < count' → Verdict n N infos (S' p) (R' p) (raw' p) (register' p) (error' p))
       → (r b : ℕ) → r < m → r + b * m < count → r + b * m < count'

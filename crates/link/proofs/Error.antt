@@ -17,8 +17,8 @@ use lib.Dec.{eqb}
 use lib.ListN.{length, take, length-append}
 use lib.Pow.{pow_pos, pow_mono}
 use lib.Seq.{take_all}
-use Rattle.span.specs.declared.eliminate.Least.{Least}
-use Rattle.span.specs.declared.eliminate.Least.TheVariants.{Found, Missing}
+use Rattle.std.specs.Prelude.{Option}
+use Rattle.std.specs.Prelude.{Some, None}
 use Rattle.span.specs.Word.{odd}
 use Rattle.span.specs.Combination.{combination, counted}
 use Rattle.span.specs.Relation.{least_relation, least_coefficients, raised, IsLeast}
@@ -39,34 +39,34 @@ ended rows words n x size few e =
     ∙ ap (least_relation (rows ++ (x ∷ []))) (sym size) ∙ least-raised rows x
     ∙ ap (λ (k : ℕ). raised k (least_coefficients rows x)) size
 
-raised-found : (k c : ℕ) (f : Least) → raised k f ≡ Found c → (2 ^ k ≤ c) × (f ≡ Found (c - 2 ^ k))
-raised-found k c (Found d) e =
+raised-found : (k c : ℕ) (f : Option ℕ) → raised k f ≡ Some c → (2 ^ k ≤ c) × (f ≡ Some (c - 2 ^ k))
+raised-found k c (Some d) e =
     let same : 2 ^ k + d ≡ c = cc in
     let rest : d ≡ c - 2 ^ k = omega arith in
-    (omega arith, ap Found rest)
-raised-found k c Missing e = let z : ◌≡◌ {A = ℕ} 0 1 = cc in absurd (omega arith)
+    (omega arith, ap Some rest)
+raised-found k c None e = let z : ◌≡◌ {A = ℕ} 0 1 = cc in absurd (omega arith)
 
-raised-missing : (k : ℕ) (f : Least) → raised k f ≡ Missing → f ≡ Missing
-raised-missing k (Found d) e = let z : ◌≡◌ {A = ℕ} 0 1 = cc in absurd (omega arith)
-raised-missing k Missing e = refl
+raised-missing : (k : ℕ) (f : Option ℕ) → raised k f ≡ None → f ≡ None
+raised-missing k (Some d) e = let z : ◌≡◌ {A = ℕ} 0 1 = cc in absurd (omega arith)
+raised-missing k None e = refl
 
 module _ (rows words : List ℕ) (n x : ℕ) (size : length rows ≡ n) (few : n ≤ 16)
     (e : take (n + 1) words ≡ rows ++ (x ∷ [])) where
-  pub error_found : (c : ℕ) → least_relation (counted (n + 1) words) n ≡ Found c
-      → (2 ^ n ≤ c) × (least_coefficients rows x ≡ Found (c - 2 ^ n))
+  pub error_found : (c : ℕ) → least_relation (counted (n + 1) words) n ≡ Some c
+      → (2 ^ n ≤ c) × (least_coefficients rows x ≡ Some (c - 2 ^ n))
   error_found c h = raised-found n c (least_coefficients rows x) (sym (ended rows words n x size few e) ∙ h)
 
-  pub error_missing : least_relation (counted (n + 1) words) n ≡ Missing → least_coefficients rows x ≡ Missing
+  pub error_missing : least_relation (counted (n + 1) words) n ≡ None → least_coefficients rows x ≡ None
   error_missing h = raised-missing n (least_coefficients rows x) (sym (ended rows words n x size few e) ∙ h)
 
-pub zero-found : (rows : List ℕ) → least_coefficients rows 0 ≡ Found 0
+pub zero-found : (rows : List ℕ) → least_coefficients rows 0 ≡ Some 0
 zero-found rows =
-    least-unique (λ (c : ℕ). combination rows c ≡ 0) 0 (2 ^ length rows) (least_coefficients rows 0) (Found 0)
+    least-unique (λ (c : ℕ). combination rows c ≡ 0) 0 (2 ^ length rows) (least_coefficients rows 0) (Some 0)
     (least-coefficients rows 0)
     (zero-le, pow_pos (length rows), combination-zero rows, λ d a b q. zero-le)
 
-module _ (rows : List ℕ) (x e : ℕ) (h : least_coefficients rows x ≡ Found e) where
-  is-least : IsLeast (λ (c : ℕ). combination rows c ≡ x) 0 (2 ^ length rows) (Found e)
+module _ (rows : List ℕ) (x e : ℕ) (h : least_coefficients rows x ≡ Some e) where
+  is-least : IsLeast (λ (c : ℕ). combination rows c ≡ x) 0 (2 ^ length rows) (Some e)
   is-least = subst (IsLeast (λ (c : ℕ). combination rows c ≡ x) 0 (2 ^ length rows)) h (least-coefficients rows x)
 
   pub found_lt : e < 2 ^ length rows
@@ -79,12 +79,12 @@ module _ (rows : List ℕ) (x e : ℕ) (h : least_coefficients rows x ≡ Found 
 pub error_lt : (rows : List ℕ) (x : ℕ) → length rows ≤ 16 → error_of (least_coefficients rows x) < 2 ^ 16
 error_lt rows x h = go (least_coefficients rows x) refl
   where
-    go : (f : Least) → least_coefficients rows x ≡ f → error_of f < 2 ^ 16
-    go (Found e) q =
+    go : (f : Option ℕ) → least_coefficients rows x ≡ f → error_of f < 2 ^ 16
+    go (Some e) q =
         let l = found_lt rows x e q in
         let m = pow_mono h in
         omega arith
-    go Missing q = omega arith
+    go None q = omega arith
 
 -- ---- the mark of an error block that was found
 
@@ -104,25 +104,25 @@ module _ (weight e : ℕ) where
 
 -- ---- error, word that stays, and mark
 
-abbrev VerdictOf : ℕ → Least → ℕ → ℕ → ℕ → Mark → Type 0
+abbrev VerdictOf : ℕ → Option ℕ → ℕ → ℕ → ℕ → Mark → Type 0
 VerdictOf weight f x error kept mark = (error ≡ error_of f) × ((kept ≡ kept_of f x) × (mark ≡ mark_of weight f x))
 
-pub verdict-found : (weight : ℕ) (f : Least) (x e : ℕ) (mark : Mark) → f ≡ Found e → mark ≡ mark_found weight e
+pub verdict-found : (weight : ℕ) (f : Option ℕ) (x e : ℕ) (mark : Mark) → f ≡ Some e → mark ≡ mark_found weight e
     → VerdictOf weight f x e 0 mark
 verdict-found weight f x e mark h is =
-    subst (λ (g : Least). VerdictOf weight g x e 0 mark) (sym h) (refl, (refl, is))
+    subst (λ (g : Option ℕ). VerdictOf weight g x e 0 mark) (sym h) (refl, (refl, is))
 
 missing-mark : Bool → Mark
 missing-mark b = cond b Doubtful Held
 
-pub verdict-doubtful : (weight : ℕ) (f : Least) (x : ℕ) → f ≡ Missing → odd x ≡ true
+pub verdict-doubtful : (weight : ℕ) (f : Option ℕ) (x : ℕ) → f ≡ None → odd x ≡ true
     → VerdictOf weight f x 0 (x / 2) Doubtful
 unfolding missing-mark
 verdict-doubtful weight f x e o =
-    subst (λ (g : Least). VerdictOf weight g x 0 (x / 2) Doubtful) (sym e) (refl, (refl, ap missing-mark (sym o)))
+    subst (λ (g : Option ℕ). VerdictOf weight g x 0 (x / 2) Doubtful) (sym e) (refl, (refl, ap missing-mark (sym o)))
 
-pub verdict-held : (weight : ℕ) (f : Least) (x : ℕ) → f ≡ Missing → odd x ≡ false
+pub verdict-held : (weight : ℕ) (f : Option ℕ) (x : ℕ) → f ≡ None → odd x ≡ false
     → VerdictOf weight f x 0 (x / 2) Held
 unfolding missing-mark
 verdict-held weight f x e o =
-    subst (λ (g : Least). VerdictOf weight g x 0 (x / 2) Held) (sym e) (refl, (refl, ap missing-mark (sym o)))
+    subst (λ (g : Option ℕ). VerdictOf weight g x 0 (x / 2) Held) (sym e) (refl, (refl, ap missing-mark (sym o)))

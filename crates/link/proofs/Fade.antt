@@ -20,8 +20,8 @@ use native.Mathlib.Nat.{mul_assoc, le-div_iff_mul-le, eq-zero-or-pos}
 use native.Mathlib.Omega.{arith}
 use lib.ListN.{length, get_or}
 use lib.Pow.{pow_pos}
-use Rattle.span.specs.declared.eliminate.Least.{Least}
-use Rattle.span.specs.declared.eliminate.Least.TheVariants.{Found}
+use Rattle.std.specs.Prelude.{Option}
+use Rattle.std.specs.Prelude.{Some}
 use Rattle.span.specs.Word.{◌⊕◌, odd, digit}
 use Rattle.span.specs.Combination.{combination}
 use Rattle.span.proofs.Word.{xor_zero_r, xor_lt, xor_mod, xor_self, xor-twice}
@@ -228,18 +228,18 @@ module _ {n N m : ℕ} {infos : List ℕ} {S M : ℕ → List ℕ} {R B C : ℕ 
     ends : ((reg p ≡ 0) ⊎ (0 < reg p))
         → (error_of (found rows (reg p)) % 2 ^ (n - 1) ≡ 0) × ((mark p ≡ Clean) ⊎ (mark p ≡ Parity weight))
     ends (inl z) =
-        let f : found rows (reg p) ≡ Found 0 = ap (found rows) z ∙ zero-found rows in (
-          ap (λ (g : Least). error_of g % 2 ^ (n - 1)) f ∙ zero-mod (2 ^ (n - 1)),
-          inl (ap (λ (g : Least). mark_of weight g (reg p)) f),
+        let f : found rows (reg p) ≡ Some 0 = ap (found rows) z ∙ zero-found rows in (
+          ap (λ (g : Option ℕ). error_of g % 2 ^ (n - 1)) f ∙ zero-mod (2 ^ (n - 1)),
+          inl (ap (λ (g : Option ℕ). mark_of weight g (reg p)) f),
         )
     ends (inr z) =
         let low = register-low in
         let one : reg p ≡ 1 = omega arith in
-        let f : found rows (reg p) ≡ Found weight =
+        let f : found rows (reg p) ≡ Some weight =
         ap (found rows) (one ∙ sym (parity_image n l.n_from infos l.size))
         ∙ l.code.image_found weight (parity_lt n l.n_from) in (
-          ap (λ (g : Least). error_of g % 2 ^ (n - 1)) f ∙ parity_none n,
-          inr (ap (λ (g : Least). mark_of weight g (reg p)) f
+          ap (λ (g : Option ℕ). error_of g % 2 ^ (n - 1)) f ∙ parity_none n,
+          inr (ap (λ (g : Option ℕ). mark_of weight g (reg p)) f
               ∙ sym (mark_parity weight weight (λ (e : weight ≡ 0). omega (arith, pow_pos (n - 1))) refl)),
         )
 

@@ -18,8 +18,8 @@ use native.Mathlib.Omega.{arith}
 use lib.Dec.{leb}
 use lib.ListN.{length, get_or, length-append, length-take}
 use lib.Seq.{length-take-le}
-use Rattle.span.specs.declared.eliminate.Least.{Least}
-use Rattle.span.specs.declared.eliminate.Least.TheVariants.{Found, Missing}
+use Rattle.std.specs.Prelude.{Option}
+use Rattle.std.specs.Prelude.{Some, None}
 use Rattle.span.specs.Word.{◌⊕◌, odd, bit, digit}
 use Rattle.span.specs.Combination.{combination}
 use Rattle.span.proofs.Word.{xor-false-r}
@@ -162,7 +162,7 @@ module _ {n N m : ℕ} {infos : List ℕ} {S : ℕ → List ℕ} {R : ℕ → �
       let p = place-next m r k in
       ap (λ (q : ℕ). pending_in N (S q)) p ∙ pending_again l (r + k * m) (omega arith)
 
-  module _ (raw : ℕ → Bool) (register : ℕ → ℕ) (error : ℕ → Least)
+  module _ (raw : ℕ → Bool) (register : ℕ → ℕ) (error : ℕ → Option ℕ)
       (judges : (p : ℕ) → p < count → Verdict n N infos (S p) (R p) (raw p) (register p) (error p))
       (zeros : (i : ℕ) → get_or (S 0) i 0 ≡ 0) where
     judged : (k : ℕ) → k ≤ b
@@ -221,16 +221,16 @@ module _ {n N m : ℕ} {infos : List ℕ} {S : ℕ → List ℕ} {R : ℕ → �
         let v = judged k h in
         v.register_is ∙ ap (λ (s : Bool). syndrome k + digit s * 2 ^ (N - 1)) (sym v.raw_is)
 
-    cleared : (c : ℕ) → c ≤ b → (c ≡ 0) ⊎ ((e : ℕ) × (stream m r error (c - 1) ≡ Found e)) → syndrome c ≡ 0
+    cleared : (c : ℕ) → c ≤ b → (c ≡ 0) ⊎ ((e : ℕ) × (stream m r error (c - 1) ≡ Some e)) → syndrome c ≡ 0
     cleared zero h z = syndrome-start
     cleared (suc c) h (inl z) = absurd (omega arith)
     cleared (suc c) h (inr (e, is)) =
         syndrome_on c h
-        ∙ ap (λ (f : Least). kept_of f (stream m r register c))
+        ∙ ap (λ (f : Option ℕ). kept_of f (stream m r register c))
         (ap (stream m r error) (let p : c ≡ suc c - 1 = omega arith in p) ∙ is)
 
-    pub decoder_register_lem : (c : ℕ) → c ≤ b → (c ≡ 0) ⊎ ((e : ℕ) × (stream m r error (c - 1) ≡ Found e))
-        → ((d : ℕ) → c ≤ d → d < b → stream m r error d ≡ Missing)
+    pub decoder_register_lem : (c : ℕ) → c ≤ b → (c ≡ 0) ⊎ ((e : ℕ) × (stream m r error (c - 1) ≡ Some e))
+        → ((d : ℕ) → c ≤ d → d < b → stream m r error d ≡ None)
         → (stream m r register b < 2 ^ N)
         × ((k : ℕ) → k < N
         → bit (N - 1 - k) (stream m r register b) ≡ cond (leb (c + k) b) (stream m r raw (b - k)) false)
@@ -238,7 +238,7 @@ module _ {n N m : ℕ} {infos : List ℕ} {S : ℕ → List ℕ} {R : ℕ → �
         let N_from = (l.decodes (r + b * m) inside).fits.N_from in
         let w = N - 1 in
         let halves : (d : ℕ) → c ≤ d → d < b → syndrome (suc d) ≡ stream m r register d / 2 =
-        (λ d f h. syndrome_on d h ∙ ap (λ (f : Least). kept_of f (stream m r register d)) (none d f h)) in (
+        (λ d f h. syndrome_on d h ∙ ap (λ (f : Option ℕ). kept_of f (stream m r register d)) (none d f h)) in (
           subst (λ (k : ℕ). stream m r register b < 2 ^ k) (let e : suc (N - 1) ≡ N = omega arith in e)
               (register_lt w syndrome (stream m r register) (stream m r raw) c b (cleared c from clear)
               (λ d f h. register-joins d h) halves from),
@@ -252,7 +252,7 @@ module _ {n N m : ℕ} {infos : List ℕ} {S : ℕ → List ℕ} {R : ℕ → �
 
 module _ {n N m : ℕ} {infos : List ℕ} {S : ℕ → List ℕ} {R : ℕ → ℕ} {A : ℕ → DecodeAnswer} {count : ℕ}
     (l : DecoderRun n N m infos S R A count)
-    (raw : ℕ → Bool) (register : ℕ → ℕ) (error : ℕ → Least)
+    (raw : ℕ → Bool) (register : ℕ → ℕ) (error : ℕ → Option ℕ)
     (judges : (p : ℕ) → p < count → Verdict n N infos (S p) (R p) (raw p) (register p) (error p)) where
   pub decoder_delivers : (p q : ℕ) → p < count → q + m * (N - 1) ≡ p
       → A p ≡ Delivery (record {
@@ -262,7 +262,7 @@ module _ {n N m : ℕ} {infos : List ℕ} {S : ℕ → List ℕ} {R : ℕ → �
   decoder_delivers p q h e =
       let v = judges p h in
       (l.decodes p h).answers (fill_complete l p h (omega arith))
-      ∙ ap₂ (λ (f : Least) (x : ℕ).
+      ∙ ap₂ (λ (f : Option ℕ) (x : ℕ).
       Delivery (record { info = delayed_in N (S p) 0 ⊕ error_of f % 2 ^ (n - 1); mark = mark_of (2 ^ (n - 1)) f x }))
       (sym v.found_is) (sym v.register_is)
       ∙ ap (λ (x : ℕ). Delivery (record {
@@ -355,7 +355,7 @@ errors_found t s ds tables p inside =
     let x = register_at s ds p in
     let v = verdict t s ds tables p inside in
     subst
-    (λ (f : Least). ((e : ℕ) → (f ≡ Found e) ↔ LeastError rows x e) × ((f ≡ Missing) ↔ NoError rows x))
+    (λ (f : Option ℕ). ((e : ℕ) → (f ≡ Some e) ↔ LeastError rows x e) × ((f ≡ None) ↔ NoError rows x))
     (sym (v.found_is ∙ ap (found rows) (sym v.register_is))) (found_told rows x)
 
 pub deliveries : DeliveryLaw

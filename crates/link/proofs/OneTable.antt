@@ -13,8 +13,8 @@ use mathlib.Core.List.{List}
 use Prim.Native.Nat.{ℕ, suc, ◌-◌, ◌<◌}
 use native.Mathlib.Omega.{arith}
 use lib.ListN.{length, get_or, take}
-use Rattle.span.specs.declared.eliminate.Least.{Least}
-use Rattle.span.specs.declared.eliminate.Least.TheVariants.{Missing}
+use Rattle.std.specs.Prelude.{Option}
+use Rattle.std.specs.Prelude.{None}
 use Rattle.tables.specs.declared.table.Table.{Table}
 use Rattle.tables.specs.Table.{SameTable}
 use Rattle.tables.specs.Table.{info_rows}
@@ -75,7 +75,7 @@ record StepFacts : Type 0 where
   of : Taken
   raw : Bool
   register : ℕ
-  error : Least
+  error : Option ℕ
 
 module _ (t : Table) (s : List ℕ) (ds : List Call) (tables : DecoderTables t s ds) where
   taken_is : (p : ℕ) (h : p < length (taken_by s ds))
@@ -106,7 +106,7 @@ module _ (t : Table) (s : List ℕ) (ds : List Call) (tables : DecoderTables t s
       let register_is : register_at s ds p ≡ decoder_register u M r =
       e.is (placed decoder_fault decoder_register) decoder_register (decoder-placed decoder_register) 0 in
       let found_is : found_at s ds p ≡ decoder_found u M r =
-      e.is (placed decoder_fault decoder_found) decoder_found (decoder-placed decoder_found) Missing in
+      e.is (placed decoder_fault decoder_found) decoder_found (decoder-placed decoder_found) None in
       let known : StepFacts = record {
         of = taken_at (taken_by s ds) (suc p);
         raw = raw_at s ds p;

@@ -19,8 +19,8 @@ use native.Mathlib.Nat.{add-zero, zero-mul, div-one, mod-one, zero-mod, zero-div
 use native.Mathlib.Decide.{dec_lt}
 use native.Mathlib.Omega.{arith}
 use lib.Pow.{pow_pos}
-use Rattle.span.specs.declared.eliminate.Least.{Least}
-use Rattle.span.specs.declared.eliminate.Least.TheVariants.{Found, Missing}
+use Rattle.std.specs.Prelude.{Option}
+use Rattle.std.specs.Prelude.{Some, None}
 use Rattle.span.specs.Word.{◌⊕◌, odd, digit}
 use Rattle.span.specs.Combination.{combination}
 use Rattle.span.proofs.Word.{xor_zero_l, xor_zero_r, odd-of}
@@ -48,9 +48,9 @@ pub joint-right : (rows : List ℕ) (D e : ℕ → ℕ) (k : ℕ) → e k ≡ 0 
 joint-right rows D e k h =
     ap (λ (x : ℕ). D k ⊕ combination rows x) h ∙ ap (λ (x : ℕ). D k ⊕ x) (combination-zero rows) ∙ xor_zero_r (D k)
 
-pub kept-lt : (f : Least) (x j : ℕ) → x < 2 ^ suc j → kept_of f x < 2 ^ j
-kept-lt (Found e) x j h = pow_pos j
-kept-lt Missing x j h = omega arith
+pub kept-lt : (f : Option ℕ) (x j : ℕ) → x < 2 ^ suc j → kept_of f x < 2 ^ j
+kept-lt (Some e) x j h = pow_pos j
+kept-lt None x j h = omega arith
 
 -- ---- the guard: the first `quiet` blocks are right
 

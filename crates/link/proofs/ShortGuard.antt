@@ -21,8 +21,8 @@ use borrow.Author.Tests.{eq-eqb, ne_eqb}
 use lib.Bits.{shifted_half, shifted_even}
 use lib.Dec.{eqb}
 use lib.ListN.{length}
-use Rattle.span.specs.declared.eliminate.Least.{Least}
-use Rattle.span.specs.declared.eliminate.Least.TheVariants.{Found, Missing}
+use Rattle.std.specs.Prelude.{Option}
+use Rattle.std.specs.Prelude.{Some, None}
 use Rattle.span.specs.Word.{◌⊕◌, odd, digit, shifted}
 use Rattle.span.specs.Combination.{combination}
 use Rattle.span.proofs.Word.{xor_zero_l, odd-mod, shifted-mod}
@@ -179,17 +179,17 @@ module _ (n w : ℕ) (infos : List ℕ) (from : 2 ≤ n) (size : length infos �
     second-joint : D (suc q) ≡ image q / 2
     second-joint = S.joint_next q (omega arith) (omega arith) ∙ ap (λ (x : ℕ). x / 2) first-joint
 
-    found-next : (k x : ℕ) → suc k < count → found rows (reg k) ≡ Found x → s (suc k) ≡ 0
-    found-next k x h f = S.syndrome_next k (omega arith) h ∙ ap (λ (g : Least). kept_of g (reg k)) f
+    found-next : (k x : ℕ) → suc k < count → found rows (reg k) ≡ Some x → s (suc k) ≡ 0
+    found-next k x h f = S.syndrome_next k (omega arith) h ∙ ap (λ (g : Option ℕ). kept_of g (reg k)) f
 
     -- a register is halved, its raw term then below the top
-    missing-next : (k v : ℕ) → suc k < count → joint rows D e k ≡ v → found rows (reg k) ≡ Missing
+    missing-next : (k v : ℕ) → suc k < count → joint rows D e k ≡ v → found rows (reg k) ≡ None
         → s (suc k) ≡ s k / 2 + v % 2 * 2 ^ (w - 1)
     missing-next k v h is f =
         let top : w ≡ suc (w - 1) = omega arith in
         let even = ap (λ (i : ℕ). digit (odd v) * 2 ^ i % 2) top ∙ shifted_even (digit (odd v)) (w - 1) in
         let half = ap (λ (i : ℕ). digit (odd v) * 2 ^ i / 2) top ∙ shifted_half (digit (odd v)) (w - 1) in
-        S.syndrome_next k (omega arith) h ∙ ap (λ (g : Least). kept_of g (reg k)) f
+        S.syndrome_next k (omega arith) h ∙ ap (λ (g : Option ℕ). kept_of g (reg k)) f
         ∙ ap (λ (x : ℕ). (s k + digit (odd x) * 2 ^ w) / 2) is
         ∙ (let z : (s k + digit (odd v) * 2 ^ w) / 2 ≡ s k / 2 + digit (odd v) * 2 ^ (w - 1) = omega arith in z)
         ∙ ap (λ (x : ℕ). s k / 2 + x * 2 ^ (w - 1)) (sym (odd-mod v))
@@ -198,7 +198,7 @@ module _ (n w : ℕ) (infos : List ℕ) (from : 2 ≤ n) (size : length infos �
     before_first i h = right i h (omega arith)
 
     -- nothing was found at block q, which is right
-    module _ (zero-first : e q ≡ 0) (nothing : found rows (reg q) ≡ Missing) where
+    module _ (zero-first : e q ≡ 0) (nothing : found rows (reg q) ≡ None) where
       none-image : image q ≡ 0
       none-image = ap (combination rows) zero-first ∙ combination-zero rows
 
@@ -222,10 +222,10 @@ module _ (n w : ℕ) (infos : List ℕ) (from : 2 ≤ n) (size : length infos �
           let none = zero-mul (2 ^ (w - 1)) in
           omega arith
 
-      after-second : (f : Least) → found rows (reg (suc q)) ≡ f → Rejoined
-      after-second (Found x) h =
+      after-second : (f : Option ℕ) → found rows (reg (suc q)) ≡ f → Rejoined
+      after-second (Some x) h =
           rejoined-cleared (suc q) (omega arith) none-second before-second (found-next (suc q) x (omega arith) h)
-      after-second Missing h =
+      after-second None h =
           rejoined-same (suc q) 0 (w - 1) (omega arith) (omega arith)
           (S.joint_next (suc q) (omega arith) (omega arith) ∙ ap (λ (x : ℕ). x / 2) alone-joint)
           (let low = low_second in
@@ -234,7 +234,7 @@ module _ (n w : ℕ) (infos : List ℕ) (from : 2 ≤ n) (size : length infos �
           (λ i b ne. before-second i (omega arith))
 
     -- nothing was found at block q, and block q + 1 is right
-    module _ (zero-second : e (suc q) ≡ 0) (nothing : found rows (reg q) ≡ Missing) where
+    module _ (zero-second : e (suc q) ≡ 0) (nothing : found rows (reg q) ≡ None) where
       -- the image's two low bits, at the top
       abbrev raw : ℕ
       raw = image q % 4 * 2 ^ (w - 1)
@@ -263,7 +263,7 @@ module _ (n w : ℕ) (infos : List ℕ) (from : 2 ≤ n) (size : length infos �
           )
 
       -- were the register an image, the two bits would be 0
-      raw-found : (x : ℕ) → found rows (reg (suc q)) ≡ Found x → raw ≡ 0
+      raw-found : (x : ℕ) → found rows (reg (suc q)) ≡ Some x → raw ≡ 0
       raw-found x h =
           let low = low_first in
           let even = raw-half.0 in
@@ -275,12 +275,12 @@ module _ (n w : ℕ) (infos : List ℕ) (from : 2 ≤ n) (size : length infos �
           ∙ shifted_none code (w - 1) (e q) (evened n rows x) (omega arith) (omega arith) (S.error_lt q (omega arith))
           (evened-lt n from rows x small) (evened_image n from infos size x ∙ cut ∙ raw-shifted)
 
-      next-raw : (f : Least) → found rows (reg (suc q)) ≡ f → s (suc (suc q)) ≡ raw / 2
-      next-raw (Found x) h = found-next (suc q) x (omega arith) h ∙ sym (ap (λ (y : ℕ). y / 2) (raw-found x h))
-      next-raw Missing h =
+      next-raw : (f : Option ℕ) → found rows (reg (suc q)) ≡ f → s (suc (suc q)) ≡ raw / 2
+      next-raw (Some x) h = found-next (suc q) x (omega arith) h ∙ sym (ap (λ (y : ℕ). y / 2) (raw-found x h))
+      next-raw None h =
           let low = low_first in
           let even = raw-half.0 in
-          S.syndrome_next (suc q) (omega arith) (omega arith) ∙ ap (λ (g : Least). kept_of g (reg (suc q))) h
+          S.syndrome_next (suc q) (omega arith) (omega arith) ∙ ap (λ (g : Option ℕ). kept_of g (reg (suc q))) h
           ∙ ap (λ (y : ℕ). y / 2) register-second ∙ omega arith
 
       after_both : Rejoined
@@ -294,10 +294,10 @@ module _ (n w : ℕ) (infos : List ℕ) (from : 2 ≤ n) (size : length infos �
           others i b ne (inl z) = ap e (let same : i ≡ suc q = omega arith in same) ∙ zero-second
           others i b ne (inr z) = before_first i (omega arith)
 
-    rejoined : (f : Least) → found rows (reg q) ≡ f → ((e (suc q) ≡ 0) ⊎ (0 < e (suc q))) → Rejoined
-    rejoined (Found x) h z = rejoined-cleared q (omega arith) none_first before_first (found-next q x (omega arith) h)
-    rejoined Missing h (inl z) = after_both z h
-    rejoined Missing h (inr z) =
+    rejoined : (f : Option ℕ) → found rows (reg q) ≡ f → ((e (suc q) ≡ 0) ⊎ (0 < e (suc q))) → Rejoined
+    rejoined (Some x) h z = rejoined-cleared q (omega arith) none_first before_first (found-next q x (omega arith) h)
+    rejoined None h (inl z) = after_both z h
+    rejoined None h (inr z) =
         after-second (alone (apart q 1 (omega arith) (omega arith) (omega arith))) h (found rows (reg (suc q))) refl
       where
         alone : (e q ≡ 0) ⊎ (e (q + 1) ≡ 0) → e q ≡ 0

@@ -14,8 +14,8 @@ use lib.Bits.{shifted_half, shifted_even}
 use lib.Dec.{eqb}
 use lib.ListN.{length}
 use lib.Pow.{pow-add, high, low, mod-pow-add, shr-shr}
-use Rattle.span.specs.declared.eliminate.Least.{Least}
-use Rattle.span.specs.declared.eliminate.Least.TheVariants.{Found, Missing}
+use Rattle.std.specs.Prelude.{Option}
+use Rattle.std.specs.Prelude.{Some, None}
 use Rattle.span.specs.Word.{◌⊕◌, odd, bit, sel, digit, shifted}
 use Rattle.span.specs.Combination.{combination}
 use Rattle.span.specs.Relation.{least_coefficients}
@@ -105,11 +105,11 @@ module _ (infos : List ℕ) (ν : ℕ) (size : length infos ≡ ν) where
 -- ---- what a step finds
 
 -- the mark is not doubtful, whichever error block the parity symbol is
-abbrev pub NotDoubtful : Least → ℕ → Type 0
+abbrev pub NotDoubtful : Option ℕ → ℕ → Type 0
 NotDoubtful f x = (weight : ℕ) → mark_of weight f x ≢ Doubtful
 
 -- a step removes the error, keeps that word, and is sure
-pub record Outcome (f : Least) (x error kept : ℕ) : Type 0 where
+pub record Outcome (f : Option ℕ) (x error kept : ℕ) : Type 0 where
   pub error_is : error_of f ≡ error
   pub kept_is : kept_of f x ≡ kept
   pub sure : NotDoubtful f x
@@ -123,14 +123,14 @@ mark-missing : (s : Bool) → s ≡ false → cond s Doubtful Held ≢ Doubtful
 mark-missing true e h = let z : ◌≡◌ {A = ℕ} 0 1 = cc in omega arith
 mark-missing false e h = let z : ◌≡◌ {A = ℕ} 0 1 = cc in omega arith
 
-outcome-found : (f : Least) (x e : ℕ) → f ≡ Found e → Outcome f x e 0
+outcome-found : (f : Option ℕ) (x e : ℕ) → f ≡ Some e → Outcome f x e 0
 outcome-found f x e q =
-    subst (λ (g : Least). Outcome g x e 0) (sym q)
+    subst (λ (g : Option ℕ). Outcome g x e 0) (sym q)
     (record { error_is = refl; kept_is = refl; sure = λ weight. mark-found (eqb e 0) (eqb e weight) e })
 
-outcome-missing : (f : Least) (x : ℕ) → f ≡ Missing → odd x ≡ false → Outcome f x 0 (x / 2)
+outcome-missing : (f : Option ℕ) (x : ℕ) → f ≡ None → odd x ≡ false → Outcome f x 0 (x / 2)
 outcome-missing f x q even =
-    subst (λ (g : Least). Outcome g x 0 (x / 2)) (sym q)
+    subst (λ (g : Option ℕ). Outcome g x 0 (x / 2)) (sym q)
     (record { error_is = refl; kept_is = refl; sure = λ weight. mark-missing (odd x) even })
 
 module _ (n w : ℕ) (rows : List ℕ) (code : Corrects n w rows) where
@@ -202,8 +202,8 @@ module _ (n w : ℕ) (rows : List ℕ) (code : Corrects n w rows) where
       on : v / 2 ≡ y / 2 ^ suc a
       on = ap (λ (z : ℕ). z / 2) rest ∙ shr-shr y a 1 ∙ ap (λ (k : ℕ). y / 2 ^ k) (add-one a)
 
-      go : ((shifted (suc w) (suc l) y ≡ 0) × (least_coefficients rows (shifted (suc w) (suc l) y) ≡ Found 0))
-          ⊎ (least_coefficients rows (shifted (suc w) (suc l) y) ≡ Missing)
+      go : ((shifted (suc w) (suc l) y ≡ 0) × (least_coefficients rows (shifted (suc w) (suc l) y) ≡ Some 0))
+          ⊎ (least_coefficients rows (shifted (suc w) (suc l) y) ≡ None)
           → Outcome (least_coefficients rows reg) reg 0 (y % 2 ^ suc a * 2 ^ l)
       go (inl z) =
           let none : y % 2 ^ suc a * 2 ^ l ≡ 0 = sym half ∙ ap (λ (u : ℕ). u / 2) (same ∙ z.0) in

@@ -13,7 +13,7 @@ use Prim.Native.Nat.{ℕ, ◌+◌, ◌-◌, ◌/◌, ◌^◌, ◌≤◌}
 use lib.Dec.{ltb}
 use lib.ListN.{length}
 use lib.Seq.{length-take-le}
-use Rattle.span.specs.declared.eliminate.Least.{Least}
+use Rattle.std.specs.Prelude.{Option}
 use Rattle.span.specs.Word.{◌⊕◌, odd, sel}
 use Rattle.span.specs.Combination.{combination}
 use Rattle.tables.specs.declared.table.Table.{Table}
@@ -48,7 +48,7 @@ module _ (t : Table) (s : List ℕ) (r w : ℕ) (room : t.symbols - 1 ≤ length
       ∙ ap (λ (y : ℕ). syndrome_of t s (turn_of s) + y) (sel-digit (raw_term (decoder_joining t s r) t.symbols r)
       (2 ^ (t.span - 1)))
 
-  module _ (x : ℕ) (is : x ≡ decoder_register t s r) (f : Least) (g : f ≡ found (rows_of t) x) where
+  module _ (x : ℕ) (is : x ≡ decoder_register t s r) (f : Option ℕ) (g : f ≡ found (rows_of t) x) where
     pub found_is : f ≡ decoder_found t s r
     unfolding decoder_found decoder_register
     found_is = g ∙ ap (found (rows_of t)) is
@@ -63,14 +63,14 @@ module _ (t : Table) (s : List ℕ) (r w : ℕ) (room : t.symbols - 1 ≤ length
     pub info_is : delayed_of t s (turn_of s) 0 ⊕ information t.symbols (error_of f) ≡ (delivered t s r).info
     unfolding delivered decoder_found
     info_is =
-        ap (λ (l : Least). delayed_of t s (turn_of s) 0 ⊕ information t.symbols (error_of l)) found_is
+        ap (λ (l : Option ℕ). delayed_of t s (turn_of s) 0 ⊕ information t.symbols (error_of l)) found_is
 
     pub mark_is : mark_of (2 ^ (t.symbols - 1)) f x ≡ (delivered t s r).mark
     unfolding delivered decoder_found decoder_register
     mark_is = ap₂ (mark_of (2 ^ (t.symbols - 1))) found_is is
 
   pub step_words : (x top : ℕ) → x ≡ syndrome_of t s (turn_of s) + sel (odd w) top → top ≡ 2 ^ (t.span - 1)
-      → (f : Least) → f ≡ found (rows_of t) x → (error kept : ℕ) (mark : Mark)
+      → (f : Option ℕ) → f ≡ found (rows_of t) x → (error kept : ℕ) (mark : Mark)
       → (error ≡ error_of f) × ((kept ≡ kept_of f x) × (mark ≡ mark_of (2 ^ (t.symbols - 1)) f x))
       → (entry : ℕ) (after : List ℕ)
       → (entry ≡ cond (ltb (fill_of s) (delay_of t)) (decode_entry 0 0)

@@ -11,7 +11,7 @@
 --   decode_values t s r   the values of a step that is taken
 --   Decodes               what `decode` promises
 use Rattle.std.specs.Prelude.{◌≡◌, cond, List, [], ◌∷◌, ◌++◌, ℕ, ◌+◌, ltb, set, take, drop}
-use Rattle.span.specs.declared.eliminate.Least.{Least}
+use Rattle.std.specs.Prelude.{Option}
 use Rattle.tables.specs.declared.table.Table.{Table}
 use Rattle.tables.specs.Table.{table}
 use Rattle.link.specs.declared.decode.Mark.{Mark}
@@ -31,7 +31,7 @@ unfoldable pub decoder_register : Table → List ℕ → ℕ → ℕ
 decoder_register t s r =
     stream_register t.symbols t.span t.rows (pending_of t s (turn_of s)) (syndrome_of t s (turn_of s)) r
 
-unfoldable pub decoder_found : Table → List ℕ → ℕ → Least
+unfoldable pub decoder_found : Table → List ℕ → ℕ → Option ℕ
 decoder_found t s r =
     stream_found t.symbols t.span t.rows (pending_of t s (turn_of s)) (syndrome_of t s (turn_of s)) r
 

@@ -4,7 +4,7 @@
 --   LeastError rows x e   e is the least error block that has
 --   MarksLaw              each mark is given exactly where 01 and 02 say
 use Rattle.std.specs.Prelude.{◌≡◌, true, false, ◌≢◌, ◌↔◌, List, ℕ, ◌-◌, ◌^◌, ◌<◌, length}
-use Rattle.span.specs.declared.eliminate.Least.TheVariants.{Found}
+use Rattle.std.specs.Prelude.{Some}
 use Rattle.span.specs.Word.{odd}
 use Rattle.span.specs.Combination.{combination}
 use Rattle.span.specs.Relation.{IsLeast}
@@ -16,7 +16,7 @@ NoError rows x = (e : ℕ) → e < 2 ^ length rows → combination rows e ≢ x
 
 -- "the least such e" that has the register as image
 abbrev pub LeastError : List ℕ → ℕ → ℕ → Type 0
-LeastError rows x e = IsLeast (λ c. combination rows c ≡ x) 0 (2 ^ length rows) (Found e)
+LeastError rows x e = IsLeast (λ c. combination rows c ≡ x) 0 (2 ^ length rows) (Some e)
 
 -- "clean (register 0); corrected, carrying e (e not 0); doubtful (no e, bit 0 of the register is 1); held (no e, bit 0
 -- is 0)"; and 02, CR 4: "When e is exactly 2^(n−1) the mark is now "parity" and not "corrected""

@@ -25,8 +25,8 @@
 use Rattle.std.specs.Prelude.{◌≡◌, ◌↔◌, Bool, false, cond, ◌&&◌, ◌⊎◌, List, ℕ, zero, suc, ◌+◌, ◌-◌, ◌*◌, ◌^◌, ◌≤◌, ◌<◌}
 use Rattle.std.specs.Prelude.{leb, ltb, length, get_or}
 use Rattle.std.specs.Bool.{xor}
-use Rattle.span.specs.declared.eliminate.Least.{Least}
-use Rattle.span.specs.declared.eliminate.Least.TheVariants.{Found, Missing}
+use Rattle.std.specs.Prelude.{Option}
+use Rattle.std.specs.Prelude.{Some, None}
 use Rattle.span.specs.Word.{◌⊕◌, bit}
 use Rattle.tables.specs.declared.table.Table.{Table}
 use Rattle.tables.specs.Table.{rows_of, info_rows}
@@ -110,8 +110,8 @@ raw_at s ds p = get_or (run decode_memory (placed decoder_fault raw_entry) s ds)
 abbrev pub register_at : List ℕ → List Call → ℕ → ℕ
 register_at s ds p = get_or (run decode_memory (placed decoder_fault decoder_register) s ds) p 0
 
-abbrev pub found_at : List ℕ → List Call → ℕ → Least
-found_at s ds p = get_or (run decode_memory (placed decoder_fault decoder_found) s ds) p Missing
+abbrev pub found_at : List ℕ → List Call → ℕ → Option ℕ
+found_at s ds p = get_or (run decode_memory (placed decoder_fault decoder_found) s ds) p None
 
 -- ---- the theorems, of every list of calls, refused ones anywhere in it
 
@@ -168,7 +168,7 @@ RegisterLaw =
     let raw = stream t.depth r (raw_at memory ds) in
     let register = stream t.depth r (register_at memory ds) in
     let found = stream t.depth r (found_at memory ds) in
-    (c ≡ 0) ⊎ ((e : ℕ) × (found (c - 1) ≡ Found e)) → ((d : ℕ) → c ≤ d → d < b → found d ≡ Missing)
+    (c ≡ 0) ⊎ ((e : ℕ) × (found (c - 1) ≡ Some e)) → ((d : ℕ) → c ≤ d → d < b → found d ≡ None)
     → (register b < 2 ^ t.span)
     × ((k : ℕ) → k < t.span → bit (t.span - 1 - k) (register b) ≡ cond (leb (c + k) b) (raw (b - k)) false)
 
@@ -180,8 +180,8 @@ ErrorFound =
     → (p : ℕ) → p < length (taken_by memory ds) →
     let register = register_at memory ds p in
     let found = found_at memory ds p in
-    ((e : ℕ) → (found ≡ Found e) ↔ LeastError (rows_of t) register e)
-    × ((found ≡ Missing) ↔ NoError (rows_of t) register)
+    ((e : ℕ) → (found ≡ Some e) ↔ LeastError (rows_of t) register e)
+    × ((found ≡ None) ↔ NoError (rows_of t) register)
 
 -- 01, Coder and decoder memory: "one pending word a stream; bit k of a pending word is what past blocks add to the
 -- parity k steps after the next one". It is the word before the step that block b is handed to.

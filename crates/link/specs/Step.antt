@@ -14,8 +14,8 @@
 --                                                     information and mark of its record
 use Rattle.std.specs.Prelude.{Bool, cond, List, [], ◌∷◌, ◌++◌, ℕ, ◌+◌, ◌-◌, ◌*◌, ◌/◌, ◌%◌, ◌^◌, eqb, take}
 use Rattle.std.specs.Bool.{xor}
-use Rattle.span.specs.declared.eliminate.Least.{Least}
-use Rattle.span.specs.declared.eliminate.Least.TheVariants.{Found, Missing}
+use Rattle.std.specs.Prelude.{Option}
+use Rattle.std.specs.Prelude.{Some, None}
 use Rattle.span.specs.Word.{◌⊕◌, odd, bit, digit}
 use Rattle.span.specs.Relation.{least_coefficients}
 use Rattle.tables.specs.Table.{code_rows}
@@ -48,16 +48,16 @@ stream_register n N rows p s r = register N s (raw_term (stream_joining n rows p
 
 -- 3. "If some e has the register as image, the least such e is the error, and the syndrome word becomes 0. Otherwise
 -- the error is 0 and the word is the register halved, its bit 0 dropped."
-abbrev pub found : List ℕ → ℕ → Least
+abbrev pub found : List ℕ → ℕ → Option ℕ
 found rows x = least_coefficients rows x
 
-abbrev pub error_of : Least → ℕ
-error_of (Found e) = e
-error_of Missing = 0
+abbrev pub error_of : Option ℕ → ℕ
+error_of (Some e) = e
+error_of None = 0
 
-abbrev pub kept_of : Least → ℕ → ℕ
-kept_of (Found e) x = 0
-kept_of Missing x = x / 2
+abbrev pub kept_of : Option ℕ → ℕ → ℕ
+kept_of (Some e) x = 0
+kept_of None x = x / 2
 
 -- "Marks: clean (register 0); corrected, carrying e (e not 0); doubtful (no e, bit 0 of the register is 1); held (no e,
 -- bit 0 is 0)." An error of 0 has the register 0. 02, CR 4: "When e is exactly 2^(n−1) the mark is now "parity" and not
@@ -65,14 +65,14 @@ kept_of Missing x = x / 2
 abbrev pub mark_found : ℕ → ℕ → Mark
 mark_found weight e = cond (eqb e 0) Clean (cond (eqb e weight) (Parity e) (Corrected e))
 
-abbrev pub mark_of : ℕ → Least → ℕ → Mark
-mark_of weight (Found e) x = mark_found weight e
-mark_of weight Missing x = cond (odd x) Doubtful Held
+abbrev pub mark_of : ℕ → Option ℕ → ℕ → Mark
+mark_of weight (Some e) x = mark_found weight e
+mark_of weight None x = cond (odd x) Doubtful Held
 
 -- lines 3 and 4 on the words of a stream: what is found; the part after the step, in which `stay` are the delayed
 -- blocks but the oldest; and information and mark of the record, "the oldest delayed block, corrected by e". The
 -- information is corrected, so e without its parity symbol.
-abbrev pub stream_found : ℕ → ℕ → List ℕ → ℕ → ℕ → ℕ → Least
+abbrev pub stream_found : ℕ → ℕ → List ℕ → ℕ → ℕ → ℕ → Option ℕ
 stream_found n N rows p s r = found (code_rows n rows) (stream_register n N rows p s r)
 
 abbrev pub stream_next : ℕ → ℕ → List ℕ → ℕ → ℕ → List ℕ → ℕ → List ℕ

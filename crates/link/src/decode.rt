@@ -13,7 +13,7 @@ ghost use Rattle.link.specs.Decoder.{advanced, decoder_next, delivery, Decodes};
 use crate::stream::{next_turn, one_at, push};
 use span::bits::{mask, select};
 use span::combine::combination;
-use span::eliminate::{Least, least_relation};
+use span::eliminate::least_relation;
 use tables::table::{Table, lent_fits};
 
 #[derive(Clone, Copy)]
@@ -175,16 +175,16 @@ pub(crate) fn error_words(rows: &[u64], n: usize, x: u64) -> [u64; 32]
 
 // Line 3: the least error block whose image is the register. The least relation that ends in the register has its
 // coefficients below.
-fn least_error(rows: &[u64], n: usize, x: u64) -> Least
+fn least_error(rows: &[u64], n: usize, x: u64) -> Option<u64>
     requires { (2 ≤ n) × (n ≤ 16) × (n - 1 ≤ length rows.now) }
     ensures { result ≡ found (code_rows n rows.now) x }
 {
     let words = error_words(rows, n, x);
     let relation = least_relation(&words, n + 1, n);
-    if let Least::Found(c) = relation {
-        return Least::Found(c - (1 << (n as u64)));
+    if let Some(c) = relation {
+        return Some(c - (1 << (n as u64)));
     }
-    Least::Missing
+    None
 }
 
 // The mark of an error block that was found, with the weight of the parity.
@@ -202,13 +202,13 @@ fn mark_found(e: u64, weight: u64) -> Mark
 }
 
 // Line 3 and the mark, once the error is found or missing.
-pub(crate) fn judged(found: Least, x: u64, weight: u64) -> Verdict
+pub(crate) fn judged(found: Option<u64>, x: u64, weight: u64) -> Verdict
     requires { error_of found < 2 ^ 16 }
     ensures error { result.error ≡ error_of found }
     ensures kept { result.kept ≡ kept_of found x }
     ensures mark { result.mark ≡ mark_of weight found x }
 {
-    if let Least::Found(e) = found {
+    if let Some(e) = found {
         return Verdict {
             error: e as u16,
             kept: 0,
@@ -231,12 +231,12 @@ pub(crate) fn judged(found: Least, x: u64, weight: u64) -> Verdict
 }
 
 // A register of 0 is the image of 0: nothing is eliminated then.
-fn explain(rows: &[u64], n: usize, x: u64) -> Least
+fn explain(rows: &[u64], n: usize, x: u64) -> Option<u64>
     requires { (2 ≤ n) × (n ≤ 16) × (n - 1 ≤ length rows.now) }
     ensures { result ≡ found (code_rows n rows.now) x }
 {
     if x == 0 {
-        return Least::Found(0);
+        return Some(0);
     }
     least_error(rows, n, x)
 }

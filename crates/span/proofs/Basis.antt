@@ -8,7 +8,7 @@ use mathlib.Core.Path.{fun_ext}
 use native.Mathlib.Decide.{dec_le}
 use borrow.Author.Tests.{eqb-false}
 use lib.Seq.{get_or-append_seam, append_snoc}
-use Rattle.span.specs.declared.eliminate.Least.TheVariants.{Found, Missing}
+use Rattle.std.specs.Prelude.{Some, None}
 use Rattle.span.specs.declared.eliminate.Basis.{Basis}
 use Rattle.span.specs.declared.eliminate.Reduced.{Reduced}
 use Rattle.span.specs.Word.{◌⊕◌, common_parity}
@@ -169,11 +169,11 @@ basis-last us w =
     extended-last us 0 empty_basis w
     ∙ ap (λ (k : ℕ). joined k (basis_of us) (reduction (basis_of us) w)) (zero-add (length us))
 
-pub answer-found : (r : Reduced) → r.rest ≡ 0 → answer r ≡ Found r.coefficients
+pub answer-found : (r : Reduced) → r.rest ≡ 0 → answer r ≡ Some r.coefficients
 unfolding answer
 answer-found r e = rw (eq-eqb r.rest 0 e)
 
-pub answer-missing : (r : Reduced) → (r.rest ≡ 0 → ⊥) → answer r ≡ Missing
+pub answer-missing : (r : Reduced) → (r.rest ≡ 0 → ⊥) → answer r ≡ None
 unfolding answer
 answer-missing r ne = rw (ne_eqb r.rest 0 ne)
 
@@ -205,21 +205,21 @@ module _ (ws : List ℕ) (room : length ws ≤ 32) (bound : Below 64 ws) (i : �
   turn-answer =
       rw so_far (reduces (take i ws) (rw size-taken (omega arith)) (below-take 64 i ws bound) (get_or ws i 0))
 
-  module _ (f : ℕ) (none : IsLeast (λ (c : ℕ). combination ws c ≡ 0) (2 ^ f) (2 ^ i) Missing) where
+  module _ (f : ℕ) (none : IsLeast (λ (c : ℕ). combination ws c ≡ 0) (2 ^ f) (2 ^ i) None) where
     pub turn_found : f ≤ i → (reduction b (get_or ws i 0)).rest ≡ 0
-        → Found ((reduction b (get_or ws i 0)).coefficients ⊕ 2 ^ i) ≡ least_relation ws f
+        → Some ((reduction b (get_or ws i 0)).coefficients ⊕ 2 ^ i) ≡ least_relation ws f
     turn_found l e =
         let r = reduction b (get_or ws i 0) in
         relation_found ws f i h l none r.coefficients (sym turn-answer ∙ answer-found r e)
 
     pub turn_none : (f ≤ i → (reduction b (get_or ws i 0)).rest ≡ 0 → ⊥)
-        → IsLeast (λ (c : ℕ). combination ws c ≡ 0) (2 ^ f) (2 ^ (i + 1)) Missing
+        → IsLeast (λ (c : ℕ). combination ws c ≡ 0) (2 ^ f) (2 ^ (i + 1)) None
     turn_none ne = rw (add-one i) (go (dec_le f i))
       where
         r : Reduced
         r = reduction b (get_or ws i 0)
 
-        go : Dec (f ≤ i) → IsLeast (λ (c : ℕ). combination ws c ≡ 0) (2 ^ f) (2 ^ suc i) Missing
+        go : Dec (f ≤ i) → IsLeast (λ (c : ℕ). combination ws c ≡ 0) (2 ^ f) (2 ^ suc i) None
         go (yes l) =
             relation_none ws f i h l none (sym turn-answer ∙ answer-missing r (ne l))
         go (no l) = λ d u v e. let p : 2 ^ suc i ≤ 2 ^ f = pow_mono (omega arith) in omega arith

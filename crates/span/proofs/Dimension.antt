@@ -5,8 +5,8 @@ use Rattle.std.proofs.Common.{ap, ◌∙◌, suc-le-suc, zero-le, le_refl, lt_ir
 use native.Mathlib.Decide.{dec_le}
 use borrow.Author.Tests.{eqb-false}
 use lib.Pow.{pow-lt}
-use Rattle.span.specs.declared.eliminate.Least.{Least}
-use Rattle.span.specs.declared.eliminate.Least.TheVariants.{Found, Missing}
+use Rattle.std.specs.Prelude.{Option}
+use Rattle.std.specs.Prelude.{Some, None}
 use Rattle.span.specs.Word.{◌⊕◌}
 use Rattle.span.specs.Combination.{combination, Member, Independent, Below}
 use Rattle.span.specs.Laws.{DimensionLaw, Spanning}
@@ -96,9 +96,9 @@ module _ (N : ℕ) (ws : List ℕ) (bound : Below N ws) (independent : Independe
   all-spanned : length ws ≡ N → (y : ℕ) → y < 2 ^ N → Member ws y
   all-spanned e y h = go (least_coefficients ws y) (least-coefficients ws y)
     where
-      go : (r : Least) → IsLeast (λ (c : ℕ). combination ws c ≡ y) 0 (2 ^ length ws) r → Member ws y
-      go (Found c) l = (c, l.1, l.2)
-      go Missing l =
+      go : (r : Option ℕ) → IsLeast (λ (c : ℕ). combination ws c ≡ y) 0 (2 ^ length ws) r → Member ws y
+      go (Some c) l = (c, l.1, l.2)
+      go None l =
           absurd
           (onto (2 ^ length ws) (combination ws) (rw (← e) at into) different y (rw e h) (λ x u p. l x zero-le u p))
 

@@ -9,7 +9,7 @@ use borrow.Author.Tests.{eqb-false}
 use lib.Bits.{bit_and, and_zero_l}
 use Rattle.span.specs.declared.eliminate.Basis.{Basis}
 use Rattle.span.specs.declared.eliminate.Reduced.{Reduced}
-use Rattle.span.specs.declared.eliminate.Least.TheVariants.{Found, Missing}
+use Rattle.std.specs.Prelude.{Some, None}
 use Rattle.span.specs.Word.{◌⊕◌, sel, common_parity}
 use Rattle.span.specs.Basis.{basis, reduced_by, reduced_to, reduction, answer}
 use Rattle.span.specs.Elimination.{basis_of}
@@ -119,16 +119,16 @@ unmet b x e = unmet-to b x (min b.size 32) e
 
 -- a word that is left as it is, and not 0, is no combination
 left-missing : (b : Basis) (x : ℕ) → (x ≡ 0 → ⊥) → bit_and x (together b.checks (min b.size 32)) ≡ 0
-    → Missing ≡ answer (at_once b x)
+    → None ≡ answer (at_once b x)
 unfolding answer
 left-missing b x some e =
-    sym (ap (λ (r : Reduced). cond (eqb r.rest 0) (Found r.coefficients) Missing) (unmet b x e)
-    ∙ ap (λ (t : Bool). cond t (Found 0) Missing) (ne_eqb x 0 some))
+    sym (ap (λ (r : Reduced). cond (eqb r.rest 0) (Some r.coefficients) None) (unmet b x e)
+    ∙ ap (λ (t : Bool). cond t (Some 0) None) (ne_eqb x 0 some))
 
-zero-found : (b : Basis) → Found 0 ≡ answer (at_once b 0)
+zero-found : (b : Basis) → Some 0 ≡ answer (at_once b 0)
 unfolding answer
 zero-found b =
-    sym (ap (λ (r : Reduced). cond (eqb r.rest 0) (Found r.coefficients) Missing)
+    sym (ap (λ (r : Reduced). cond (eqb r.rest 0) (Some r.coefficients) None)
     (unmet b 0 (and_zero_l (together b.checks (min b.size 32)))))
 
 pub least_by_lem : LeastBy
@@ -138,7 +138,7 @@ least_by_lem ws room bound b e x =
     ∙ ap (λ (b : Basis). answer (at_once b x)) e ∙ dual-reduces ws room bound x
   where
     go : (p q : Bool) → eqb x 0 ≡ p → eqb (bit_and x (together b.checks (min b.size 32))) 0 ≡ q
-        → cond p (Found 0) (cond q Missing (answer (at_once b x))) ≡ answer (at_once b x)
+        → cond p (Some 0) (cond q None (answer (at_once b x))) ≡ answer (at_once b x)
     go true q h k = zero-found b ∙ ap (λ (y : ℕ). answer (at_once b y)) (sym (eqb-true x 0 h))
     go false true h k = left-missing b x (eqb-false x 0 h) (eqb-true _ 0 k)
     go false false h k = refl

@@ -13,7 +13,7 @@ use borrow.Author.Tests.{eqb-false}
 use lib.Count.{count_leading_zeros, count_trailing_zeros, leading_top}
 use lib.Seq.{get_or-append_seam}
 use lib.Pow.{pow-lt}
-use Rattle.span.specs.declared.eliminate.Least.TheVariants.{Found, Missing}
+use Rattle.std.specs.Prelude.{Some, None}
 use Rattle.span.specs.Word.{◌⊕◌, bit, sel, common_parity}
 use Rattle.span.specs.Combination.{combination}
 use Rattle.span.specs.Relation.{IsLeast}
@@ -223,11 +223,11 @@ module _ (ws : List ℕ) (rest coefficients : ℕ → ℕ) (r : Reduces ws rest 
           (xor-less t.0 (coefficients x) d t.2 t.3 (r.normal x t.0 (coefficients x ⊕ d) t.2 t.3 b z))
 
   pub least_by_lem : IsLeast (λ (c : ℕ). combination ws c ≡ x) 0 (2 ^ length ws)
-      (cond (eqb (rest x) 0) (Found (coefficients x)) Missing)
+      (cond (eqb (rest x) 0) (Some (coefficients x)) None)
   least_by_lem = go (eqb (rest x) 0) refl
     where
       go : (s : Bool) → eqb (rest x) 0 ≡ s
-          → IsLeast (λ (c : ℕ). combination ws c ≡ x) 0 (2 ^ length ws) (cond s (Found (coefficients x)) Missing)
+          → IsLeast (λ (c : ℕ). combination ws c ≡ x) 0 (2 ^ length ws) (cond s (Some (coefficients x)) None)
       go true e =
           let made : combination ws (coefficients x) ≡ x =
           sym (xor_zero_r (combination ws (coefficients x)))

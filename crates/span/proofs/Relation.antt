@@ -7,8 +7,8 @@ use Rattle.std.proofs.Common.{eqb-true}
 use mathlib.Core.Bool.{false≢true}
 use native.Mathlib.Decide.{dec_lt}
 use lib.Arith.{lt_of_le-ne}
-use Rattle.span.specs.declared.eliminate.Least.{Least}
-use Rattle.span.specs.declared.eliminate.Least.TheVariants.{Found, Missing}
+use Rattle.std.specs.Prelude.{Option}
+use Rattle.std.specs.Prelude.{Some, None}
 use Rattle.span.specs.Word.{◌⊕◌}
 use Rattle.span.specs.Combination.{combination, Member, Relation}
 use Rattle.span.specs.Relation.{least_from, least_relation, least_coefficients, raised, IsLeast}
@@ -21,14 +21,14 @@ above : (P : ℕ → Type 0) (a d : ℕ) → (P a → ⊥) → a ≤ d → P d �
 above P a d none h p = lt_of_le-ne h (λ (e : a ≡ d). none (subst P (sym e) p))
 
 -- a number that does not pass may be left out at the start
-least_skip : (P : ℕ → Type 0) (a b : ℕ) (r : Least) → (P a → ⊥) → IsLeast P (suc a) b r → IsLeast P a b r
-least_skip P a b (Found c) none h = (le_of_lt h.0, h.1, h.2, λ d l u p. h.3 d (above P a d none l p) u p)
-least_skip P a b Missing none h = λ d l u p. h d (above P a d none l p) u p
+least_skip : (P : ℕ → Type 0) (a b : ℕ) (r : Option ℕ) → (P a → ⊥) → IsLeast P (suc a) b r → IsLeast P a b r
+least_skip P a b (Some c) none h = (le_of_lt h.0, h.1, h.2, λ d l u p. h.3 d (above P a d none l p) u p)
+least_skip P a b None none h = λ d l u p. h d (above P a d none l p) u p
 
 module _ (p : ℕ → Bool) (P : ℕ → Type 0) (sound : (c : ℕ) → p c ≡ true → P c)
     (complete : (c : ℕ) → P c → p c ≡ true) where
   least-here : (n a b : ℕ) → a < b → (s : Bool) → p a ≡ s → IsLeast P (suc a) b (least_from p (suc a) n)
-      → IsLeast P a b (cond s (Found a) (least_from p (suc a) n))
+      → IsLeast P a b (cond s (Some a) (least_from p (suc a) n))
   least-here n a b l true e rest = (le_refl a, l, sound a e, λ d u v q. u)
   least-here n a b l false e rest =
       least_skip P a b (least_from p (suc a) n) (λ q. let z : false ≡ true = sym e ∙ complete a q in false≢true z) rest
@@ -51,11 +51,11 @@ least-coefficients ws x =
     (λ c. eq-eqb (combination ws c) x) (2 ^ length ws) 0 (2 ^ length ws) (omega arith)
 
 pub least-unique : LeastUnique
-least-unique P a b (Found c) (Found d) h k =
-    ap Found (le_antisymm (h.3 d k.0 k.1 k.2) (k.3 c h.0 h.1 h.2))
-least-unique P a b (Found c) Missing h k = absurd (k c h.0 h.1 h.2)
-least-unique P a b Missing (Found d) h k = absurd (h d k.0 k.1 k.2)
-least-unique P a b Missing Missing h k = refl
+least-unique P a b (Some c) (Some d) h k =
+    ap Some (le_antisymm (h.3 d k.0 k.1 k.2) (k.3 c h.0 h.1 h.2))
+least-unique P a b (Some c) None h k = absurd (k c h.0 h.1 h.2)
+least-unique P a b None (Some d) h k = absurd (h d k.0 k.1 k.2)
+least-unique P a b None None h k = refl
 
 pub membership : Membership
 membership ws x = (
@@ -63,25 +63,25 @@ membership ws x = (
   λ ne. go (least_coefficients ws x) refl (least-coefficients ws x) ne,
 )
   where
-    Least-of : Least → Type 0
+    Least-of : Option ℕ → Type 0
     Least-of = IsLeast (λ (c : ℕ). combination ws c ≡ x) 0 (2 ^ length ws)
 
-    refuted : Member ws x → Least-of Missing → ⊥
+    refuted : Member ws x → Least-of None → ⊥
     refuted m none = none m.0 zero-le m.1 m.2
 
-    go : (r : Least) → least_coefficients ws x ≡ r → Least-of r → (least_coefficients ws x ≡ Missing → ⊥) → Member ws x
-    go (Found c) e l ne = (c, l.1, l.2)
-    go Missing e l ne = absurd (ne e)
+    go : (r : Option ℕ) → least_coefficients ws x ≡ r → Least-of r → (least_coefficients ws x ≡ None → ⊥) → Member ws x
+    go (Some c) e l ne = (c, l.1, l.2)
+    go None e l ne = absurd (ne e)
 
 pub independence : Independence
 independence ws = (
-  λ free. least-unique (Relation ws) 1 (2 ^ length ws) (least_relation ws 0) Missing (least-relation ws 0)
+  λ free. least-unique (Relation ws) 1 (2 ^ length ws) (least_relation ws 0) None (least-relation ws 0)
       (λ d l u e. let z = free d u e in omega arith),
   λ e c u q. go c u q (eq-zero-or-pos c) (subst (IsLeast (Relation ws) 1 (2 ^ length ws)) e (least-relation ws 0)),
 )
   where
     go : (c : ℕ) → c < 2 ^ length ws → Relation ws c → (c ≡ 0) ⊎ (0 < c)
-        → IsLeast (Relation ws) 1 (2 ^ length ws) Missing → c ≡ 0
+        → IsLeast (Relation ws) 1 (2 ^ length ws) None → c ≡ 0
     go c u q (inl z) none = z
     go c u q (inr p) none = absurd (none c p u q)
 
@@ -101,16 +101,16 @@ module _ (ws : List ℕ) (x : ℕ) where
             (sym (combination-above ws x (d - 2 ^ length ws) w) ∙ ap (combination (ws ++ (x ∷ []))) split ∙ e),
       )
 
-  raised-least : (r : Least) → IsLeast (λ (c : ℕ). combination ws c ≡ x) 0 (2 ^ length ws) r
+  raised-least : (r : Option ℕ) → IsLeast (λ (c : ℕ). combination ws c ≡ x) 0 (2 ^ length ws) r
       → IsLeast (λ (c : ℕ). combination (ws ++ (x ∷ [])) c ≡ 0) (2 ^ length ws) (2 ^ length (ws ++ (x ∷ [])))
       (raised (length ws) r)
-  raised-least (Found c) h = (
+  raised-least (Some c) h = (
     omega arith,
     above-lt c h.1,
     combination-above ws x c h.1 ∙ ap (λ (y : ℕ). y ⊕ x) h.2 ∙ xor_self x,
     λ d l u e. let t = lowered d l u e in let m = h.3 (d - 2 ^ length ws) zero-le t.0 t.1 in omega arith,
   )
-  raised-least Missing h = λ d l u e. let t = lowered d l u e in h (d - 2 ^ length ws) zero-le t.0 t.1
+  raised-least None h = λ d l u e. let t = lowered d l u e in h (d - 2 ^ length ws) zero-le t.0 t.1
 
   raised_is : least_relation (ws ++ (x ∷ [])) (length ws) ≡ raised (length ws) (least_coefficients ws x)
   raised_is =
@@ -123,13 +123,13 @@ least-raised = raised_is
 
 -- ---- the search word by word
 
-least-map : (P Q : ℕ → Type 0) (a b : ℕ) (r : Least) → ((c : ℕ) → c < b → P c → Q c) → ((c : ℕ) → c < b → Q c → P c)
+least-map : (P Q : ℕ → Type 0) (a b : ℕ) (r : Option ℕ) → ((c : ℕ) → c < b → P c → Q c) → ((c : ℕ) → c < b → Q c → P c)
     → IsLeast P a b r → IsLeast Q a b r
-least-map P Q a b (Found c) to from h = (h.0, h.1, to c h.1 h.2, λ d l u q. h.3 d l u (from d u q))
-least-map P Q a b Missing to from h = λ d l u q. h d l u (from d u q)
+least-map P Q a b (Some c) to from h = (h.0, h.1, to c h.1 h.2, λ d l u q. h.3 d l u (from d u q))
+least-map P Q a b None to from h = λ d l u q. h d l u (from d u q)
 
 -- what is above the least does not matter
-least-wider : (P : ℕ → Type 0) (a b b' c : ℕ) → b ≤ b' → IsLeast P a b (Found c) → IsLeast P a b' (Found c)
+least-wider : (P : ℕ → Type 0) (a b b' c : ℕ) → b ≤ b' → IsLeast P a b (Some c) → IsLeast P a b' (Some c)
 least-wider P a b b' c l h = (h.0, lt_of_lt_of_le h.1 l, h.2, λ d u v p. go d u p (dec_lt d b))
   where
     go : (d : ℕ) → a ≤ d → P d → Dec (d < b) → c ≤ d
@@ -137,18 +137,18 @@ least-wider P a b b' c l h = (h.0, lt_of_lt_of_le h.1 l, h.2, λ d u v p. go d u
     go d u p (no w) = let k = h.1 in omega arith
 
 -- where there is none in a first stretch, the least of the next is the least of both
-least-glue : (P : ℕ → Type 0) (a b c : ℕ) (r : Least) → a ≤ b → IsLeast P a b Missing → IsLeast P b c r
+least-glue : (P : ℕ → Type 0) (a b c : ℕ) (r : Option ℕ) → a ≤ b → IsLeast P a b None → IsLeast P b c r
     → IsLeast P a c r
-least-glue P a b c (Found x) l none h = (
+least-glue P a b c (Some x) l none h = (
   le_trans l h.0,
   h.1,
   h.2,
   λ d u v p. h.3 d (le_of_suc-le-suc (lt_of_not-le (λ (w : d < b). none d u w p))) v p,
 )
-least-glue P a b c Missing l none h = λ d u v p. h d (le_of_suc-le-suc (lt_of_not-le (λ (w : d < b). none d u w p))) v p
+least-glue P a b c None l none h = λ d u v p. h d (le_of_suc-le-suc (lt_of_not-le (λ (w : d < b). none d u w p))) v p
 
 module _ (ws : List ℕ) (f i : ℕ) (h : i < length ws) (l : f ≤ i)
-    (none : IsLeast (λ (c : ℕ). combination ws c ≡ 0) (2 ^ f) (2 ^ i) Missing) where
+    (none : IsLeast (λ (c : ℕ). combination ws c ≡ 0) (2 ^ f) (2 ^ i) None) where
   -- relations from f up to the word i, by the coefficients of that word among those before it
   relation-turn : IsLeast (λ (c : ℕ). combination ws c ≡ 0) (2 ^ f) (2 ^ suc i)
       (raised i (least_coefficients (take i ws) (get_or ws i 0)))
@@ -163,28 +163,28 @@ module _ (ws : List ℕ) (f i : ℕ) (h : i < length ws) (l : f ≤ i)
       (rw (← take-suc ws i 0 h, length-take-le (suc i) ws h, length-take-le i ws (le_of_lt h)) at
       (raised-least us (get_or ws i 0) r (least-coefficients us (get_or ws i 0)))))
 
-  pub relation_found : (c : ℕ) → least_coefficients (take i ws) (get_or ws i 0) ≡ Found c
-      → Found (c ⊕ 2 ^ i) ≡ least_relation ws f
+  pub relation_found : (c : ℕ) → least_coefficients (take i ws) (get_or ws i 0) ≡ Some c
+      → Some (c ⊕ 2 ^ i) ≡ least_relation ws f
   relation_found c e =
       let low : c < 2 ^ i =
       rw (length-take-le i ws (le_of_lt h)) at
       (subst (IsLeast (λ (d : ℕ). combination (take i ws) d ≡ get_or ws i 0) 0 (2 ^ length (take i ws))) e
       (least-coefficients (take i ws) (get_or ws i 0))).1
       in
-      ap Found (xor_comm c (2 ^ i) ∙ sym (pow-add-xor i c low))
-      ∙ least-unique (λ (c : ℕ). combination ws c ≡ 0) (2 ^ f) (2 ^ length ws) (Found (2 ^ i + c)) (least_relation ws f)
+      ap Some (xor_comm c (2 ^ i) ∙ sym (pow-add-xor i c low))
+      ∙ least-unique (λ (c : ℕ). combination ws c ≡ 0) (2 ^ f) (2 ^ length ws) (Some (2 ^ i + c)) (least_relation ws f)
       (least-wider (λ (c : ℕ). combination ws c ≡ 0) (2 ^ f) (2 ^ suc i) (2 ^ length ws) (2 ^ i + c) (pow_mono h)
-      (subst (λ (r : Least). IsLeast (λ (c : ℕ). combination ws c ≡ 0) (2 ^ f) (2 ^ suc i) (raised i r))
+      (subst (λ (r : Option ℕ). IsLeast (λ (c : ℕ). combination ws c ≡ 0) (2 ^ f) (2 ^ suc i) (raised i r))
       e relation-turn))
       (least-relation ws f)
 
-  pub relation_none : least_coefficients (take i ws) (get_or ws i 0) ≡ Missing
-      → IsLeast (λ (c : ℕ). combination ws c ≡ 0) (2 ^ f) (2 ^ suc i) Missing
+  pub relation_none : least_coefficients (take i ws) (get_or ws i 0) ≡ None
+      → IsLeast (λ (c : ℕ). combination ws c ≡ 0) (2 ^ f) (2 ^ suc i) None
   relation_none e =
-      subst (λ (r : Least). IsLeast (λ (c : ℕ). combination ws c ≡ 0) (2 ^ f) (2 ^ suc i) (raised i r)) e relation-turn
+      subst (λ (r : Option ℕ). IsLeast (λ (c : ℕ). combination ws c ≡ 0) (2 ^ f) (2 ^ suc i) (raised i r)) e relation-turn
 
 pub relation-missing : (ws : List ℕ) (f i : ℕ) → length ws ≤ i
-    → IsLeast (λ (c : ℕ). combination ws c ≡ 0) (2 ^ f) (2 ^ i) Missing → Missing ≡ least_relation ws f
+    → IsLeast (λ (c : ℕ). combination ws c ≡ 0) (2 ^ f) (2 ^ i) None → None ≡ least_relation ws f
 relation-missing ws f i l none =
-    least-unique (λ (c : ℕ). combination ws c ≡ 0) (2 ^ f) (2 ^ length ws) Missing (least_relation ws f)
+    least-unique (λ (c : ℕ). combination ws c ≡ 0) (2 ^ f) (2 ^ length ws) None (least_relation ws f)
     (λ d u v e. none d u (lt_of_lt_of_le v (pow_mono l)) e) (least-relation ws f)

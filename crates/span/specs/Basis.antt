@@ -8,8 +8,8 @@
 use Rattle.std.specs.Prelude.{ℕ, zero, suc, min, cond, List, ◌==◌, slice_index}
 use Rattle.span.specs.declared.eliminate.Basis.{Basis}
 use Rattle.span.specs.declared.eliminate.Reduced.{Reduced}
-use Rattle.span.specs.declared.eliminate.Least.{Least}
-use Rattle.span.specs.declared.eliminate.Least.TheVariants.{Found, Missing}
+use Rattle.std.specs.Prelude.{Option}
+use Rattle.std.specs.Prelude.{Some, None}
 use Rattle.span.specs.Word.{◌⊕◌, sel, common_parity}
 
 abbrev pub basis : ℕ → List ℕ → List ℕ → List ℕ → Basis
@@ -30,5 +30,5 @@ reduced_to b (suc i) x =
 unfoldable pub reduction : Basis → ℕ → Reduced
 reduction b x = reduced_to b (min b.size 32) x
 
-unfoldable pub answer : Reduced → Least
-answer r = cond (r.rest == 0) (Found r.coefficients) Missing
+unfoldable pub answer : Reduced → Option ℕ
+answer r = cond (r.rest == 0) (Some r.coefficients) None

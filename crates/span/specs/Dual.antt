@@ -17,8 +17,8 @@ use Rattle.std.specs.Prelude.{◌≡◌, ℕ, zero, suc, ◌≤◌, min, cond, L
 use Rattle.std.specs.Prelude.{slice_index, slice_set}
 use Rattle.span.specs.declared.eliminate.Basis.{Basis}
 use Rattle.span.specs.declared.eliminate.Reduced.{Reduced}
-use Rattle.span.specs.declared.eliminate.Least.{Least}
-use Rattle.span.specs.declared.eliminate.Least.TheVariants.{Found, Missing}
+use Rattle.std.specs.Prelude.{Option}
+use Rattle.std.specs.Prelude.{Some, None}
 use Rattle.span.specs.Word.{◌⊕◌, sel, common_parity}
 use Rattle.span.specs.Combination.{Below}
 use Rattle.span.specs.Relation.{least_coefficients}
@@ -70,8 +70,8 @@ DualReduces =
 
 -- A word that is 0 is the combination by 0, and one that has no one in common with `ones` is not reduced; of any other
 -- the reduction says it.
-unfoldable pub least_by : Basis → ℕ → ℕ → Least
-least_by b ones x = cond (x == 0) (Found 0) (cond (bit_and x ones == 0) Missing (answer (at_once b x)))
+unfoldable pub least_by : Basis → ℕ → ℕ → Option ℕ
+least_by b ones x = cond (x == 0) (Some 0) (cond (bit_and x ones == 0) None (answer (at_once b x)))
 
 -- with the ones of the check words the dual basis of words answers with the least coefficients
 abbrev pub LeastBy : Type 0

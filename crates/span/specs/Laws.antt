@@ -15,8 +15,8 @@
 --   DimensionLaw        words below 2^N without a relation are at most N
 --   Spanning            N of them span everything below 2^N
 use Rattle.std.specs.Prelude.{◌≡◌, ℕ, ◌^◌, ◌<◌, ◌≤◌, ◌↔◌, List, [], ◌∷◌, ◌++◌, length, ◌≢◌, bit_and, count_ones}
-use Rattle.span.specs.declared.eliminate.Least.{Least}
-use Rattle.span.specs.declared.eliminate.Least.TheVariants.{Missing}
+use Rattle.std.specs.Prelude.{Option}
+use Rattle.std.specs.Prelude.{None}
 use Rattle.span.specs.Word.{◌⊕◌, odd, common_parity, shifted}
 use Rattle.span.specs.Combination.{combination, Member, Relation, Independent, Below}
 use Rattle.span.specs.Relation.{least_relation, least_coefficients, raised, IsLeast}
@@ -41,17 +41,17 @@ LeastCoefficients =
     (ws : List ℕ) (x : ℕ) → IsLeast (λ (c : ℕ). combination ws c ≡ x) 0 (2 ^ length ws) (least_coefficients ws x)
 
 abbrev pub LeastUnique : Type 1
-LeastUnique = (P : ℕ → Type 0) (a b : ℕ) (r s : Least) → IsLeast P a b r → IsLeast P a b s → r ≡ s
+LeastUnique = (P : ℕ → Type 0) (a b : ℕ) (r s : Option ℕ) → IsLeast P a b r → IsLeast P a b s → r ≡ s
 
 abbrev pub LeastRaised : Type 0
 LeastRaised =
     (ws : List ℕ) (x : ℕ) → least_relation (ws ++ (x ∷ [])) (length ws) ≡ raised (length ws) (least_coefficients ws x)
 
 abbrev pub Membership : Type 0
-Membership = (ws : List ℕ) (x : ℕ) → Member ws x ↔ (least_coefficients ws x ≢ Missing)
+Membership = (ws : List ℕ) (x : ℕ) → Member ws x ↔ (least_coefficients ws x ≢ None)
 
 abbrev pub Independence : Type 0
-Independence = (ws : List ℕ) → Independent ws ↔ (least_relation ws 0 ≡ Missing)
+Independence = (ws : List ℕ) → Independent ws ↔ (least_relation ws 0 ≡ None)
 
 -- a basis has room for 32 words of 64 bits
 abbrev pub ReducesLaw : Type 0

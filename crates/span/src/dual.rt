@@ -7,7 +7,7 @@ ghost use Rattle.span.specs.Dual.{crossed, dual_to, dual, together, at_once, lea
 
 use crate::bits::{common_parity, parity, select};
 use crate::bound::min;
-use crate::eliminate::{Basis, Least, Reduced, basis_of};
+use crate::eliminate::{Basis, Reduced, basis_of};
 
 // A check word, with each of the first `end` new ones added whose vector has an odd count of common ones with it.
 fn dual_check<'a>(vectors: &'a [u64; 32], duals: &'a [u64; 32], check: u64, end: usize) -> u64
@@ -99,18 +99,18 @@ pub fn least_by<'a>(
     coefficients: &'a [u64; 32],
     ones: u64,
     x: u64,
-) -> Least
+) -> Option<u64>
     ensures { result ≡ least_by (basis size vectors.now checks.now coefficients.now) ones x }
 {
     if x == 0 {
-        return Least::Found(0);
+        return Some(0);
     }
     if x & ones == 0 {
-        return Least::Missing;
+        return None;
     }
     let reduced = reduce_at_once(size, vectors, checks, coefficients, x);
     if reduced.rest == 0 {
-        return Least::Found(reduced.coefficients);
+        return Some(reduced.coefficients);
     }
-    Least::Missing
+    None
 }

@@ -1,5 +1,5 @@
 // Elimination over GF(2): a basis by value, and the least relation among words.
-ghost use Rattle.std.specs.Prelude.{◌≡◌, ◌^◌, ◌<◌, ◌≤◌, length, take};
+ghost use Rattle.std.specs.Prelude.{◌≡◌, ◌^◌, ◌<◌, ◌≤◌, None, length, take};
 ghost use Rattle.span.specs.Relation.{least_relation};
 ghost use Rattle.span.specs.Basis.{basis, reduction};
 ghost use Rattle.span.specs.Elimination.{pivot, basis_of};
@@ -25,18 +25,11 @@ pub struct Reduced {
     pub coefficients: u64,
 }
 
-// The least coefficients that a search was for.
-#[derive(Clone, Copy)]
-pub enum Least {
-    Found(u64),
-    Missing,
-}
-
 // Where an elimination stopped: the basis of the words taken up, and the relation that the next word gave.
 #[derive(Clone, Copy)]
 struct Eliminated {
     basis: Basis,
-    found: Least,
+    found: Option<u64>,
 }
 
 // A word reduced by the triples in their order, the arrays lent: no copy of a basis is made in a loop. Any arrays and
@@ -98,7 +91,7 @@ fn check_word(v: u64) -> u64
 fn eliminate(words: &[u64], end: usize, f: usize) -> Eliminated
     requires { (end ≤ length words.now) × (end ≤ 32) }
     ensures relation { result.found ≡ least_relation (take end words.now) f }
-    ensures basis { result.found ≡ Least.Missing → result.basis ≡ basis_of (take end words.now) }
+    ensures basis { result.found ≡ None → result.basis ≡ basis_of (take end words.now) }
 {
     let mut b = Basis {
         size: 0,
@@ -115,7 +108,7 @@ fn eliminate(words: &[u64], end: usize, f: usize) -> Eliminated
             if f <= i {
                 return Eliminated {
                     basis: b,
-                    found: Least::Found(coefficients),
+                    found: Some(coefficients),
                 };
             }
         } else {
@@ -129,7 +122,7 @@ fn eliminate(words: &[u64], end: usize, f: usize) -> Eliminated
     }
     Eliminated {
         basis: b,
-        found: Least::Missing,
+        found: None,
     }
 }
 
@@ -144,7 +137,7 @@ pub(crate) fn basis_of(words: &[u64], count: usize) -> Basis
 
 // The least relation from `f` among the first `count` words, counted as for a basis. There is none where f is the count
 // or above.
-pub fn least_relation(words: &[u64], count: usize, f: usize) -> Least
+pub fn least_relation(words: &[u64], count: usize, f: usize) -> Option<u64>
     ensures { result ≡ least_relation (counted count words.now) f }
 {
     eliminate(words, min(min(count, words.len()), 32), f).found

@@ -10,7 +10,7 @@ use lib.Arith.{digits_lt}
 use lib.ListN.{length, take, length-append, length-map}
 use lib.Seq.{take_all}
 use lib.Pow.{pow_pos, pow-add, shr_lt, shr_mono, split, high, low}
-use Rattle.span.specs.declared.eliminate.Least.TheVariants.{Found, Missing}
+use Rattle.std.specs.Prelude.{Some, None}
 use Rattle.span.specs.Word.{◌⊕◌, shifted}
 use Rattle.span.specs.Combination.{combination, Relation, counted}
 use Rattle.span.specs.Relation.{least_relation, IsLeast}
@@ -60,7 +60,7 @@ module _ (N : ℕ) (rows : List ℕ) (l : ℕ) where
             ∙ xor_self (shifted_image N rows l e1),
       )
 
-  pub clash_found : 1 ≤ l → l < N → (c : ℕ) → least_relation clashWords (length rows) ≡ Found c
+  pub clash_found : 1 ≤ l → l < N → (c : ℕ) → least_relation clashWords (length rows) ≡ Some c
       → LeastAt N rows l (c / 2 ^ length rows) (c % 2 ^ length rows)
   clash_found from to c e =
       let n = length rows in
@@ -86,7 +86,7 @@ module _ (N : ℕ) (rows : List ℕ) (l : ℕ) where
         least_second = λ d1 k. let h = least (c / 2 ^ n) d1 k in omega arith;
       }
 
-  pub clash_missing : least_relation clashWords (length rows) ≡ Missing → (e0 e1 : ℕ) → Clashes N rows l e0 e1 → ⊥
+  pub clash_missing : least_relation clashWords (length rows) ≡ None → (e0 e1 : ℕ) → Clashes N rows l e0 e1 → ⊥
   clash_missing e e0 e1 k =
       let n = length rows in
       let none = subst (IsLeast (Relation clashWords) (2 ^ n) (2 ^ (n + n))) e least-clash in

@@ -7,7 +7,7 @@ ghost use Rattle.tables.specs.Judging.{judgement_of, judging};
 
 use crate::table::{Table, is_fit};
 use span::bits::{mask, shift};
-use span::eliminate::{Least, least_relation};
+use span::eliminate::least_relation;
 
 #[derive(Clone, Copy)]
 pub enum Judgement {
@@ -55,7 +55,7 @@ fn search(rows: &[u64], n: usize, span: usize) -> Judgement
     while l < span {
         let words = clash_words(rows, n, span, l);
         let found = least_relation(&words, n + n, n);
-        if let Least::Found(c) = found {
+        if let Some(c) = found {
             return Judgement::Clash(l as u64, c >> (n as u64), c & mask(n));
         }
         l += 1;

@@ -5,7 +5,7 @@ use native.Mathlib.Nat.{one-mul}
 use native.Mathlib.Omega.{arith}
 use mathlib.Core.Bool.{true}
 use lib.ListN.{length}
-use Rattle.span.specs.declared.eliminate.Least.TheVariants.{Found}
+use Rattle.std.specs.Prelude.{Some}
 use Rattle.tables.specs.Table.{code_rows}
 use Rattle.tables.proofs.Fit.{code-length}
 use Rattle.span.proofs.Masks.{bit_shifted}
@@ -23,19 +23,19 @@ overflow_sub-result c =
     let size : length R ≡ a.n = code-length a.n a.rows.now (omega arith) (omega arith) in
     let one = one_at a.n (omega arith) in
     let f = error_found R c.error_words-words.result a.n a.x size (omega arith) c.error_words-words.ensures
-    c.in-Found.c
-    (sym c.least_relation-relation.ensures ∙ c.in-Found.is) in
+    c.in-Some.c
+    (sym c.least_relation-relation.ensures ∙ c.in-Some.is) in
     omega arith
 
-pub returns-in-Found : goal.returns-in-Found
-returns-in-Found c =
+pub returns-in-Some : goal.returns-in-Some
+returns-in-Some c =
     let a = c.args in
     let R = code_rows a.n a.rows.now in
     let size : length R ≡ a.n = code-length a.n a.rows.now (omega arith) (omega arith) in
     let f = error_found R c.error_words-words.result a.n a.x size (omega arith) c.error_words-words.ensures
-    c.in-Found.c
-    (sym c.least_relation-relation.ensures ∙ c.in-Found.is) in
-    sym (f.1 ∙ ap (λ (y : ℕ). Found (c.in-Found.c - y)) (sym (one_at a.n (omega arith))))
+    c.in-Some.c
+    (sym c.least_relation-relation.ensures ∙ c.in-Some.is) in
+    sym (f.1 ∙ ap (λ (y : ℕ). Some (c.in-Some.c - y)) (sym (one_at a.n (omega arith))))
 
 pub returns : goal.returns
 returns c =

@@ -6,7 +6,7 @@ use borrow.Author.Tests.{lt-ltb, le-ltb}
 use lib.Bits.{bit_xor}
 use lib.Dec.{ltb}
 use lib.ListN.{length}
-use Rattle.span.specs.declared.eliminate.Least.{Least}
+use Rattle.std.specs.Prelude.{Option}
 use Rattle.span.specs.Word.{◌⊕◌}
 use Rattle.span.specs.Combination.{combination}
 use Rattle.span.proofs.Word.{xor-code}
@@ -92,7 +92,7 @@ judged-v-requires c =
     let k = tests at.Start in
     let size : length (rows_of u) ≡ a.t.symbols =
     code-length a.t.symbols a.rows.now (let n = k.sizes.n_from in omega arith) (width at.Start) in
-    subst (λ (f : Least). error_of f < 2 ^ 16) (sym c.explain.ensures)
+    subst (λ (f : Option ℕ). error_of f < 2 ^ 16) (sym c.explain.ensures)
     (error_lt (rows_of u) _ (let n = k.sizes.n_to in omega arith))
 
 pub information-requires : goal.information-requires

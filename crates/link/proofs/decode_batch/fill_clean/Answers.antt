@@ -7,7 +7,7 @@ use lib.Dec.{leb, ltb}
 use lib.ListN.{length, get_or}
 use Rattle.tables.specs.Lent.{with_rows}
 use Rattle.link.proofs.Going.{going_start, turn_taken, turn_next}
-use Rattle.span.specs.declared.eliminate.Least.TheVariants.{Found}
+use Rattle.std.specs.Prelude.{Some}
 use Rattle.span.specs.Word.{◌⊕◌}
 use Rattle.span.specs.Combination.{combination}
 use Rattle.span.proofs.Masks.{above-mask}
@@ -164,7 +164,7 @@ offset_bounds-out-i c =
 
 -- the register 0 is the image of 0
 explained : (c : goal.After-slice_known-in-loop-i-1)
-    → Found 0 ≡ found (rows_of (with_rows c.args.t c.args.rows.now)) c.terms-x.result.register
+    → Some 0 ≡ found (rows_of (with_rows c.args.t c.args.rows.now)) c.terms-x.result.register
 explained c =
     let u = with_rows c.args.t c.args.rows.now in
     let R = rows_of u in
@@ -185,7 +185,7 @@ stepped c =
     let b = c.take_block in
     step_words u c.loop-i.state block c.terms-x.result.w
     (lent_width c.args.t c.args.rows.now c.requires.0 c.requires.1) (joined at.After-terms-x)
-    c.terms-x.result.register o.result c.terms-x.ensures.register o.ensures (Found 0) (explained c)
+    c.terms-x.result.register o.result c.terms-x.ensures.register o.ensures (Some 0) (explained c)
     0 0 Clean (refl, (refl, refl)) b.result b.new.state
     (b.ensures.entry, b.ensures.memory)
 

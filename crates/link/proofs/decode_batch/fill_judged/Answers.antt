@@ -7,7 +7,7 @@ use lib.Dec.{leb, ltb}
 use lib.ListN.{length, get_or}
 use Rattle.tables.specs.Lent.{with_rows}
 use Rattle.link.proofs.Going.{going_start, going_all, turn_declined, turn_taken, turn_next}
-use Rattle.span.specs.declared.eliminate.Least.{Least}
+use Rattle.std.specs.Prelude.{Option}
 use Rattle.span.specs.Word.{◌⊕◌}
 use Rattle.span.specs.Combination.{combination, Below, counted}
 use Rattle.span.specs.Dual.{least_by}
@@ -183,7 +183,7 @@ judged-requires c =
     let u = with_rows c.args.t c.args.rows.now in
     let z = lent_size c.args.t c.args.rows.now c.requires.0 c.requires.1 in
     let n = (fit-facts u c.requires.0).n_to in
-    subst (λ (f : Least). error_of f < 2 ^ 16) (sym (explained at.After-least_by-found))
+    subst (λ (f : Option ℕ). error_of f < 2 ^ 16) (sym (explained at.After-least_by-found))
     (error_lt (rows_of u) c.terms-x.result.register (omega arith))
 
 pub take_block-requires : goal.take_block-requires

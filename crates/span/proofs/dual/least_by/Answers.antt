@@ -1,17 +1,17 @@
 -- `span::dual::least_by_lem`: the tests in their order. Assumes nothing.
 use Rattle.std.proofs.Common.{◌≡◌, sym, ap, ◌∙◌, eq-eqb, ne_eqb}
-use Rattle.span.specs.declared.eliminate.Least.TheVariants.{Found, Missing}
+use Rattle.std.specs.Prelude.{Some, None}
 use Rattle.span.specs.declared.eliminate.Reduced.{Reduced}
 use Rattle.span.specs.Basis.{answer}
 use Rattle.span.specs.Dual.{least_by}
 use Rattle.span.proofs.dual.least_by.Goals as goal
 
 -- what a reduction says of its word
-told : (r : Reduced) → r.rest ≡ 0 → answer r ≡ Found r.coefficients
+told : (r : Reduced) → r.rest ≡ 0 → answer r ≡ Some r.coefficients
 unfolding answer
 told r e = rw (eq-eqb r.rest 0 e)
 
-untold : (r : Reduced) → (r.rest ≡ 0 → ⊥) → answer r ≡ Missing
+untold : (r : Reduced) → (r.rest ≡ 0 → ⊥) → answer r ≡ None
 unfolding answer
 untold r e = rw (ne_eqb r.rest 0 e)
 

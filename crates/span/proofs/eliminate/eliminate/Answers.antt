@@ -6,7 +6,7 @@ use Rattle.span.specs.Basis.{reduction}
 use Rattle.span.specs.Elimination.{basis_of, joined, extended}
 use Rattle.span.specs.declared.eliminate.Basis.{Basis}
 use Rattle.span.specs.declared.eliminate.Reduced.{Reduced}
-use Rattle.span.specs.declared.eliminate.Least.TheVariants.{Found, Missing}
+use Rattle.std.specs.Prelude.{Some, None}
 use Rattle.span.specs.Word.{◌⊕◌}
 use Rattle.span.proofs.Relation.{relation-missing}
 use Rattle.span.proofs.Basis.{joined-passed, joined-stored, turn_basis, turn_found, turn_none}
@@ -17,7 +17,7 @@ use Rattle.span.proofs.eliminate.eliminate.Goals.{then-rest-eq0+else-f-i, else-r
 module _ (words : List ℕ) (end f i : ℕ) (pre : (end ≤ length words) × (end ≤ 32))
     (bound : (j : ℕ) → get_or words j 0 < 2 ^ 64) (h : i < end)
     (b : Basis) (so_far : b ≡ basis_of (take i (take end words)))
-    (none : IsLeast (λ (c : ℕ). combination (take end words) c ≡ 0) (2 ^ f) (2 ^ i) Missing)
+    (none : IsLeast (λ (c : ℕ). combination (take end words) c ≡ 0) (2 ^ f) (2 ^ i) None)
     (r : Reduced) (reduced : r ≡ reduction b (get_or words i 0)) where
   size : length (take end words) ≡ end
   size = length-take-le end words pre.0
@@ -38,7 +38,7 @@ module _ (words : List ℕ) (end f i : ℕ) (pre : (end ≤ length words) × (en
   reduced-word = rw word reduced
 
   found : f ≤ i → r.rest ≡ 0 → (one : ℕ) → one ≡ 2 ^ i
-      → Found (r.coefficients ⊕ one) ≡ least_relation (take end words) f
+      → Some (r.coefficients ⊕ one) ≡ least_relation (take end words) f
   found l e one o =
       rw (o, reduced-word)
       (turn_found (take end words) room below i inside b so_far f none l
@@ -48,12 +48,12 @@ module _ (words : List ℕ) (end f i : ℕ) (pre : (end ≤ length words) × (en
   basis-next = rw reduced-word (turn_basis (take end words) room below i inside b so_far)
 
   none-next : (f ≤ i → r.rest ≡ 0 → ⊥)
-      → IsLeast (λ (c : ℕ). combination (take end words) c ≡ 0) (2 ^ f) (2 ^ (i + 1)) Missing
+      → IsLeast (λ (c : ℕ). combination (take end words) c ≡ 0) (2 ^ f) (2 ^ (i + 1)) None
   none-next ne =
       turn_none (take end words) room below i inside b so_far f none
       (λ l e. ne l (ap (λ (s : Reduced). s.rest) reduced-word ∙ e))
 
-found_some : (c : ℕ) → Found c ≡ Missing → ⊥
+found_some : (c : ℕ) → Some c ≡ None → ⊥
 found_some c e = let z : ◌≡◌ {A = ℕ} 0 1 = cc in omega arith
 
 pub loop-i-init : goal.loop-i-init

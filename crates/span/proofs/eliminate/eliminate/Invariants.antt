@@ -4,12 +4,12 @@ use Rattle.std.proofs.Common.{◌≡◌, ℕ, ◌-◌, ◌^◌, ◌≤◌, take}
 use Rattle.span.specs.Combination.{combination}
 use Rattle.span.specs.Relation.{IsLeast}
 use Rattle.span.specs.Elimination.{basis_of}
-use Rattle.span.specs.declared.eliminate.Least.TheVariants.{Missing}
+use Rattle.std.specs.Prelude.{None}
 use Rattle.span.proofs.eliminate.eliminate.Given as goal
 
 abbrev pub invariant-loop-i : goal.invariant-loop-i
 invariant-loop-i l = (l.i ≤ l.end) × (l.b.size ≤ l.i) × (l.b ≡ basis_of (take l.i (take l.end l.words)))
-    × IsLeast (λ (c : ℕ). combination (take l.end l.words) c ≡ 0) (2 ^ l.f) (2 ^ l.i) Missing
+    × IsLeast (λ (c : ℕ). combination (take l.end l.words) c ≡ 0) (2 ^ l.f) (2 ^ l.i) None
 
 abbrev pub decreases-loop-i : goal.decreases-loop-i
 decreases-loop-i l = l.end - l.i

@@ -26,15 +26,15 @@ none_more N rows l below here k e0 e1 h clash = go (ℕ_discrete k l)
 pub loop-l-init : goal.loop-l-init
 loop-l-init c = (omega arith, λ k e0 e1 h cl. let z = cl.shift_from in omega arith)
 
-pub returns-in-Found : goal.returns-in-Found
-returns-in-Found c =
+pub returns-in-Some : goal.returns-in-Some
+returns-in-Some c =
     let r = c.least_relation-found in
     let w = c.clash_words-words in
     let a = c.args in
     let N = a.span in
     let n = a.n in
     let R = code_rows n a.rows.now in
-    let e = c.in-Found.c in
+    let e = c.in-Some.c in
     let size : length R ≡ n = code-length n a.rows.now (omega arith) (omega arith) in
     let small : min n 64 ≡ n = omega arith in
     let same = r.ensures ∙ clash_counted N R c.loop-l.l n w.result w.ensures size (omega arith) in
@@ -44,7 +44,7 @@ returns-in-Found c =
     let least =
     subst (λ (x : ℕ). LeastAt N R c.loop-l.l (e / 2 ^ n) x) (sym low)
     (subst (λ (k : ℕ). LeastAt N R c.loop-l.l (e / 2 ^ k) (e % 2 ^ k)) size
-    (clash_found N R c.loop-l.l c.loop-l.invariant.0 (omega arith) e (sym same ∙ c.in-Found.is)))
+    (clash_found N R c.loop-l.l c.loop-l.invariant.0 (omega arith) e (sym same ∙ c.in-Some.is)))
     in
     sym (ap judgement_of ((first-clash N R _ _ _).1 (first-at N R _ _ _ c.loop-l.invariant.1 least)))
 
