@@ -3,13 +3,13 @@ ghost use Rattle.std.specs.Prelude.{◌≡◌};
 ghost use Rattle.load.specs.Filling.{load_numbers};
 ghost use Rattle.export.specs.Answers.{number_of};
 
-use load::fill::LoadAnswer;
+use load::fill::LoadError;
 
-pub(crate) fn filled(answer: LoadAnswer) -> u64
+pub(crate) fn filled(answer: Result<(), LoadError>) -> u64
     ensures { result ≡ number_of (load_numbers answer) }
 {
     match answer {
-        LoadAnswer::Filled => 0,
-        LoadAnswer::Refused(k) => k,
+        Ok(()) => 0,
+        Err(e) => e.into(),
     }
 }

@@ -1,94 +1,94 @@
 -- What a call that fills a load answers and leaves. Assumes nothing.
 --
---   load-blocks                                 the lent blocks after a call, by its fault
---   unfit-refused, zero-refused, loads-filled   what `fill_load` promises, of a call that is refused and of one that is
---                                               not
---   load_calls, load_rows                       the theorems
-use mathlib.Core.Path.{◌≡◌, refl, sym, ap, ◌∙◌, subst}
+--   load-blocks             the lent blocks after a call, by its fault
+--   settled                 what `fill_load` promises, once its two tests are settled
+--   load_calls, load_rows   the theorems
+use mathlib.Core.Path.{◌≡◌, refl, sym, ◌∙◌, subst}
 use mathlib.Core.Bool.{Bool, true, false, cond}
-use mathlib.Core.Logic.{◌≢◌, ◌⊎◌, inl, inr}
+use mathlib.Core.Logic.{◌⊎◌, inl, inr}
 use mathlib.Core.List.{List, []}
-use Prim.Native.Nat.{ℕ, ◌-◌, ◌<◌}
-use native.Mathlib.Omega.{arith}
-use borrow.Author.Tests.{eq-eqb, ne_eqb}
+use Prim.Native.Nat.{ℕ, ◌-◌}
 use lib.Dec.{eqb}
 use lib.ListN.{length, take}
+use Rattle.std.specs.Prelude.{Result, Ok, Err}
 use Rattle.tables.specs.declared.table.Table.{Table}
 use Rattle.tables.specs.Table.{table, fit}
 use Rattle.tables.proofs.Fit.{fit_same}
 use Rattle.tables.proofs.Same.{sizes-are}
-use Rattle.link.specs.Refusals.{leaves}
-use Rattle.link.proofs.Refusals.{refuses, takes, call-numbers}
-use Rattle.link.proofs.Calls.{refused-call}
-use Rattle.load.specs.declared.fill.LoadAnswer.{LoadAnswer}
-use Rattle.load.specs.declared.fill.LoadAnswer.TheVariants.{Filled, Refused}
+use Rattle.link.specs.Refusals.{leaves, call_numbers}
+use Rattle.load.specs.declared.fill.LoadError.{LoadError}
+use Rattle.load.specs.declared.fill.LoadError.TheVariants.{UnfitTable, ZeroSeed}
 use Rattle.load.specs.Load.{load_of}
-use Rattle.load.specs.Filling.{load_fault, load_answer, load_blocks, load_numbers, Loads, LoadCalls, LoadRows}
+use Rattle.load.specs.Filling.{refusal_number, load_fault, load_answer, load_blocks, load_numbers, Loads}
+use Rattle.load.specs.Filling.{LoadCalls, LoadRows}
 
 pub load-blocks : (t : Table) (seed : ℕ) (out : List ℕ)
     → load_blocks t seed out ≡ leaves (load_fault t seed) (load_of t seed (length out)) out
 unfolding load_blocks
 load-blocks t seed out = refl
 
-loads-so : (t : Table) (seed : ℕ) (out : List ℕ) (r : LoadAnswer) (out' : List ℕ)
-    → r ≡ load_answer t seed → out' ≡ load_blocks t seed out → Loads t seed out r out'
-unfolding load_answer
-loads-so t seed out r out' p q = record {
-  answer = p;
-  blocks = q;
-  numbers = ap load_numbers p ∙ call-numbers load_numbers (load_fault t seed) Filled Refused [] refl (λ k. refl);
+-- fault, answer and blocks by whether the table is fit, and whether the seed is 0
+abbrev fault_by : Bool → Bool → ℕ
+fault_by f z = cond f (cond z 17 0) 12
+
+abbrev answer_by : Bool → Bool → Result (Unit {0}) LoadError
+answer_by f z = cond f (cond z (Err ZeroSeed) (Ok tt)) (Err UnfitTable)
+
+abbrev blocks_by : Bool → Bool → List ℕ → List ℕ → List ℕ
+blocks_by f z next out = cond f (cond z out next) out
+
+blocks-are : (f z : Bool) (next out : List ℕ) → blocks_by f z next out ≡ leaves (fault_by f z) next out
+unfolding leaves
+blocks-are true true next out = refl
+blocks-are true false next out = refl
+blocks-are false z next out = refl
+
+numbers-are : (f z : Bool) → load_numbers (answer_by f z) ≡ call_numbers (fault_by f z) []
+unfolding call_numbers
+numbers-are true true = refl
+numbers-are true false = refl
+numbers-are false z = refl
+
+pub settled : (t : Table) (seed : ℕ) (out : List ℕ) (f z : Bool) → fit t ≡ f → eqb seed 0 ≡ z
+    → Loads t seed out (answer_by f z) (blocks_by f z (load_of t seed (length out)) out)
+unfolding load_fault load_answer load_blocks
+settled t seed out f z e g = rw (sym e, sym g) record {
+  answer = refl;
+  blocks = blocks-are (fit t) (eqb seed 0) (load_of t seed (length out)) out;
+  numbers = numbers-are (fit t) (eqb seed 0);
 }
-
-load-refuses : (t : Table) (seed : ℕ) (out : List ℕ) (k : ℕ) → load_fault t seed ≡ k → 0 < k
-    → Loads t seed out (Refused k) out
-unfolding load_answer load_blocks
-load-refuses t seed out k e some =
-    let r = refuses Refused (load_fault t seed) Filled (load_of t seed (length out)) out k e some in
-    loads-so t seed out (Refused k) out r.0 r.1
-
-pub unfit-refused : (t : Table) (seed : ℕ) (out : List ℕ) → fit t ≡ false → Loads t seed out (Refused 12) out
-unfolding load_fault
-unfit-refused t seed out f = load-refuses t seed out 12 (simp f) (omega arith)
-
-pub zero-refused : (t : Table) (seed : ℕ) (out : List ℕ) → fit t ≡ true → seed ≡ 0 → Loads t seed out (Refused 17) out
-unfolding load_fault
-zero-refused t seed out f z = load-refuses t seed out 17 (simp (f, eq-eqb seed 0 z)) (omega arith)
-
-filled-so : (t : Table) (seed : ℕ) (out : List ℕ) → load_fault t seed ≡ 0
-    → (Filled ≡ load_answer t seed) × (load_of t seed (length out) ≡ load_blocks t seed out)
-unfolding load_answer load_blocks
-filled-so t seed out e = takes Refused (load_fault t seed) Filled (load_of t seed (length out)) out e
-
-pub loads-filled : (t : Table) (seed : ℕ) (out out' : List ℕ) → fit t ≡ true → seed ≢ 0
-    → out' ≡ load_of t seed (length out) → Loads t seed out Filled out'
-unfolding load_fault
-loads-filled t seed out out' f some e =
-    let r = filled-so t seed out (simp (f, ne_eqb seed 0 some)) in
-    loads-so t seed out Filled out' r.0 (e ∙ r.1)
 
 -- ---- the theorems
 
-load-range : (t : Table) (seed : ℕ) → (load_fault t seed ≡ 0 → ⊥) → (load_fault t seed ≡ 12) ⊎ (load_fault t seed ≡ 17)
-unfolding load_fault
-load-range t seed some = go (fit t) (eqb seed 0) some
+calls-by : (next out : List ℕ) (r : Result (Unit {0}) LoadError) (out' : List ℕ) (f z : Bool)
+    → r ≡ answer_by f z → out' ≡ blocks_by f z next out
+    → ((e : LoadError) → r ≡ Err e
+    → let k = refusal_number e in
+    (k ≡ fault_by f z) × ((k ≡ 12) ⊎ (k ≡ 17)) × (out' ≡ out))
+    × (fault_by f z ≡ 0 → (r ≡ Ok tt) × (out' ≡ next))
+calls-by next out r out' true true p q = (zero, λ g. cc)
   where
-    fault : Bool → Bool → ℕ
-    fault f z = cond f (cond z 17 0) 12
-
-    go : (f z : Bool) → (fault f z ≡ 0 → ⊥) → (fault f z ≡ 12) ⊎ (fault f z ≡ 17)
-    go true true some = inr refl
-    go true false some = absurd (some refl)
-    go false z some = inl refl
+    zero : (e : LoadError) → r ≡ Err e
+        → let k = refusal_number e in
+        (k ≡ 17) × ((k ≡ 12) ⊎ (k ≡ 17)) × (out' ≡ out)
+    zero UnfitTable g = cc
+    zero ZeroSeed g = (refl, inr refl, q)
+calls-by next out r out' true false p q = (λ e g. cc, λ g. (p, q))
+calls-by next out r out' false z p q = (unfit, λ g. cc)
+  where
+    unfit : (e : LoadError) → r ≡ Err e
+        → let k = refusal_number e in
+        (k ≡ 12) × ((k ≡ 12) ⊎ (k ≡ 17)) × (out' ≡ out)
+    unfit UnfitTable g = (refl, inl refl, q)
+    unfit ZeroSeed g = cc
 
 pub load_calls : LoadCalls
-unfolding load_answer load_blocks
-load_calls t seed out r out' l = (
-  λ k e.
-      let c = refused-call Refused (load_fault t seed) k Filled (load_of t seed (length out)) out (sym l.answer ∙ e)
-      (λ z. let w : ◌≡◌ {A = ℕ} 0 1 = cc in omega arith) (λ i z. cc) in
-      (c.0, subst (λ (j : ℕ). (j ≡ 12) ⊎ (j ≡ 17)) (sym c.0) (load-range t seed c.1), l.blocks ∙ c.2),
-  λ e. (l.answer ∙ sym (filled-so t seed out e).0, l.blocks ∙ sym (filled-so t seed out e).1),
-)
+unfolding load_fault load_answer load_blocks
+load_calls t seed out r out' l =
+    let next = load_of t seed (length out) in
+    let f = fit t in
+    let z = eqb seed 0 in
+    calls-by next out r out' f z l.answer (l.blocks ∙ sym (blocks-are f z next out))
 
 module _ (n N m : ℕ) (us ts : List ℕ) (e : take (n - 1) us ≡ take (n - 1) ts) (seed : ℕ) where
   faults : load_fault (table n N m us) seed ≡ load_fault (table n N m ts) seed
@@ -97,7 +97,7 @@ module _ (n N m : ℕ) (us ts : List ℕ) (e : take (n - 1) us ≡ take (n - 1) 
 
   answers : load_answer (table n N m us) seed ≡ load_answer (table n N m ts) seed
   unfolding load_answer
-  answers = rw faults
+  answers = rw (fit_same n N m us ts e)
 
   blocks : (out : List ℕ) → load_blocks (table n N m us) seed out ≡ load_blocks (table n N m ts) seed out
   unfolding load_blocks

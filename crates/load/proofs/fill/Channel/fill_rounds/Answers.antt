@@ -4,7 +4,7 @@ use native.Mathlib.Omega.{arith}
 use borrow.Rule.Slice.PartMut.{put_mid, same_len_mid, mid_len}
 use lib.ListN.{length}
 use Rattle.load.proofs.Rounds.{Goes, goes_first, goes_on, goes-all}
-use Rattle.load.proofs.fill.fill_rounds.Goals as goal
+use Rattle.load.proofs.fill.Channel.fill_rounds.Goals as goal
 
 pub loop-at-init : goal.loop-at-init
 loop-at-init c = goes_first _ _ _ _ _
@@ -14,7 +14,7 @@ turned : (c : goal.After-struct_known-1)
     → let l = c.loop-at in
     let a = c.args in
     let r = c.fill_round-r in
-    Goes a.n a.depth a.guard a.seed (length a.out.now) (l.at + r.result.length)
+    Goes a.self.symbols a.self.depth a.self.guard a.seed (length a.out.now) (l.at + r.result.length)
     r.result.next.state (put_mid l.at (length l.out - l.at) l.out r.new.out)
     × (1 ≤ r.result.length)
 turned c =
@@ -23,7 +23,7 @@ turned c =
     let r = c.fill_round-r in
     let all = l.invariant.size in
     let part = mid_len l.at (length l.out) l.out (omega arith) in
-    goes_on a.n a.depth a.guard a.seed (length a.out.now) l.at l.g.state r.result.length
+    goes_on a.self.symbols a.self.depth a.self.guard a.seed (length a.out.now) l.at l.g.state r.result.length
     r.result.next.state _ l.out r.new.out _ _ l.invariant (omega arith)
     (part ∙ ap (λ (k : ℕ). k - l.at) all) r.ensures.size r.ensures.blocks r.ensures.generator
     (same_len_mid l.at (length l.out - l.at) l.out r.new.out r.auto.out ∙ all)
