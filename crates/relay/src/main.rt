@@ -2,12 +2,10 @@
 // decodes what it received by the batch. Prints a line a delivery: its number, the level and the mark.
 #![tactic(auto)]
 
-ghost use Rattle.std.specs.Prelude.{◌≡◌, ◌≤◌, length, take};
-
 use link::code_batch::code_batch;
 use link::decode_batch::decode_batch;
 use link::start::{StartAnswer, start_coder, start_decoder};
-use std::io;
+use std::{array, fmt, io};
 use tables::make::{MakeAnswer, make};
 use tables::table::Table;
 
@@ -24,6 +22,58 @@ const LEVELS: usize = 24;
 
 // As many more as the decoder's delay, m × (N − 1), so that the last level is delivered.
 const BLOCKS: usize = LEVELS + DEPTH * (SPAN - 1);
+
+// What the decoder found of a block.
+#[derive(Clone, Copy)]
+enum Mark {
+    Clean,
+    Held,
+    Corrected,
+    Doubtful,
+    Parity,
+}
+
+impl fmt::Display for Mark {
+    fn fmt<W: fmt::Write>(&self, f: &mut fmt::Formatter<W>) -> fmt::Result {
+        match self {
+            Mark::Clean => write!(f, "clean"),
+            Mark::Held => write!(f, "held"),
+            Mark::Corrected => write!(f, "corrected"),
+            Mark::Doubtful => write!(f, "doubtful"),
+            Mark::Parity => write!(f, "parity"),
+        }
+    }
+}
+
+#[derive(Clone, Copy)]
+struct Delivery {
+    level: u16,
+    mark: Mark,
+}
+
+impl Delivery {
+    // An entry of the decoder is mark × 65536 + information. Mark 0 is nothing yet.
+    fn from_entry(entry: u32) -> Option<Delivery> {
+        let mark = match entry / 65536 {
+            1 => Mark::Clean,
+            2 => Mark::Held,
+            3 => Mark::Corrected,
+            4 => Mark::Doubtful,
+            5 => Mark::Parity,
+            _ => return None,
+        };
+        Some(Delivery {
+            level: (entry % 65536) as u16,
+            mark,
+        })
+    }
+}
+
+impl fmt::Display for Delivery {
+    fn fmt<W: fmt::Write>(&self, f: &mut fmt::Formatter<W>) -> fmt::Result {
+        write!(f, "{} {}", self.level, self.mark)
+    }
+}
 
 // In mm: the water rises to a crest, and falls. After the last level come zeros.
 fn level(block: usize) -> u16 {
@@ -46,82 +96,36 @@ fn error(block: usize) -> u16 {
     }
 }
 
-fn measure(infos: &mut [u16]) {
-    let mut i = 0;
-    while i < infos.len() {
-        infos[i] = level(i);
-        i += 1;
+// The channel. An entry of the coder is the coded block. Returns the part of the lent blocks that it filled.
+fn receive<'a>(sent: &[u32], received: &'a mut [u16]) -> &'a [u16] {
+    let count = sent.len().min(received.len());
+    let received = &mut received[..count];
+    for (i, (entry, block)) in sent.iter().zip(received.iter_mut()).enumerate() {
+        *block = ((entry % 65536) as u16) ^ error(i);
     }
+    received
 }
 
-// The channel. An entry of the coder is the coded block. Returns how many blocks are received.
-fn receive(sent: &[u32], received: &mut [u16]) -> usize
-    ensures within { result ≤ length received.new }
-    ensures front { result ≡ length (take result received.new) }
-{
-    let mut i = 0;
-    while i < received.len() {
-        if sent.len() <= i {
-            return i;
-        }
-        received[i] = ((sent[i] % 65536) as u16) ^ error(i);
-        i += 1;
-    }
-    i
-}
-
-fn print_number(rt: &impl Print, number: u64, after: &str) -> io::Result<()> {
-    print!(rt; "{number}{after}")
-}
-
-// 5 is parity. 0 is nothing yet, and does not come here.
-fn print_mark(rt: &impl Print, mark: u32) -> io::Result<()> {
-    match mark {
-        1 => println!(rt; "clean"),
-        2 => println!(rt; "held"),
-        3 => println!(rt; "corrected"),
-        4 => println!(rt; "doubtful"),
-        _ => println!(rt; "parity"),
-    }
-}
-
-// An entry of the decoder is mark × 65536 + information.
-fn print_delivery(rt: &impl Print, number: u64, entry: u32) -> io::Result<()> {
-    print_number(rt, number, " ")?;
-    print_number(rt, (entry % 65536) as u64, " ")?;
-    print_mark(rt, entry / 65536)
-}
-
-// Mark 0 is nothing yet, and has no line.
 fn print(rt: &impl Print, entries: &[u32]) -> io::Result<()> {
-    let mut number = 0;
-    let mut i = 0;
-    while i < entries.len() {
-        if entries[i] >= 65536 {
-            print_delivery(rt, number, entries[i])?;
-            number += 1;
-        }
-        i += 1;
+    let deliveries = entries
+        .iter()
+        .filter_map(|entry| Delivery::from_entry(*entry));
+    for (number, delivery) in deliveries.enumerate() {
+        println!(rt; "{number} {delivery}")?;
     }
     Ok(())
-}
-
-fn print_refusal(rt: &impl Print, number: u64) -> io::Result<()> {
-    print!(rt; "refused ")?;
-    print_number(rt, number, "\n")
 }
 
 // A batch returns the part of the lent entries that it filled, one entry a block taken. It ends where these are full, and
 // before a block that the single call would refuse; that call says why.
 fn relay(rt: &impl Print, t: Table, coder: &mut [u64], decoder: &mut [u64]) -> io::Result<()> {
-    let mut infos = [0u16; BLOCKS];
-    let mut received = [0u16; BLOCKS];
-    let mut coded = [0u32; BLOCKS];
-    let mut decoded = [0u32; BLOCKS];
-    measure(&mut infos);
-    let sent = code_batch(t, coder, &infos, &mut coded);
-    let count = receive(sent, &mut received);
-    let entries = decode_batch(t, decoder, &received[..count], &mut decoded);
+    let levels: [u16; BLOCKS] = array::from_fn(level);
+    let mut coded = [0; BLOCKS];
+    let mut received = [0; BLOCKS];
+    let mut decoded = [0; BLOCKS];
+    let sent = code_batch(t, coder, &levels, &mut coded);
+    let arrived = receive(sent, &mut received);
+    let entries = decode_batch(t, decoder, arrived, &mut decoded);
     print(rt, entries)?;
     if entries.len() < BLOCKS {
         println!(rt; "not all blocks were taken")?;
@@ -133,10 +137,10 @@ fn start(rt: &impl Print, t: Table) -> io::Result<()> {
     let mut coder = [0u64; 1 + DEPTH];
     let mut decoder = [0u64; 2 + DEPTH * (SPAN + 1)];
     if let StartAnswer::Refused(k) = start_coder(t, &mut coder) {
-        return print_refusal(rt, k);
+        return println!(rt; "refused {k}");
     }
     if let StartAnswer::Refused(k) = start_decoder(t, &mut decoder) {
-        return print_refusal(rt, k);
+        return println!(rt; "refused {k}");
     }
     relay(rt, t, &mut coder, &mut decoder)
 }
@@ -147,6 +151,6 @@ fn main(rt: HostRuntime) -> io::Result<()> {
     let answer = made.answer;
     match answer {
         MakeAnswer::Made => start(&rt, made.table),
-        MakeAnswer::OutOfRange => print_refusal(&rt, 11),
+        MakeAnswer::OutOfRange => println!(&rt; "refused 11"),
     }
 }
