@@ -10,14 +10,13 @@ use span::bits::select;
 use span::combine::combination;
 
 // D^7 + D^18 and D^3 + D^15: bit k is the coefficient of D^k.
-const GENERATORS: [u64; 2] = [262272, 32776];
+const GENERATORS: [u64; 2] = [1 << 7 | 1 << 18, 1 << 3 | 1 << 15];
 
 // The generators of the ones in a block's information, added.
 pub(crate) fn image(info: u64) -> u64
     ensures { result ≡ combination generators info }
 {
-    let rows = GENERATORS;
-    combination(&rows, 2, info)
+    combination(&GENERATORS, GENERATORS.len(), info)
 }
 
 // The first of refusals 13 to 15 that applies, or 0.

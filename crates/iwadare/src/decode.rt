@@ -7,6 +7,7 @@ ghost use Rattle.iwadare.specs.Refusals.{decoder_malformed, decoder_fault};
 ghost use Rattle.iwadare.specs.Decoder.{flips_symbol1, flips_symbol0, terms_next, delivery, decoder_next, Decodes};
 
 use crate::code::image;
+use crate::memory::{DELAY, DELAYED_BOUND, PENDING_BOUND, TERMS_BOUND};
 use link::stream::push;
 use span::bits::select;
 
@@ -19,12 +20,15 @@ pub enum DecodeAnswer {
     Refused(u64),
 }
 
+// The weight of the newest of 13 terms.
+const NEWEST: u64 = 1 << 12;
+
 // What 13 terms say: the terms that stay, and what is flipped of the block 18 back and of the one 15 back.
 #[derive(Clone, Copy)]
 struct Verdict {
-    pub terms: u64,
-    pub symbol0: u64,
-    pub symbol1: u64,
+    terms: u64,
+    symbol0: u64,
+    symbol1: u64,
 }
 
 // ---- refusals
@@ -41,7 +45,7 @@ fn delayed_above(state: &[u64]) -> bool
         seen |= state[3 + i];
         i += 1;
     }
-    4 <= seen
+    DELAYED_BOUND <= seen
 }
 
 // The condition of 14.
@@ -49,16 +53,7 @@ fn malformed(state: &[u64]) -> bool
     requires { length state.now ≡ 21 }
     ensures { result ≡ decoder_malformed state.now }
 {
-    if 18 < state[0] {
-        return true;
-    }
-    if 262144 <= state[1] {
-        return true;
-    }
-    if 4096 <= state[2] {
-        return true;
-    }
-    delayed_above(state)
+    DELAY < state[0] || PENDING_BOUND <= state[1] || TERMS_BOUND <= state[2] || delayed_above(state)
 }
 
 // The first of refusals 13 to 15 that applies, or 0.
@@ -86,38 +81,35 @@ fn judged(x: u64) -> Verdict
     ensures symbol0 { result.symbol0 ≡ sel (flips_symbol0 x) 1 }
     ensures symbol1 { result.symbol1 ≡ sel (flips_symbol1 x) 2 }
 {
-    if x < 4096 {
-        return Verdict {
-            terms: x >> 1,
-            symbol0: 0,
-            symbol1: 0,
-        };
+    let unflipped = Verdict {
+        terms: x >> 1,
+        symbol0: 0,
+        symbol1: 0,
+    };
+    if x < NEWEST {
+        return unflipped;
     }
     if x % 2 == 1 {
         return Verdict {
-            terms: (x ^ 4097) >> 1,
-            symbol0: 0,
+            terms: (x ^ (NEWEST | 1)) >> 1,
             symbol1: 2,
+            ..unflipped
         };
     }
     if (x >> 1) % 2 == 1 {
         return Verdict {
-            terms: (x ^ 4098) >> 1,
+            terms: (x ^ (NEWEST | 2)) >> 1,
             symbol0: 1,
-            symbol1: 0,
+            ..unflipped
         };
     }
-    Verdict {
-        terms: x >> 1,
-        symbol0: 0,
-        symbol1: 0,
-    }
+    unflipped
 }
 
 fn next_fill(fill: u64) -> u64
     ensures { result ≡ fill_next fill }
 {
-    if fill < 18 { fill + 1 } else { fill }
+    if fill < DELAY { fill + 1 } else { fill }
 }
 
 // The block 15 back, flipped in the symbol of that weight. Where that is 0 nothing is written, so that the word is not
@@ -153,10 +145,10 @@ fn taken(state: &mut [u64], received: u64) -> DecodeAnswer
 {
     let fill = state[0];
     let w = state[1] ^ image(received);
-    let v = judged(state[2] + select(4096, w ^ (received >> 2)));
+    let v = judged(state[2] + select(NEWEST, w ^ (received >> 2)));
     let oldest = state[3] ^ v.symbol0;
     keep(state, w, v.terms, v.symbol1, received % 4);
-    if fill < 18 {
+    if fill < DELAY {
         return DecodeAnswer::NothingYet;
     }
     DecodeAnswer::Delivery(oldest as u16)

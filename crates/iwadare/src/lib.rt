@@ -3,4 +3,5 @@
 
 pub mod code;
 pub mod decode;
+mod memory;
 pub mod start;

@@ -39,16 +39,16 @@ oldest x s e = bit-zero x ∙ odd-of s x e
 second : (x : ℕ) (s : Bool) → x / 2 % 2 ≡ digit s → bit 1 x ≡ s
 second x s e = bit-odd 1 x ∙ odd-of s (x / 2) e
 
-pub returns-then-x-lt4096 : goal.returns-then-x-lt4096
-returns-then-x-lt4096 c =
+pub returns-then-x-lt-NEWEST : goal.returns-then-x-lt-NEWEST
+returns-then-x-lt-NEWEST c =
     let x = c.args.x in
-    let f = flips x false _ _ (bit-none 12 x c.if-x-lt4096.true) refl refl in
+    let f = flips x false _ _ (bit-none 12 x c.if-x-lt-NEWEST.true) refl refl in
     verdict x false false x f.0 f.1 (unflipped x)
 
 pub returns-then-x-eq1 : goal.returns-then-x-eq1
 returns-then-x-eq1 c =
     let x = c.args.x in
-    let f = flips x true _ true (bit-top 12 x c.if-x-lt4096.false c.requires) refl
+    let f = flips x true _ true (bit-top 12 x c.if-x-lt-NEWEST.false c.requires) refl
     (oldest x true c.if-x-eq1.true) in
     verdict x true false (bit_xor x 4097) f.0 (f.1 ∙ and-false (bit 1 x))
     (xor-code x 4097 ∙ ap (λ (y : ℕ). x ⊕ y) (sym (xor_zero_r 4097)))
@@ -56,7 +56,7 @@ returns-then-x-eq1 c =
 pub returns-then-x-eq1-2 : goal.returns-then-x-eq1-2
 returns-then-x-eq1-2 c =
     let x = c.args.x in
-    let f = flips x true true false (bit-top 12 x c.if-x-lt4096.false c.requires)
+    let f = flips x true true false (bit-top 12 x c.if-x-lt-NEWEST.false c.requires)
     (second x true c.if-x-eq1-2.true) (oldest x false (omega arith)) in
     verdict x false true (bit_xor x 4098) f.0 f.1
     (xor-code x 4098 ∙ ap (λ (y : ℕ). x ⊕ y) (sym (xor_zero_l 4098)))
@@ -64,6 +64,6 @@ returns-then-x-eq1-2 c =
 pub returns : goal.returns
 returns c =
     let x = c.args.x in
-    let f = flips x true false false (bit-top 12 x c.if-x-lt4096.false c.requires)
+    let f = flips x true false false (bit-top 12 x c.if-x-lt-NEWEST.false c.requires)
     (second x false (omega arith)) (oldest x false (omega arith)) in
     verdict x false false x f.0 f.1 (unflipped x)

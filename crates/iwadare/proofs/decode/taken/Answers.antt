@@ -98,16 +98,16 @@ kept c =
     (register_is a.state.now a.received i.result i.ensures c.select.result c.select.ensures)
     v.ensures.terms v.ensures.symbol1
 
-pub returns-then-fill-lt18 : goal.returns-then-fill-lt18
+pub returns-then-fill-lt-DELAY : goal.returns-then-fill-lt-DELAY
 unfolding delivery
-returns-then-fill-lt18 c =
+returns-then-fill-lt-DELAY c =
     let a = c.args in
     let s = a.state.now in
     record {
       answer =
           picked (ltb (fill_of s) delay) NothingYet (Delivery (delivered s a.received))
-          (lt-ltb (fill_of s) delay c.if-fill-lt18.true);
-      memory = kept (goal.at.returns-then-fill-lt18 c).After-keep;
+          (lt-ltb (fill_of s) delay c.if-fill-lt-DELAY.true);
+      memory = kept (goal.at.returns-then-fill-lt-DELAY c).After-keep;
     }
 
 -- the information that is delivered
@@ -136,6 +136,6 @@ returns c =
       answer =
           ap Delivery (flipped (goal.at.returns c).After-keep)
           ∙ passed (ltb (fill_of s) delay) NothingYet (Delivery (delivered s a.received))
-          (le-ltb (fill_of s) delay c.if-fill-lt18.false);
+          (le-ltb (fill_of s) delay c.if-fill-lt-DELAY.false);
       memory = kept (goal.at.returns c).After-keep;
     }
