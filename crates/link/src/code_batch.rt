@@ -24,8 +24,7 @@ fn fill(t: Table, rows: &[u64], state: &mut [u64], infos: &[u16], out: &mut [u32
     let most = mask(width);
     let weight = one_at(width);
     let end = min(infos.len(), out.len());
-    let mut i = 0;
-    while i < end {
+    for i in 0..end {
         let info = infos[i] as u64;
         if malformed(t.span, t.depth, state) {
             return i;
@@ -35,9 +34,8 @@ fn fill(t: Table, rows: &[u64], state: &mut [u64], infos: &[u16], out: &mut [u32
         }
         let image = look_up(&tables, info);
         out[i] = taken(t.depth as u64, weight, state, info, image) as u32;
-        i += 1;
     }
-    i
+    end
 }
 
 // Codes the blocks one after another into `out`, and answers how many: it ends where no block is left, where `out` is

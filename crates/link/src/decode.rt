@@ -163,11 +163,7 @@ pub(crate) fn error_words(rows: &[u64], n: usize, x: u64) -> [u64; 32]
     ensures { take (n + 1) result ≡ code_rows n rows.now ++ (x ∷ []) }
 {
     let mut words = [0u64; 32];
-    let mut i = 0;
-    while i < n - 1 {
-        words[i] = rows[i];
-        i += 1;
-    }
+    words[..n - 1].copy_from_slice(&rows[..n - 1]);
     words[n - 1] = 1;
     words[n] = x;
     words

@@ -16,11 +16,7 @@ pub enum StartAnswer {
 fn clear(state: &mut [u64])
     ensures { state.new ≡ replicate (length state.old) 0 }
 {
-    let mut i = 0;
-    while i < state.len() {
-        state[i] = 0;
-        i += 1;
-    }
+    state.fill(0);
 }
 
 fn fits(t: Table) -> bool

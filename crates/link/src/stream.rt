@@ -35,10 +35,10 @@ pub fn push(words: &mut [u64], from: usize, youngest: u64)
         return;
     }
     let last = words.len() - 1;
-    let mut i = from;
-    while i < last {
+    // Not `copy_within`: with it a decoder's step on right blocks takes 0.7 ns more where n is 2 (of 21.0), 1.3 ns more
+    // where n is 16 (of 36.8), and a batch's 0.3 to 0.7 ns more.
+    for i in from..last {
         words[i] = words[i + 1];
-        i += 1;
     }
     words[last] = youngest;
 }

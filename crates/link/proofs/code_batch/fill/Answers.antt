@@ -227,6 +227,9 @@ unfolding code_batch
 returns c =
     let u = with_rows c.args.t c.args.rows.now in
     let a = c.args in
-    reached_all (λ s b. code_entries (code_answer u s b)) (code_memory u) a.state.now a.infos.now a.out.now
+    let all : c.loop-i.i ≡ c.min-end.result = omega arith in
+    subst (λ (k : ℕ). Fills (code_batch u (length a.out.now) a.state.now a.infos.now) a.out.now k c.loop-i.state
+    c.loop-i.out) all
+    (reached_all (λ s b. code_entries (code_answer u s b)) (code_memory u) a.state.now a.infos.now a.out.now
     c.loop-i.i c.loop-i.state c.loop-i.out c.loop-i.invariant.0
-    (let e = c.min-end.ensures in omega arith)
+    (let e = c.min-end.ensures in omega arith))
