@@ -7,8 +7,8 @@ ghost use Rattle.link.specs.Memory.{turn_of, pending_at, next_turn};
 ghost use Rattle.link.specs.Refusals.{coder_malformed, coder_fault};
 ghost use Rattle.link.specs.Coder.{Codes};
 
-use crate::stream::{next_turn, one_at};
-use span::bits::{mask, select};
+use crate::stream::next_turn;
+use span::bits::{mask, one_at, select};
 use span::combine::combination;
 use tables::table::{Table, lent_fits};
 

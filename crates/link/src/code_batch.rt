@@ -6,9 +6,7 @@ ghost use Rattle.tables.specs.Table.{fit};
 ghost use Rattle.link.specs.Batch.{code_batch, Fills, FillsPart};
 
 use crate::code::{malformed, taken};
-use crate::stream::one_at;
-use span::bits::mask;
-use span::bound::min;
+use span::bits::{mask, one_at};
 use span::lookup::{look_up, lookup_of};
 use tables::table::{Table, lent_fits};
 
@@ -23,7 +21,7 @@ fn fill(t: Table, rows: &[u64], state: &mut [u64], infos: &[u16], out: &mut [u32
     let tables = lookup_of(rows, width);
     let most = mask(width);
     let weight = one_at(width);
-    let end = min(infos.len(), out.len());
+    let end = infos.len().min(out.len());
     for i in 0..end {
         let info = infos[i] as u64;
         if malformed(t.span, t.depth, state) {

@@ -10,8 +10,8 @@ ghost use Rattle.link.specs.Step.{information, found, error_of, kept_of, mark_fo
 ghost use Rattle.link.specs.Refusals.{some_above, decoder_malformed, decoder_fault};
 ghost use Rattle.link.specs.Decoder.{advanced, decoder_next, delivery, Decodes};
 
-use crate::stream::{next_turn, one_at, push};
-use span::bits::{mask, select};
+use crate::stream::{next_turn, push};
+use span::bits::{mask, one_at, select};
 use span::combine::combination;
 use span::eliminate::least_relation;
 use tables::table::{Table, lent_fits};

@@ -12,10 +12,8 @@ ghost use Rattle.link.specs.Decoder.{advanced, mark_number};
 ghost use Rattle.link.specs.Batch.{decode_entry, decode_batch, Fills, FillsPart, Reached};
 
 use crate::decode::{Mark, Verdict, error_words, information, judged, keep, malformed, terms};
-use crate::stream::one_at;
-use span::bits::mask;
-use span::bound::min;
-use span::dual::{dual_basis, least_by, together};
+use span::bits::{mask, one_at};
+use span::dual::dual_basis;
 use span::lookup::{look_up, lookup_of};
 use tables::table::{Table, lent_fits};
 
@@ -106,11 +104,11 @@ fn fill_judged(t: Table, rows: &[u64], state: &mut [u64], blocks: &[u16], out: &
     let words = error_words(rows, t.symbols, 0);
     let tables = lookup_of(&words, t.symbols);
     let b = dual_basis(&words, t.symbols);
-    let ones = together(&b.checks, b.size);
+    let ones = b.ones();
     let most = mask(t.symbols);
     let top = one_at(t.span - 1);
     let weight = one_at(t.symbols - 1);
-    let end = min(blocks.len(), out.len());
+    let end = blocks.len().min(out.len());
     let mut i = 0;
     while i < end {
         let received = blocks[i] as u64;
@@ -118,14 +116,7 @@ fn fill_judged(t: Table, rows: &[u64], state: &mut [u64], blocks: &[u16], out: &
             return i;
         }
         let x = terms(state, t.span, top, look_up(&tables, received));
-        let found = least_by(
-            b.size,
-            &b.vectors,
-            &b.checks,
-            &b.coefficients,
-            ones,
-            x.register,
-        );
+        let found = b.least(ones, x.register);
         out[i] = take_block(
             state,
             t.symbols,
@@ -153,7 +144,7 @@ fn fill_clean(t: Table, rows: &[u64], state: &mut [u64], blocks: &[u16], out: &m
     let tables = lookup_of(&words, t.symbols);
     let most = mask(t.symbols);
     let top = one_at(t.span - 1);
-    let end = min(blocks.len(), out.len());
+    let end = blocks.len().min(out.len());
     let mut i = 0;
     while i < end {
         let received = blocks[i] as u64;
@@ -190,7 +181,7 @@ fn fill(t: Table, rows: &[u64], state: &mut [u64], blocks: &[u16], out: &mut [u3
         blocks.now) out.old result state.new out.new }
 {
     let i = fill_clean(t, rows, state, blocks, out);
-    if min(blocks.len(), out.len()) <= i {
+    if blocks.len().min(out.len()) <= i {
         return i;
     }
     i + fill_judged(t, rows, state, &blocks[i..], &mut out[i..])

@@ -1,16 +1,6 @@
-// What steps do alike: the weight of a bit, the turn, and delayed blocks that move.
-ghost use Rattle.std.specs.Prelude.{◌≡◌, ◌^◌, ◌≤◌, ◌<◌};
+// What steps do alike: the turn, and delayed blocks that move.
+ghost use Rattle.std.specs.Prelude.{◌≡◌, ◌≤◌, ◌<◌};
 ghost use Rattle.link.specs.Memory.{next_turn, pushed};
-
-use span::bits::shift;
-
-// The weight of a bit.
-pub(crate) fn one_at(place: usize) -> u64
-    requires { place < 64 }
-    ensures { result ≡ 2 ^ place }
-{
-    shift(1, place, 64)
-}
 
 // The turn after a step. An out-of-range turn is followed by 0.
 pub(crate) fn next_turn(depth: u64, turn: u64) -> u64

@@ -6,7 +6,6 @@ ghost use Rattle.load.specs.Filling.{refusal_number, Loads};
 
 use crate::generator::Generator;
 use span::bits::mask;
-use span::bound::min;
 use tables::table::{Table, is_fit};
 
 // Why no load is filled, with the numbers 12 and 17.
@@ -73,10 +72,10 @@ impl Channel {
             → result.next.state ≡ after_round self.depth generator.state }
     {
         let d = generator.draw();
-        let burst = min(1 + (d.number as usize) % self.depth, out.len());
+        let burst = (1 + (d.number as usize) % self.depth).min(out.len());
         let g = self.fill_errors(&mut out[..burst], d.next);
         let d = g.draw();
-        let end = min(burst + self.guard + (d.number as usize) % 16, out.len());
+        let end = (burst + self.guard + (d.number as usize) % 16).min(out.len());
         out[burst..end].fill(0);
         Round {
             length: end,

@@ -2,6 +2,7 @@
 pub mod Word
 pub mod Masks
 pub mod Stored
+pub mod Together
 pub mod Combination
 pub mod Relation
 mod Elimination

@@ -5,6 +5,7 @@
 --   or_above      the ones of two words together are 2^k or more exactly if one of the words is
 --   bit-most      a bit at place k is at most 2^k
 --   bit_shifted   no bit is lost where it is shifted to a place of the word
+--   weight_fits   the weight of a place of the word is a word
 --   topped-lt     a number below 2^k with a bit at place k is below 2^(k+1)
 use Rattle.std.proofs.Common.{◌≡◌, ℕ, suc, ◌+◌, ◌-◌, ◌*◌, ◌%◌, ◌^◌, ◌<◌, ◌≤◌, min, Bool, true, false, ◌||◌, ltb, leb}
 use Rattle.std.proofs.Common.{sym, ap, ◌∙◌, mod-eq_of_lt, one-mul, zero-mul, arith, pow_pos, pow_mono, le-ltb, lt-ltb}
@@ -12,6 +13,7 @@ use Rattle.std.proofs.Common.{le-leb}
 use native.Mathlib.Decide.{dec_lt}
 use borrow.Author.Tests.{lt-leb}
 use lib.Bits.{bit_and, bit_or, and_mask, or_lt, or_add_and, and_le_l, and_le_r}
+use lib.Pow.{pow-lt}
 use Rattle.span.specs.Word.{digit}
 
 pub above-mask : (k r x : ℕ) → k ≤ 64 → r ≡ 2 ^ min k 64 - 1 → ltb r x ≡ leb (2 ^ k) x
@@ -58,6 +60,9 @@ bit_shifted s k h =
     let p = pow_pos k in
     let m : 2 ^ suc k ≤ 2 ^ 64 = pow_mono h in
     mod-eq_of_lt (omega arith)
+
+pub weight_fits : (place : ℕ) → place < 64 → 2 ^ place % 2 ^ 64 ≡ 2 ^ place
+weight_fits place h = mod-eq_of_lt (pow-lt h)
 
 -- a number below 2^k with a bit at place k: a coded block, its parity above the information
 pub topped-lt : (ν b : ℕ) (s : Bool) → b < 2 ^ ν → b + digit s * 2 ^ ν < 2 ^ suc ν

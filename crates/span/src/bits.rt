@@ -1,5 +1,5 @@
 // One word: the parity of the ones that it has in common with another, selection, masks and shifts.
-ghost use Rattle.std.specs.Prelude.{◌≡◌, ◌-◌, ◌^◌, min};
+ghost use Rattle.std.specs.Prelude.{◌≡◌, ◌-◌, ◌%◌, ◌^◌, min};
 ghost use Rattle.span.specs.Word.{sel, digit, odd, common_parity, shifted};
 
 use std::num::wrapping_sub_u64;
@@ -49,4 +49,11 @@ pub fn shift(word: u64, by: usize, bits: usize) -> u64
         return 0;
     }
     (word << (by as u64)) & mask(bits)
+}
+
+// The weight of a bit of the word, 0 past the last.
+pub fn one_at(place: usize) -> u64
+    ensures { result ≡ 2 ^ place % 2 ^ 64 }
+{
+    shift(1, place, 64)
 }

@@ -3,7 +3,6 @@ ghost use Rattle.std.specs.Prelude.{◌≡◌, take};
 ghost use Rattle.span.specs.Combination.{combination};
 
 use crate::bits::select;
-use crate::bound::min;
 
 // The exclusive or of the first `count` words that `coefficients` selects, word i by bit i. A count past the slice's
 // end is its length. Of rows this is the image of an error block. The line that adds to the sum is the one that fetches
@@ -11,7 +10,7 @@ use crate::bound::min;
 pub fn combination(words: &[u64], count: usize, coefficients: u64) -> u64
     ensures { result ≡ combination (take count words.now) coefficients }
 {
-    let end = min(count, words.len());
+    let end = count.min(words.len());
     let mut sum: u64 = 0;
     let mut left = coefficients;
     let mut i = 0;

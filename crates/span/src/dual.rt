@@ -1,12 +1,10 @@
 // Reduction at once: check words, made once, that test a word itself, so that no step waits for the one before.
-ghost use Rattle.std.specs.Prelude.{◌≡◌, ◌≤◌, min};
+ghost use Rattle.std.specs.Prelude.{◌≡◌, ◌≤◌, length, min};
 ghost use Rattle.span.specs.Combination.{counted};
-ghost use Rattle.span.specs.Basis.{basis};
 ghost use Rattle.span.specs.Elimination.{basis_of};
 ghost use Rattle.span.specs.Dual.{crossed, dual_to, dual, together, at_once, least_by};
 
 use crate::bits::{common_parity, parity, select};
-use crate::bound::min;
 use crate::eliminate::{Basis, Reduced, basis_of};
 
 // A check word, with each of the first `end` new ones added whose vector has an odd count of common ones with it.
@@ -27,7 +25,7 @@ fn dual_check<'a>(vectors: &'a [u64; 32], duals: &'a [u64; 32], check: u64, end:
 fn dual_checks<'a>(size: usize, vectors: &'a [u64; 32], checks: &'a [u64; 32]) -> [u64; 32]
     ensures { result ≡ dual_to vectors.now checks.now (min size 32) }
 {
-    let end = min(size, 32);
+    let end = size.min(32);
     let mut duals: [u64; 32] = [0; 32];
     let mut i = 0;
     while i < end {
@@ -49,25 +47,19 @@ pub fn dual_basis(words: &[u64], count: usize) -> Basis
     b
 }
 
-// A word reduced by the triples, each of which tests the word itself, with no branch but the loop's; the arrays lent.
-// Any arrays and any size have an answer: a size above 32 counts as 32.
-fn reduce_at_once<'a>(
-    size: usize,
-    vectors: &'a [u64; 32],
-    checks: &'a [u64; 32],
-    coefficients: &'a [u64; 32],
-    x: u64,
-) -> Reduced
-    ensures { result ≡ at_once (basis size vectors.now checks.now coefficients.now) x }
+// A word reduced by the triples, each of which tests the word itself, with no branch but the loop's. Any basis has an
+// answer: a size above 32 counts as 32.
+fn reduce_at_once(b: &Basis, x: u64) -> Reduced
+    ensures { result ≡ at_once b.now x }
 {
-    let end = min(size, 32);
+    let end = b.size.min(32);
     let mut rest = x;
     let mut removed: u64 = 0;
     let mut i = 0;
     while i < end {
-        let on = parity(x, checks[i]);
-        rest ^= select(vectors[i], on);
-        removed ^= select(coefficients[i], on);
+        let on = parity(x, b.checks[i]);
+        rest ^= select(b.vectors[i], on);
+        removed ^= select(b.coefficients[i], on);
         i += 1;
     }
     Reduced {
@@ -76,41 +68,36 @@ fn reduce_at_once<'a>(
     }
 }
 
-// The ones of the first `count` words together; a count above 32 counts as 32.
-pub fn together(words: &[u64; 32], count: usize) -> u64
-    ensures { result ≡ together words.now (min count 32) }
+// The ones of the words together.
+pub fn together(words: &[u64]) -> u64
+    ensures { result ≡ together words.now (length words.now) }
 {
-    let end = min(count, 32);
-    let mut ones: u64 = 0;
-    let mut i = 0;
-    while i < end {
-        ones |= words[i];
-        i += 1;
-    }
-    ones
+    words.iter().fold(0, |ones, word| ones | word)
 }
 
-// What a dual basis says of a word: its least coefficients, or that it has none. `ones` are those of the check words
-// together: a word that has none of them is not reduced.
-pub fn least_by<'a>(
-    size: usize,
-    vectors: &'a [u64; 32],
-    checks: &'a [u64; 32],
-    coefficients: &'a [u64; 32],
-    ones: u64,
-    x: u64,
-) -> Option<u64>
-    ensures { result ≡ least_by (basis size vectors.now checks.now coefficients.now) ones x }
-{
-    if x == 0 {
-        return Some(0);
+impl Basis {
+    // The ones of the check words together. Any size has an answer: one above 32 counts as 32.
+    pub fn ones(&self) -> u64
+        ensures { result ≡ together self.now.checks (min self.now.size 32) }
+    {
+        together(&self.checks[..self.size.min(32)])
     }
-    if x & ones == 0 {
-        return None;
+
+    // What a dual basis says of a word: its least coefficients, or that it has none. `ones` are those of the check
+    // words together: a word that has none of them is not reduced.
+    pub fn least(&self, ones: u64, x: u64) -> Option<u64>
+        ensures { result ≡ least_by self.now ones x }
+    {
+        if x == 0 {
+            return Some(0);
+        }
+        if x & ones == 0 {
+            return None;
+        }
+        let reduced = reduce_at_once(self, x);
+        if reduced.rest == 0 {
+            return Some(reduced.coefficients);
+        }
+        None
     }
-    let reduced = reduce_at_once(size, vectors, checks, coefficients, x);
-    if reduced.rest == 0 {
-        return Some(reduced.coefficients);
-    }
-    None
 }

@@ -1,12 +1,11 @@
 // Elimination over GF(2): a basis by value, and the least relation among words.
 ghost use Rattle.std.specs.Prelude.{◌≡◌, ◌^◌, ◌<◌, ◌≤◌, None, length, take};
 ghost use Rattle.span.specs.Relation.{least_relation};
-ghost use Rattle.span.specs.Basis.{basis, reduction};
+ghost use Rattle.span.specs.Basis.{reduction};
 ghost use Rattle.span.specs.Elimination.{pivot, basis_of};
 ghost use Rattle.span.specs.Combination.{counted};
 
-use crate::bits::{common_parity, select};
-use crate::bound::min;
+use crate::bits::{common_parity, one_at, select};
 
 // `size` triples: what was left of a word that joined, a check word that has an odd count of common ones with it, and
 // the coefficients that make it from the words.
@@ -32,38 +31,24 @@ struct Eliminated {
     found: Option<u64>,
 }
 
-// A word reduced by the triples in their order, the arrays lent: no copy of a basis is made in a loop. Any arrays and
-// any size have an answer: a size above 32 counts as 32.
-pub(crate) fn reduce_by<'a>(
-    size: usize,
-    vectors: &'a [u64; 32],
-    checks: &'a [u64; 32],
-    coefficients: &'a [u64; 32],
-    x: u64,
-) -> Reduced
-    ensures { result ≡ reduction (basis size vectors.now checks.now coefficients.now) x }
+// A word reduced by the triples in their order. Any basis has an answer: a size above 32 counts as 32.
+pub(crate) fn reduce_by(b: &Basis, x: u64) -> Reduced
+    ensures { result ≡ reduction b.now x }
 {
-    let end = min(size, 32);
+    let end = b.size.min(32);
     let mut rest = x;
     let mut removed: u64 = 0;
     let mut i = 0;
     while i < end {
-        let on = common_parity(rest, checks[i]);
-        rest ^= select(vectors[i], on);
-        removed ^= select(coefficients[i], on);
+        let on = common_parity(rest, b.checks[i]);
+        rest ^= select(b.vectors[i], on);
+        removed ^= select(b.coefficients[i], on);
         i += 1;
     }
     Reduced {
         rest,
         coefficients: removed,
     }
-}
-
-fn one_at(place: usize) -> u64
-    requires { place < 64 }
-    ensures { result ≡ 2 ^ place }
-{
-    1 << (place as u64)
 }
 
 // The place of the one of v that is nearest an end of the word: any of its ones would do.
@@ -101,7 +86,7 @@ fn eliminate(words: &[u64], end: usize, f: usize) -> Eliminated
     };
     let mut i = 0;
     while i < end {
-        let r = reduce_by(b.size, &b.vectors, &b.checks, &b.coefficients, words[i]);
+        let r = reduce_by(&b, words[i]);
         let rest = r.rest;
         let coefficients = r.coefficients ^ one_at(i);
         if rest == 0 {
@@ -131,7 +116,7 @@ fn eliminate(words: &[u64], end: usize, f: usize) -> Eliminated
 pub(crate) fn basis_of(words: &[u64], count: usize) -> Basis
     ensures { result ≡ basis_of (counted count words.now) }
 {
-    let end = min(min(count, words.len()), 32);
+    let end = count.min(words.len()).min(32);
     eliminate(words, end, end).basis
 }
 
@@ -140,5 +125,5 @@ pub(crate) fn basis_of(words: &[u64], count: usize) -> Basis
 pub fn least_relation(words: &[u64], count: usize, f: usize) -> Option<u64>
     ensures { result ≡ least_relation (counted count words.now) f }
 {
-    eliminate(words, min(min(count, words.len()), 32), f).found
+    eliminate(words, count.min(words.len()).min(32), f).found
 }

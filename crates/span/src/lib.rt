@@ -2,7 +2,6 @@
 #![tactic(auto)]
 
 pub mod bits;
-pub mod bound;
 pub mod combine;
 pub mod dual;
 pub mod eliminate;

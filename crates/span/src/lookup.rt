@@ -2,8 +2,6 @@
 ghost use Rattle.std.specs.Prelude.{◌≡◌, ◌+◌, ◌%◌, ◌<◌, ◌≤◌, length, take, slice_index};
 ghost use Rattle.span.specs.Lookup.{lookup_of, looked_up, Doubled, Grouped};
 
-use crate::bound::min;
-
 // The number that the lowest four bits are.
 fn low_four(x: u64) -> usize
     ensures { result ≡ x % 16 }
@@ -15,7 +13,7 @@ fn low_four(x: u64) -> usize
 fn word_or_zero(words: &[u64], count: usize, j: usize) -> u64
     ensures { result ≡ slice_index (take count words.now) j }
 {
-    if j < min(count, words.len()) {
+    if j < count.min(words.len()) {
         return words[j];
     }
     0

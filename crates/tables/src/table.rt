@@ -5,7 +5,7 @@ ghost use Rattle.tables.specs.Table.{table, zero_table, sizes_fit, fit};
 ghost use Rattle.tables.specs.Lent.{lent};
 
 use span::bits::mask;
-use span::bound::min;
+use span::dual::together;
 
 #[derive(Clone, Copy)]
 pub struct Table {
@@ -43,15 +43,8 @@ pub fn is_fit(symbols: usize, span: usize, depth: usize, rows: &[u64]) -> bool
     if !sizes_fit(symbols, span, depth) {
         return false;
     }
-    let most = mask(span);
-    let end = min(symbols - 1, rows.len());
-    let mut ones: u64 = 0;
-    let mut i = 0;
-    while i < end {
-        ones |= rows[i];
-        i += 1;
-    }
-    ones <= most
+    let end = rows.len().min(symbols - 1);
+    together(&rows[..end]) <= mask(span)
 }
 
 // Whether a table whose rows are lent beside it is fit. With another count than fifteen it is not.

@@ -8,6 +8,7 @@ use Rattle.tables.specs.Lent.{with_rows, lent}
 use Rattle.link.specs.Refusals.{coder_fault}
 use Rattle.link.specs.Coder.{coded_block, code_answer, code_memory}
 use Rattle.link.specs.declared.code.CodeAnswer.TheVariants.{Coded, Refused}
+use Rattle.span.proofs.Masks.{weight_fits}
 use Rattle.link.proofs.Refusals.{LentTaken}
 use Rattle.link.proofs.Coder.{CoderTaken, coder-taken, code-refuses, codes, codes-so, code-lent-taken}
 use Rattle.link.proofs.Coder.{coded-fits, block_in_numbers, memory_in_numbers}
@@ -40,14 +41,11 @@ returns-then-number-ne0 c =
 pub overflow_sub-width : goal.overflow_sub-width
 overflow_sub-width c = let n = (tests (goal.at.overflow_sub-width c).Else-number-ne0).sizes.n_from in omega arith
 
-pub one_at-requires : goal.one_at-requires
-one_at-requires c = let n = (tests (goal.at.one_at-requires c).Else-number-ne0).sizes.n_to in omega arith
-
 pub taken-requires : goal.taken-requires
 taken-requires c =
     let k = tests (goal.at.taken-requires c).Else-number-ne0 in
-    let e = c.one_at.ensures in
     let n = k.sizes.n_to in
+    let e = c.one_at.ensures ∙ weight_fits _ (omega arith) in
     let a = c.args in
     let h : a.t.symbols - 1 ≤ 15 = omega arith in
     (k.size, k.sizes.m_to, k.turn, subst (λ (w : ℕ). a.info < w) (sym e) k.info, rw e (pow_mono h))
@@ -60,7 +58,8 @@ block-is c =
     let combined = c.combination-image in
     c.taken.ensures.block
     ∙ block_in_numbers (with_rows c.args.t c.args.rows.now) a.state.now a.info combined.result combined.ensures
-    c.one_at.result c.one_at.ensures
+    c.one_at.result
+    (let n = (tests (goal.at.overflow_cast-result c).Else-number-ne0).sizes.n_to in c.one_at.ensures ∙ weight_fits _ (omega arith))
 
 pub overflow_cast-result : goal.overflow_cast-result
 overflow_cast-result c =

@@ -9,7 +9,7 @@ use lib.ListN.{length, get_or, set}
 use lib.Pow.{pow_mono}
 use Rattle.span.specs.Combination.{combination}
 use lib.Seq.{length-take-le}
-use Rattle.span.proofs.Masks.{above-mask}
+use Rattle.span.proofs.Masks.{above-mask, weight_fits}
 use Rattle.tables.specs.declared.table.Table.{Table}
 use Rattle.tables.specs.Lent.{with_rows}
 use Rattle.tables.specs.Table.{info_rows, fit}
@@ -32,11 +32,6 @@ pub overflow_sub-width : goal.overflow_sub-width
 overflow_sub-width c =
     let u = with_rows c.args.t c.args.rows.now in
     let n = (fit-facts u c.requires.0).n_from in omega arith
-
-pub one_at-weight-requires : goal.one_at-weight-requires
-one_at-weight-requires c =
-    let u = with_rows c.args.t c.args.rows.now in
-    let n = (fit-facts u c.requires.0).n_to in omega arith
 
 pub loop-i-init : goal.loop-i-init
 loop-i-init c =
@@ -136,9 +131,8 @@ taken-requires c =
     let block = get_or c.args.infos.now c.loop-i.i 0 in
     let k = coder-taken u c.loop-i.state block
     (none at.Else-most-info (tested at.At-loop-i)) in
-    let e = c.one_at-weight.ensures
-    in
     let n = k.sizes.n_to in
+    let e = c.one_at-weight.ensures ∙ weight_fits _ (omega arith) in
     let a = c.args in
     let h : a.t.symbols - 1 ≤ 15 = omega arith in (
       k.size,
@@ -178,7 +172,8 @@ block-is c =
     c.taken.ensures.block
     ∙ block_in_numbers u c.loop-i.state block c.look_up-image.result
     (image-is c)
-    c.one_at-weight.result c.one_at-weight.ensures
+    c.one_at-weight.result
+    (let n = (fit-facts u c.requires.0).n_to in c.one_at-weight.ensures ∙ weight_fits _ (omega arith))
 
 memory_is : (c : goal.After-slice_known-in-loop-i-1) →
     let u = with_rows c.args.t c.args.rows.now in

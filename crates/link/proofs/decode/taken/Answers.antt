@@ -9,6 +9,7 @@ use lib.ListN.{length}
 use Rattle.std.specs.Prelude.{Option}
 use Rattle.span.specs.Word.{◌⊕◌}
 use Rattle.span.specs.Combination.{combination}
+use Rattle.span.proofs.Masks.{weight_fits}
 use Rattle.span.proofs.Word.{xor-code}
 use Rattle.tables.specs.Table.{rows_of}
 use Rattle.tables.specs.Lent.{with_rows}
@@ -42,9 +43,6 @@ bounds-state-1 c = let k = (tests (goal.at.bounds-state-1 c).Start).size in omeg
 pub overflow_sub-t : goal.overflow_sub-t
 overflow_sub-t c = let k = (tests (goal.at.overflow_sub-t c).Start).sizes.N_from in omega arith
 
-pub one_at-requires : goal.one_at-requires
-one_at-requires c = let k = (tests (goal.at.one_at-requires c).Start).sizes.N_to in omega arith
-
 pub image-requires : goal.image-requires
 image-requires c =
     let at = goal.at.image-requires c in
@@ -58,7 +56,8 @@ terms-x-requires c =
     let u = with_rows c.args.t c.args.rows.now in
     let a = c.args in
     let r = terms_room u a.state.now a.received (tests at.Start) in
-    let e = sym c.one_at.ensures in
+    let l = (tests at.Start).sizes.N_to in
+    let e = sym (c.one_at.ensures ∙ weight_fits _ (omega arith)) in
     let s = a.state.now in (
       r.0,
       r.1,
@@ -77,11 +76,6 @@ explain-requires c =
 pub overflow_sub-n : goal.overflow_sub-n
 overflow_sub-n c =
     let k = (tests (goal.at.overflow_sub-n c).Start).sizes.n_from in
-    omega arith
-
-pub one_at-requires-2 : goal.one_at-requires-2
-one_at-requires-2 c =
-    let k = (tests (goal.at.one_at-requires-2 c).Start).sizes.n_to in
     omega arith
 
 pub judged-v-requires : goal.judged-v-requires
@@ -143,7 +137,7 @@ registered c w =
     register_is u a.state.now a.received _ w (joined c) c.terms-x.result.register
     c.one_at.result
     c.terms-x.ensures.register
-    c.one_at.ensures
+    (let l = (decoder-taken u a.state.now a.received c.requires.0).sizes.N_to in c.one_at.ensures ∙ weight_fits _ (omega arith))
 
 kept : (c : goal.After-keep-oldest)
     → let a = c.args in
@@ -213,7 +207,7 @@ returns c =
     let e = c.explain in
     let mark = c.judged-v.ensures.mark
     ∙ ap (λ (k : ℕ). mark_of k e.result c.terms-x.result.register)
-    c.one_at-2.ensures
+    (let l = (tests at.Start).sizes.n_to in c.one_at-2.ensures ∙ weight_fits _ (omega arith))
     ∙ mark_is u s a.received _ (width at.Start) (joined at.After-keep-oldest) c.terms-x.result.register
     (registered at.After-keep-oldest (width at.Start)) e.result
     e.ensures in record {

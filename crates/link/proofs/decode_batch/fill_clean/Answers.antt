@@ -1,6 +1,6 @@
 use mathlib.Core.Path.{◌≡◌, refl, sym, ap, subst, ◌∙◌}
 use mathlib.Core.List.{[], ◌∷◌}
-use Prim.Native.Nat.{ℕ, ◌*◌, ◌^◌, ◌≤◌, ◌<◌}
+use Prim.Native.Nat.{ℕ, ◌-◌, ◌*◌, ◌^◌, ◌≤◌, ◌<◌}
 use native.Mathlib.Omega.{arith}
 use borrow.Author.Rules.{scaled_Fits}
 use lib.Dec.{leb, ltb}
@@ -10,7 +10,7 @@ use Rattle.link.proofs.Going.{going_start, turn_taken, turn_next}
 use Rattle.std.specs.Prelude.{Some}
 use Rattle.span.specs.Word.{◌⊕◌}
 use Rattle.span.specs.Combination.{combination}
-use Rattle.span.proofs.Masks.{above-mask}
+use Rattle.span.proofs.Masks.{above-mask, weight_fits}
 use Rattle.tables.specs.Table.{rows_of}
 use Rattle.tables.proofs.Fit.{fit-facts}
 use Rattle.link.specs.declared.decode.Mark.TheVariants.{Clean}
@@ -43,10 +43,11 @@ overflow_sub-t c =
     let z = (fit-facts u c.requires.0).N_from in
     omega arith
 
-pub one_at-top-requires : goal.one_at-top-requires
-one_at-top-requires c =
-    let u = with_rows c.args.t c.args.rows.now in
-    let z = (fit-facts u c.requires.0).N_to in omega arith
+-- the weight of the register's top bit
+top : (c : goal.At-loop-i) → c.one_at-top.result ≡ 2 ^ (c.args.t.span - 1)
+top c =
+    let z = (fit-facts (with_rows c.args.t c.args.rows.now) c.requires.0).N_to in
+    c.one_at-top.ensures ∙ weight_fits _ (omega arith)
 
 pub loop-i-init : goal.loop-i-init
 loop-i-init c =
@@ -114,7 +115,7 @@ terms-x-requires c =
     let s = c.loop-i.state in
     let r = terms_room u s block (decoder-taken u s block (none at.Else-declines (inside at.In-loop-i).0
     (tested at.At-loop-i))) in
-    let e = sym c.one_at-top.ensures in (
+    let e = sym (top at.At-loop-i) in (
       r.0,
       r.1,
       subst (λ (x : ℕ). syndrome_of u s (turn_of s) < x) e r.2,
@@ -185,7 +186,7 @@ stepped c =
     let b = c.take_block in
     step_words u c.loop-i.state block c.terms-x.result.w
     (lent_width c.args.t c.args.rows.now c.requires.0 c.requires.1) (joined at.After-terms-x)
-    c.terms-x.result.register o.result c.terms-x.ensures.register o.ensures (Some 0) (explained c)
+    c.terms-x.result.register o.result c.terms-x.ensures.register (top at.At-loop-i) (Some 0) (explained c)
     0 0 Clean (refl, (refl, refl)) b.result b.new.state
     (b.ensures.entry, b.ensures.memory)
 

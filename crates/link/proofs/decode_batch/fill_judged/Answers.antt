@@ -1,6 +1,6 @@
 use mathlib.Core.Path.{◌≡◌, sym, ap, subst, ◌∙◌}
 use mathlib.Core.List.{List, [], ◌∷◌}
-use Prim.Native.Nat.{ℕ, ◌*◌, ◌^◌, ◌≤◌, ◌<◌}
+use Prim.Native.Nat.{ℕ, ◌-◌, ◌*◌, ◌^◌, ◌≤◌, ◌<◌}
 use native.Mathlib.Omega.{arith}
 use borrow.Author.Rules.{scaled_Fits}
 use lib.Dec.{leb, ltb}
@@ -12,7 +12,7 @@ use Rattle.span.specs.Word.{◌⊕◌}
 use Rattle.span.specs.Combination.{combination, Below, counted}
 use Rattle.span.specs.Dual.{least_by}
 use Rattle.span.proofs.Duals.{least_by_lem}
-use Rattle.span.proofs.Masks.{above-mask}
+use Rattle.span.proofs.Masks.{above-mask, weight_fits}
 use Rattle.tables.specs.Table.{rows_of}
 use Rattle.tables.proofs.Fit.{fit-facts}
 use Rattle.link.specs.Memory.{turn_of, pending_of, syndrome_of}
@@ -26,7 +26,7 @@ use Rattle.link.proofs.CodeWords.{lent_width, lent_size, first_words, counted_wo
 use Rattle.link.proofs.Room.{terms_room, keep_room, oldest_lt}
 use Rattle.link.proofs.StepWords.{step_words}
 use Rattle.link.proofs.decode_batch.fill_judged.Goals as goal
-use Rattle.link.proofs.decode_batch.fill_judged.Goals.{After-least_by-found, After-terms-x, At-loop-i, Else-declines}
+use Rattle.link.proofs.decode_batch.fill_judged.Goals.{After-least-found, After-terms-x, At-loop-i, Else-declines}
 use Rattle.link.proofs.decode_batch.fill_judged.Goals.{In-loop-i, Start}
 
 -- what owning a slice tells: it has fewer than 2^63 bytes
@@ -47,20 +47,22 @@ overflow_sub-t c =
     let u = with_rows c.args.t c.args.rows.now in
     let z = (fit-facts u c.requires.0).N_from in omega arith
 
-pub one_at-top-requires : goal.one_at-top-requires
-one_at-top-requires c =
-    let u = with_rows c.args.t c.args.rows.now in
-    let z = (fit-facts u c.requires.0).N_to in omega arith
-
 pub overflow_sub-t-2 : goal.overflow_sub-t-2
 overflow_sub-t-2 c =
     let u = with_rows c.args.t c.args.rows.now in
     let z = (fit-facts u c.requires.0).n_from in omega arith
 
-pub one_at-weight-requires : goal.one_at-weight-requires
-one_at-weight-requires c =
-    let u = with_rows c.args.t c.args.rows.now in
-    let z = (fit-facts u c.requires.0).n_to in omega arith
+-- the weight of the register's top bit
+top : (c : goal.At-loop-i) → c.one_at-top.result ≡ 2 ^ (c.args.t.span - 1)
+top c =
+    let z = (fit-facts (with_rows c.args.t c.args.rows.now) c.requires.0).N_to in
+    c.one_at-top.ensures ∙ weight_fits _ (omega arith)
+
+-- the weight of the parity
+weight : (c : goal.At-loop-i) → c.one_at-weight.result ≡ 2 ^ (c.args.t.symbols - 1)
+weight c =
+    let z = (fit-facts (with_rows c.args.t c.args.rows.now) c.requires.0).n_to in
+    c.one_at-weight.ensures ∙ weight_fits _ (omega arith)
 
 pub loop-i-init : goal.loop-i-init
 loop-i-init c =
@@ -129,7 +131,7 @@ terms-x-requires c =
     let s = c.loop-i.state in
     let r = terms_room u s block (decoder-taken u s block (none at.Else-declines (inside at.In-loop-i).0
     (tested at.At-loop-i))) in
-    let e = sym c.one_at-top.ensures in (
+    let e = sym (top at.At-loop-i) in (
       r.0,
       r.1,
       subst (λ (x : ℕ). syndrome_of u s (turn_of s) < x) e r.2,
@@ -157,8 +159,8 @@ joined c =
     (omega arith) tables.result tables.ensures block)
 
 -- the least error, by the dual basis
-explained : (c : goal.After-least_by-found)
-    → c.least_by-found.result ≡ found (rows_of (with_rows c.args.t c.args.rows.now))
+explained : (c : goal.After-least-found)
+    → c.least-found.result ≡ found (rows_of (with_rows c.args.t c.args.rows.now))
     c.terms-x.result.register
 explained c =
     let u = with_rows c.args.t c.args.rows.now in
@@ -170,9 +172,9 @@ explained c =
     let words = counted c.args.t.symbols w.result in
     let same : words ≡ R = counted_words R w.result c.args.t.symbols 0 z w.ensures (omega arith) in
     let x = c.terms-x.result.register in
-    c.least_by-found.ensures
+    c.least-found.ensures
     ∙ ap (λ (o : ℕ). least_by b.result o x)
-    c.together-ones.ensures
+    c.ones-ones.ensures
     ∙ least_by_lem words (rw same (omega arith)) (subst (Below 64) (sym same) (code_below u (fit-facts u c.requires.0)))
     b.result b.ensures x
     ∙ ap (λ (ws : List ℕ). found ws x) same
@@ -183,7 +185,7 @@ judged-requires c =
     let u = with_rows c.args.t c.args.rows.now in
     let z = lent_size c.args.t c.args.rows.now c.requires.0 c.requires.1 in
     let n = (fit-facts u c.requires.0).n_to in
-    subst (λ (f : Option ℕ). error_of f < 2 ^ 16) (sym (explained at.After-least_by-found))
+    subst (λ (f : Option ℕ). error_of f < 2 ^ 16) (sym (explained at.After-least-found))
     (error_lt (rows_of u) c.terms-x.result.register (omega arith))
 
 pub take_block-requires : goal.take_block-requires
@@ -233,19 +235,18 @@ stepped c =
     let at = goal.at.offset_bounds-out-i c in
     let u = with_rows c.args.t c.args.rows.now in
     let block = get_or c.args.blocks.now c.loop-i.i 0 in
-    let f = c.least_by-found in
+    let f = c.least-found in
     let o = c.one_at-top in
-    let p = c.one_at-weight in
     let j = c.judged in
     let b = c.take_block in
     step_words u c.loop-i.state block c.terms-x.result.w
     (lent_width c.args.t c.args.rows.now c.requires.0 c.requires.1) (joined at.After-terms-x)
-    c.terms-x.result.register o.result c.terms-x.ensures.register o.ensures f.result
-    (explained at.After-least_by-found) j.result.error j.result.kept j.result.mark (
+    c.terms-x.result.register o.result c.terms-x.ensures.register (top at.At-loop-i) f.result
+    (explained at.After-least-found) j.result.error j.result.kept j.result.mark (
       j.ensures.error,
       (
         j.ensures.kept,
-        j.ensures.mark ∙ ap (λ (k : ℕ). mark_of k f.result c.terms-x.result.register) p.ensures,
+        j.ensures.mark ∙ ap (λ (k : ℕ). mark_of k f.result c.terms-x.result.register) (weight at.At-loop-i),
       ),
     ) b.result b.new.state
     (b.ensures.entry, b.ensures.memory)

@@ -2,7 +2,6 @@ use Rattle.std.proofs.Common.{◌≡◌, ℕ, ◌+◌, get_or, ap, ◌∙◌, ad
 use Rattle.span.specs.declared.eliminate.Basis.{Basis}
 use Rattle.span.specs.declared.eliminate.Reduced.{Reduced}
 use Rattle.span.specs.Word.{◌⊕◌, odd, sel, digit, common_parity}
-use Rattle.span.specs.Basis.{basis}
 use Rattle.span.specs.Dual.{at_once_to, at_once}
 use Rattle.span.proofs.Word.{odd-digit}
 use Rattle.span.proofs.dual.reduce_at_once.Goals as goal
@@ -28,7 +27,7 @@ unfolding ◌⊕◌
 loop-i-preserved c =
     let a = c.args in (
       omega arith,
-      one_more (basis a.size a.vectors.now a.checks.now a.coefficients.now) c.loop-i.i
+      one_more a.b.now c.loop-i.i
           a.x c.loop-i.rest
           c.loop-i.removed c.parity-on.result
           c.select-rest.result c.select-removed.result
@@ -41,5 +40,5 @@ unfolding at_once
 returns c =
     let a = c.args in
     c.loop-i.invariant.1
-    ∙ ap (λ (i : ℕ). at_once_to (basis a.size a.vectors.now a.checks.now a.coefficients.now) i a.x)
+    ∙ ap (λ (i : ℕ). at_once_to a.b.now i a.x)
     (omega arith)

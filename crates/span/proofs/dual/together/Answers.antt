@@ -1,22 +1,11 @@
-use Rattle.std.proofs.Common.{◌≡◌, ℕ, ◌+◌, List, get_or, refl, ap, ◌∙◌, add-one, arith, rules}
+-- `span::dual::together`: the fold over all words. Assumes nothing.
+use Rattle.std.proofs.Common.{◌≡◌, length, fold, sym, ap, ◌∙◌, le_refl, take_all, rules}
 use lib.Bits.{bit_or}
-use Rattle.span.specs.Dual.{together}
+use Rattle.span.proofs.Together.{together-fold}
 use Rattle.span.proofs.dual.together.Goals as goal
-
-one_more : (ws : List ℕ) (i ones : ℕ) → ones ≡ together ws i → bit_or ones (get_or ws i 0) ≡ together ws (i + 1)
-unfolding together
-one_more ws i ones e = rw (add-one i, ← e) refl
-
-pub loop-i-init : goal.loop-i-init
-unfolding together
-loop-i-init c = (search rules, refl)
-
-pub loop-i-preserved : goal.loop-i-preserved
-loop-i-preserved c =
-    let a = c.args in
-    (omega arith, one_more a.words.now c.loop-i.i c.loop-i.ones c.loop-i.invariant.1)
 
 pub returns : goal.returns
 returns c =
-    let a = c.args in
-    c.loop-i.invariant.1 ∙ ap (together a.words.now) (omega arith)
+    let words = c.args.words.now in
+    let folded : c.fold.result ≡ fold bit_or 0 words = search rules in
+    folded ∙ sym (together-fold words (length words) (le_refl _) ∙ ap (fold bit_or 0) (take_all (length words) words (le_refl _)))

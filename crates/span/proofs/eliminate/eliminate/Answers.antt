@@ -1,3 +1,4 @@
+use Rattle.span.proofs.Masks.{weight_fits}
 use Rattle.std.proofs.Common.{◌≡◌, ℕ, ◌+◌, ◌^◌, ◌<◌, ◌≤◌, List, length, get_or, take, sym, refl, ap, ◌∙◌, arith}
 use Rattle.std.proofs.Common.{length-take-le, take_all, get_or-take, pow_pos}
 use Rattle.span.specs.Combination.{combination, Below}
@@ -69,7 +70,7 @@ returns-then-f-i c =
           (omega arith) c.loop-i.b
           c.loop-i.invariant.2 c.loop-i.invariant.3 c.reduce_by-r.result c.reduce_by-r.ensures (omega arith)
           c.if-rest-eq0.true
-          c.one_at.result c.one_at.ensures;
+          c.one_at.result (c.one_at.ensures ∙ weight_fits _ (omega arith));
       basis = λ e. absurd (found_some _ e);
     }
 
@@ -98,7 +99,7 @@ loop-i-preserved c =
         omega arith,
         (let e = ap (λ (b : Basis). b.size) w.b-is in omega arith),
         w.b-is ∙ sym (next ∙ joined-stored c.loop-i.i c.loop-i.b c.reduce_by-r.result w.check_word.result one.result
-            w.if-rest-eq0.false w.check_word.ensures one.ensures),
+            w.if-rest-eq0.false w.check_word.ensures (one.ensures ∙ weight_fits _ (omega arith))),
         none (λ u e. w.if-rest-eq0.false e),
       )
     ]

@@ -2,7 +2,7 @@ use Rattle.std.proofs.Common.{◌≡◌, ℕ, ◌+◌, get_or, ap, ◌∙◌, ad
 use Rattle.span.specs.declared.eliminate.Basis.{Basis}
 use Rattle.span.specs.declared.eliminate.Reduced.{Reduced}
 use Rattle.span.specs.Word.{◌⊕◌, odd, sel, digit, common_parity}
-use Rattle.span.specs.Basis.{basis, reduced_by, reduced_to, reduction}
+use Rattle.span.specs.Basis.{reduced_by, reduced_to, reduction}
 use Rattle.span.proofs.Word.{odd-digit}
 use Rattle.span.proofs.eliminate.reduce_by.Goals as goal
 
@@ -27,7 +27,7 @@ unfolding ◌⊕◌
 loop-i-preserved c =
     let a = c.args in (
       omega arith,
-      one_more (basis a.size a.vectors.now a.checks.now a.coefficients.now) c.loop-i.i
+      one_more a.b.now c.loop-i.i
           a.x c.loop-i.rest
           c.loop-i.removed c.common_parity-on.result
           c.select-rest.result c.select-removed.result
@@ -40,5 +40,5 @@ unfolding reduction
 returns c =
     let a = c.args in
     c.loop-i.invariant.1
-    ∙ ap (λ (i : ℕ). reduced_to (basis a.size a.vectors.now a.checks.now a.coefficients.now) i a.x)
+    ∙ ap (λ (i : ℕ). reduced_to a.b.now i a.x)
     (omega arith)

@@ -1,8 +1,8 @@
+-- `tables::table::is_fit`: the rows are looked at once the sizes fit, all their ones together. Assumes nothing.
 use mathlib.Core.Path.{◌≡◌, refl, sym, ap, ◌∙◌}
 use mathlib.Core.Bool.{Bool, true, false, ◌&&◌, and-true, and_assoc}
 use mathlib.Core.List.{List, [], ◌∷◌}
 use Prim.Native.Nat.{ℕ, zero, suc, ◌-◌, ◌^◌, ◌<◌, min}
-use native.Mathlib.Numerals.{add-one}
 use native.Mathlib.Omega.{arith}
 use borrow.Author.Tests.{lt-ltb, le-ltb, leb-true, leb-false}
 use lib.Bits.{bit_or, or_lt, or_add_and, and_le_l, and_le_r}
@@ -11,6 +11,8 @@ use lib.ListN.{length, get_or, take}
 use lib.Pow.{pow_pos}
 use lib.Seq.{take_all}
 use native.Mathlib.Decide.{dec_lt}
+use Rattle.span.specs.Dual.{together}
+use Rattle.span.proofs.Together.{together-take}
 use Rattle.tables.specs.Table.{sizes_fit, rows_fit, fit}
 use Rattle.tables.proofs.Fit.{sizes-of}
 use Rattle.tables.proofs.table.is_fit.Goals as goal
@@ -78,31 +80,27 @@ overflow_sub-symbols c =
     let z = sizes-of a.symbols a.span a.depth (sizes (goal.at.overflow_sub-symbols c).Else-not-sizes_fit) in
     omega arith
 
-pub loop-i-init : goal.loop-i-init
-unfolding rows_fit
-loop-i-init c = let a = c.args in
-    (omega arith, lt-ltb 0 (2 ^ a.span) (pow_pos a.span))
-
-pub loop-i-preserved : goal.loop-i-preserved
-loop-i-preserved c =
-    let a = c.args in
-    let w = get_or a.rows.now c.loop-i.i 0 in (
-      omega arith,
-      or-below a.span c.loop-i.ones w ∙ ap (λ (b : Bool). b && ltb w (2 ^ a.span)) c.loop-i.invariant.1
-          ∙ next a.span a.rows.now c.loop-i.i
-          ∙ ap (λ (i : ℕ). rows_fit a.span (take i a.rows.now)) (sym (add-one c.loop-i.i)),
-    )
+-- the ones of the first rows together
+judged : (N : ℕ) (rows : List ℕ) (i : ℕ) → ltb (together rows i) (2 ^ N) ≡ rows_fit N (take i rows)
+unfolding together rows_fit
+judged N rows zero = lt-ltb 0 (2 ^ N) (pow_pos N)
+judged N rows (suc i) =
+    or-below N (together rows i) (get_or rows i 0)
+    ∙ ap (λ (b : Bool). b && ltb (get_or rows i 0) (2 ^ N)) (judged N rows i) ∙ next N rows i
 
 pub returns : goal.returns
 unfolding fit
 returns c =
     let a = c.args in
-    let done : c.loop-i.i ≡ min (a.symbols - 1) (length a.rows.now) = omega arith in
+    let ws = a.rows.now in
     let z = sizes-of a.symbols a.span a.depth (sizes (goal.at.returns c).Else-not-sizes_fit) in
     let p = pow_pos a.span in
     let whole : 2 ^ min a.span 64 ≡ 2 ^ a.span = ap (λ (k : ℕ). 2 ^ k) (omega arith) in
-    below c.loop-i.ones c.mask-most.result a.span (omega arith) ∙ c.loop-i.invariant.1
-    ∙ ap (λ (i : ℕ). rows_fit a.span (take i a.rows.now)) done
-    ∙ ap (rows_fit a.span) (clamped a.rows.now (a.symbols - 1))
-    ∙ ap (λ (s : Bool). s && rows_fit a.span (take (a.symbols - 1) a.rows.now))
+    let end : c.min-end.result ≡ min (a.symbols - 1) (length ws) = omega arith in
+    below c.together.result c.mask.result a.span (omega arith)
+    ∙ ap (λ (x : ℕ). ltb x (2 ^ a.span)) (c.together.ensures ∙ together-take c.min-end.result ws (omega arith))
+    ∙ judged a.span ws c.min-end.result
+    ∙ ap (λ (i : ℕ). rows_fit a.span (take i ws)) end
+    ∙ ap (rows_fit a.span) (clamped ws (a.symbols - 1))
+    ∙ ap (λ (s : Bool). s && rows_fit a.span (take (a.symbols - 1) ws))
     (sym (sizes (goal.at.returns c).Else-not-sizes_fit))

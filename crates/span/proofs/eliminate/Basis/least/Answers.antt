@@ -1,10 +1,10 @@
--- `span::dual::least_by_lem`: the tests in their order. Assumes nothing.
+-- `span::eliminate::Basis::least`: the tests in their order. Assumes nothing.
 use Rattle.std.proofs.Common.{◌≡◌, sym, ap, ◌∙◌, eq-eqb, ne_eqb}
 use Rattle.std.specs.Prelude.{Some, None}
 use Rattle.span.specs.declared.eliminate.Reduced.{Reduced}
 use Rattle.span.specs.Basis.{answer}
 use Rattle.span.specs.Dual.{least_by}
-use Rattle.span.proofs.dual.least_by.Goals as goal
+use Rattle.span.proofs.eliminate.Basis.least.Goals as goal
 
 -- what a reduction says of its word
 told : (r : Reduced) → r.rest ≡ 0 → answer r ≡ Some r.coefficients
