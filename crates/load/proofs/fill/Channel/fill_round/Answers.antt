@@ -1,7 +1,6 @@
 -- `load::fill::Channel::fill_round`: a burst, and then a gap, each cut where the blocks end. Assumes nothing.
-use mathlib.Core.Path.{sym, ap, ◌∙◌}
+use mathlib.Core.Path.{ap, ◌∙◌}
 use Prim.Native.Nat.{ℕ, ◌+◌, ◌%◌, min}
-use native.Mathlib.Nat.{mod-lt}
 use native.Mathlib.Omega.{arith}
 use mathlib.Core.List.{◌++◌}
 use borrow.Rule.Slice.PartMut.{mid_len}
@@ -12,17 +11,6 @@ use Rattle.load.specs.Draws.{next_state, after}
 use Rattle.load.specs.Load.{errors as errors-of}
 use Rattle.load.proofs.Rounds.{round_filled}
 use Rattle.load.proofs.fill.Channel.fill_round.Goals as goal
-
-pub overflow_add-d : goal.overflow_add-d
-overflow_add-d c =
-    let a = c.args in
-    let l = mod-lt c.draw-d.result.number {m = a.self.depth} (omega arith) in
-    record { fits = omega arith }
-
-pub slice_bounds-fill_errors-end-2 : goal.slice_bounds-fill_errors-end-2
-slice_bounds-fill_errors-end-2 c =
-    let e = c.min-burst.ensures in
-    sym (length-take-le _ c.args.out.now (omega arith))
 
 pub returns : goal.returns
 returns c =

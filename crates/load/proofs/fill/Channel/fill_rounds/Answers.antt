@@ -3,11 +3,8 @@ use Prim.Native.Nat.{ℕ, ◌+◌, ◌-◌, ◌≤◌}
 use native.Mathlib.Omega.{arith}
 use borrow.Rule.Slice.PartMut.{put_mid, same_len_mid, mid_len}
 use lib.ListN.{length}
-use Rattle.load.proofs.Rounds.{Goes, goes_first, goes_on, goes-all}
+use Rattle.load.proofs.Rounds.{Goes, goes_on, goes-all}
 use Rattle.load.proofs.fill.Channel.fill_rounds.Goals as goal
-
-pub loop-at-init : goal.loop-at-init
-loop-at-init c = goes_first _ _ _ _ _
 
 -- a turn
 turned : (c : goal.After-struct_known-1)
@@ -28,11 +25,6 @@ turned c =
     (part ∙ ap (λ (k : ℕ). k - l.at) all) r.ensures.size r.ensures.blocks r.ensures.generator
     (same_len_mid l.at (length l.out - l.at) l.out r.new.out r.auto.out ∙ all)
 
-pub overflow_add-at : goal.overflow_add-at
-overflow_add-at c =
-    let e = (turned c).0.inside in
-    record { fits = omega arith }
-
 pub loop-at-smaller : goal.loop-at-smaller
 loop-at-smaller c =
     let t = turned c in
@@ -42,9 +34,6 @@ loop-at-smaller c =
 
 pub loop-at-preserved : goal.loop-at-preserved
 loop-at-preserved c = (turned c).0
-
-pub shape_of-out : goal.shape_of-out
-shape_of-out c = c.loop-at.invariant.size
 
 pub returns : goal.returns
 returns c = goes-all _ _ _ _ _ _ _ _ c.loop-at.invariant (omega arith)
