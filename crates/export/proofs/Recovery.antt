@@ -28,10 +28,9 @@ use Rattle.tables.proofs.Reading.{refused-range, refused-parse}
 use Rattle.link.specs.declared.decode.Mark.{Mark}
 use Rattle.link.specs.declared.decode.Mark.TheVariants.{Clean, Held, Corrected, Doubtful, Parity}
 use Rattle.link.specs.declared.decode.Delivered.{Delivered}
-use Rattle.link.specs.declared.decode.DecodeAnswer.{DecodeAnswer}
-use Rattle.link.specs.declared.decode.DecodeAnswer.TheVariants.{Delivery}
+use Rattle.std.specs.Prelude.{Option, Some, Ok}
 use Rattle.link.specs.Memory.{delay_of}
-use Rattle.link.specs.Refusals.{coder_fault, decoder_fault, call_numbers}
+use Rattle.link.specs.Refusals.{Answer, coder_fault, decoder_fault, call_numbers}
 use Rattle.link.specs.Coder.{coded_block, code_answer, code_memory}
 use Rattle.link.specs.Decoder.{decode_answer, decode_memory, mark_number, mark_error, record_numbers, decode_numbers}
 use Rattle.link.specs.Decoder.{decode_values}
@@ -131,7 +130,7 @@ taken-told s ds h = (
   taken-run (λ x. decoded_of (decode_numbers x.answer)) (λ d. d.answer)
       (λ d s k e.
       let t = table_of d.numbers in
-      ap (λ (a : DecodeAnswer). decoded_of (decode_numbers a)) (decodes t s d.block e).0
+      ap (λ (a : Answer (Option Delivered)). decoded_of (decode_numbers a)) (decodes t s d.block e).0
       ∙ ap decoded_of (decodes-so t s d.block _ _ refl refl).numbers ∙ sym k.answer) s ds h,
 )
 
@@ -189,12 +188,12 @@ module _ (s : List ℕ) (ds : List DecodeCall) (h : DecodeCalls s ds) where
       ∙ length-map (taken_by s (handed ds)) (λ x. x.block)
 
   -- the struct of a place whose step delivers a record
-  answer_at_lem : (p : ℕ) (r : Delivered) → (taken_at (taken_by s (handed ds)) p).answer ≡ Delivery r
+  answer_at_lem : (p : ℕ) (r : Delivered) → (taken_at (taken_by s (handed ds)) p).answer ≡ Ok (Some r)
       → answer_at ds p ≡ decoded_of (0 ∷ record_numbers r)
   answer_at_lem p r e =
       ap (λ (xs : List BurstDecoded). get_or xs (p - 1) (decoded_of [])) (sym (taken-told s ds h).2)
       ∙ get_or-map (λ (x : Taken). decoded_of (decode_numbers x.answer)) (taken_by s (handed ds)) (p - 1) none_taken
-      ∙ ap (λ (a : DecodeAnswer). decoded_of (decode_numbers a)) e
+      ∙ ap (λ (a : Answer (Option Delivered)). decoded_of (decode_numbers a)) e
 
 -- ---- the theorems
 

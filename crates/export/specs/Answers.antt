@@ -8,8 +8,9 @@
 --   reading_of ns   of reading: number; the place of refusals 1 to 9; l, e0 and e1 of 10
 --   written_of ns   of writing: number; how many bytes were written; l, e0 and e1 of 10
 --   MarkRange       a mark's number is at most 5
-use Rattle.std.specs.Prelude.{List, [], ◌∷◌, ℕ, ◌≤◌, get_or}
-use Rattle.link.specs.declared.decode.DecodeAnswer.{DecodeAnswer}
+use Rattle.link.specs.Refusals.{Answer}
+use Rattle.link.specs.declared.decode.Delivered.{Delivered}
+use Rattle.std.specs.Prelude.{Option, List, [], ◌∷◌, ℕ, ◌≤◌, get_or}
 use Rattle.link.specs.Decoder.{decode_numbers}
 use Rattle.export.specs.declared.reading.BurstReading.{BurstReading}
 use Rattle.export.specs.declared.written.BurstWritten.{BurstWritten}
@@ -46,4 +47,4 @@ written_of ns =
 
 -- 0 to 5, as CR 1 and CR 4 of 02 number them; the numbers of refusals have `RefusedCalls`
 abbrev pub MarkRange : Type 0
-MarkRange = (a : DecodeAnswer) → (decoded_of (decode_numbers a)).mark ≤ 5
+MarkRange = (a : Answer (Option Delivered)) → (decoded_of (decode_numbers a)).mark ≤ 5

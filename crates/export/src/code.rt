@@ -7,11 +7,12 @@ ghost use Rattle.export.specs.Promises.{CodesBy};
 
 use crate::coded::{BurstCoded, coded};
 use crate::table::sizes_of;
-use link::code::{CodeAnswer, code_lent};
+use link::code::code_lent;
+use link::refusal::Refusal;
 use tables::table::Table;
 
 // The rows are lent where they stand.
-fn step(t: Table, numbers: &[u64], words: &mut [u64], info: u16) -> CodeAnswer
+fn step(t: Table, numbers: &[u64], words: &mut [u64], info: u16) -> Result<u16, Refusal>
     requires { length numbers.now ≡ 18 }
     ensures { Codes (with_rows t (drop 3 numbers.now)) words.old info result words.new }
 {

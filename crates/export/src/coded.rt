@@ -3,7 +3,7 @@ ghost use Rattle.std.specs.Prelude.{◌≡◌};
 ghost use Rattle.link.specs.Coder.{code_numbers};
 ghost use Rattle.export.specs.Answers.{coded_of};
 
-use link::code::CodeAnswer;
+use link::refusal::Refusal;
 
 #[repr(C)]
 #[derive(Clone, Copy)]
@@ -12,16 +12,16 @@ pub struct BurstCoded {
     pub block: u64,
 }
 
-pub(crate) fn coded(answer: CodeAnswer) -> BurstCoded
+pub(crate) fn coded(answer: Result<u16, Refusal>) -> BurstCoded
     ensures { result ≡ coded_of (code_numbers answer) }
 {
     match answer {
-        CodeAnswer::Coded(c) => BurstCoded {
+        Ok(block) => BurstCoded {
             refused: 0,
-            block: c as u64,
+            block: u64::from(block),
         },
-        CodeAnswer::Refused(k) => BurstCoded {
-            refused: k,
+        Err(refusal) => BurstCoded {
+            refused: u64::from(refusal),
             block: 0,
         },
     }

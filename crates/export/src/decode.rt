@@ -7,11 +7,17 @@ ghost use Rattle.export.specs.Promises.{DecodesBy};
 
 use crate::decoded::{BurstDecoded, decoded};
 use crate::table::sizes_of;
-use link::decode::{DecodeAnswer, decode_lent};
+use link::decode::{Delivered, decode_lent};
+use link::refusal::Refusal;
 use tables::table::Table;
 
 // The rows are lent where they stand.
-fn step(t: Table, numbers: &[u64], words: &mut [u64], received: u16) -> DecodeAnswer
+fn step(
+    t: Table,
+    numbers: &[u64],
+    words: &mut [u64],
+    received: u16,
+) -> Result<Option<Delivered>, Refusal>
     requires { length numbers.now ≡ 18 }
     ensures { Decodes (with_rows t (drop 3 numbers.now)) words.old received result words.new }
 {

@@ -3,7 +3,8 @@ ghost use Rattle.std.specs.Prelude.{◌≡◌, ◌∷◌};
 ghost use Rattle.link.specs.Decoder.{record_numbers, decode_numbers};
 ghost use Rattle.export.specs.Answers.{decoded_of};
 
-use link::decode::{DecodeAnswer, Delivered, Mark};
+use link::decode::{Delivered, Mark};
+use link::refusal::Refusal;
 
 #[repr(C)]
 #[derive(Clone, Copy)]
@@ -54,19 +55,19 @@ fn delivered(d: Delivered) -> BurstDecoded
     }
 }
 
-pub(crate) fn decoded(answer: DecodeAnswer) -> BurstDecoded
+pub(crate) fn decoded(answer: Result<Option<Delivered>, Refusal>) -> BurstDecoded
     ensures { result ≡ decoded_of (decode_numbers answer) }
 {
     match answer {
-        DecodeAnswer::Delivery(d) => delivered(d),
-        DecodeAnswer::NothingYet => BurstDecoded {
+        Ok(Some(d)) => delivered(d),
+        Ok(None) => BurstDecoded {
             refused: 0,
             info: 0,
             mark: 0,
             error: 0,
         },
-        DecodeAnswer::Refused(k) => BurstDecoded {
-            refused: k,
+        Err(refusal) => BurstDecoded {
+            refused: u64::from(refusal),
             info: 0,
             mark: 0,
             error: 0,

@@ -3,7 +3,7 @@ ghost use Rattle.std.specs.Prelude.{◌≡◌};
 ghost use Rattle.iwadare.specs.Decoder.{decode_numbers};
 ghost use Rattle.export.specs.Answers.{iwadare_decoded_of};
 
-use iwadare::decode::DecodeAnswer;
+use link::refusal::Refusal;
 
 #[repr(C)]
 #[derive(Clone, Copy)]
@@ -13,22 +13,22 @@ pub struct BurstIwadareDecoded {
     pub info: u64,
 }
 
-pub(crate) fn decoded(answer: DecodeAnswer) -> BurstIwadareDecoded
+pub(crate) fn decoded(answer: Result<Option<u16>, Refusal>) -> BurstIwadareDecoded
     ensures { result ≡ iwadare_decoded_of (decode_numbers answer) }
 {
     match answer {
-        DecodeAnswer::Delivery(info) => BurstIwadareDecoded {
+        Ok(Some(info)) => BurstIwadareDecoded {
             refused: 0,
             delivered: 1,
             info: info as u64,
         },
-        DecodeAnswer::NothingYet => BurstIwadareDecoded {
+        Ok(None) => BurstIwadareDecoded {
             refused: 0,
             delivered: 0,
             info: 0,
         },
-        DecodeAnswer::Refused(k) => BurstIwadareDecoded {
-            refused: k,
+        Err(refusal) => BurstIwadareDecoded {
+            refused: u64::from(refusal),
             delivered: 0,
             info: 0,
         },

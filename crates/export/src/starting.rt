@@ -3,13 +3,13 @@ ghost use Rattle.std.specs.Prelude.{◌≡◌};
 ghost use Rattle.link.specs.Start.{start_numbers};
 ghost use Rattle.export.specs.Answers.{number_of};
 
-use link::start::StartAnswer;
+use link::refusal::Refusal;
 
-pub(crate) fn started(answer: StartAnswer) -> u64
+pub(crate) fn started(answer: Result<(), Refusal>) -> u64
     ensures { result ≡ number_of (start_numbers answer) }
 {
     match answer {
-        StartAnswer::Started => 0,
-        StartAnswer::Refused(k) => k,
+        Ok(()) => 0,
+        Err(refusal) => u64::from(refusal),
     }
 }

@@ -9,6 +9,7 @@ use mathlib.Core.Path.{◌≡◌, refl, sym, ap, ◌∙◌}
 use mathlib.Core.Bool.{cond, not}
 use mathlib.Core.List.{List, [], ◌∷◌}
 use Prim.Native.Nat.{ℕ, ◌<◌}
+use native.Mathlib.Omega.{arith}
 use borrow.Author.Tests.{leb-false}
 use lib.Bits.{bit_xor}
 use lib.Dec.{leb, eqb}
@@ -17,17 +18,17 @@ use Rattle.span.specs.Word.{◌⊕◌, odd}
 use Rattle.span.specs.Combination.{combination}
 use Rattle.span.proofs.Word.{xor-code}
 use Rattle.span.proofs.Masks.{topped-lt}
-use Rattle.link.specs.declared.code.CodeAnswer.{CodeAnswer}
-use Rattle.link.specs.declared.code.CodeAnswer.TheVariants.{Coded, Refused}
+use Rattle.std.specs.Prelude.{Ok}
+use Rattle.link.specs.Refusals.{Answer, refused}
 use Rattle.link.specs.Memory.{joining}
 use Rattle.link.specs.Coder.{code_numbers}
 use Rattle.link.proofs.Memory.{joining-is}
-use Rattle.link.proofs.Refusals.{refuses, takes, call-numbers}
+use Rattle.link.proofs.Refusals.{refuses, takes, call-numbers, numbered}
 use Rattle.iwadare.specs.Memory.{generators, coder_words, coder_pending, pending_bound, delayed_bound}
 use Rattle.iwadare.specs.Refusals.{coder_malformed, coder_fault}
 use Rattle.iwadare.specs.Formed.{CoderFormed}
 use Rattle.iwadare.specs.Coder.{coder_joining, coded_block, coder_next, code_answer, code_memory, Codes}
-use Rattle.iwadare.proofs.Refusals.{step_fault_lem, step_passed}
+use Rattle.iwadare.proofs.Refusals.{coder-range, step_fault_lem, step_passed}
 
 -- ---- refusals
 
@@ -38,25 +39,25 @@ unfolding coder_fault
 coder-fault s b = step_fault_lem coder_words (coder_malformed s) delayed_bound s b
 
 pub code-refuses : (s : List ℕ) (b : ℕ) (k : ℕ) → coder_fault s b ≡ k → 0 < k
-    → (Refused k ≡ code_answer s b) × (s ≡ code_memory s b)
+    → (refused k ≡ code_answer s b) × (s ≡ code_memory s b)
 unfolding code_answer code_memory
-code-refuses s b = refuses Refused (coder_fault s b) (Coded (coded_block s b)) (coder_next s b) s
+code-refuses s b = refuses refused (coder_fault s b) (Ok (coded_block s b)) (coder_next s b) s
 
 pub codes : (s : List ℕ) (b : ℕ) → coder_fault s b ≡ 0
-    → (Coded (coded_block s b) ≡ code_answer s b) × (coder_next s b ≡ code_memory s b)
+    → (Ok (coded_block s b) ≡ code_answer s b) × (coder_next s b ≡ code_memory s b)
 unfolding code_answer code_memory
-codes s b = takes Refused (coder_fault s b) (Coded (coded_block s b)) (coder_next s b) s
+codes s b = takes refused (coder_fault s b) (Ok (coded_block s b)) (coder_next s b) s
 
 -- answer and memory are all that is promised: the numbers follow
-pub codes-so : (s : List ℕ) (b : ℕ) (r : CodeAnswer) (after : List ℕ) → r ≡ code_answer s b → after ≡ code_memory s b
+pub codes-so : (s : List ℕ) (b : ℕ) (r : Answer ℕ) (after : List ℕ) → r ≡ code_answer s b → after ≡ code_memory s b
     → Codes s b r after
 unfolding code_answer
 codes-so s b r after p q = record {
   answer = p;
   memory = q;
   numbers = ap code_numbers p
-      ∙ call-numbers code_numbers (coder_fault s b) (Coded (coded_block s b)) Refused (coded_block s b ∷ []) refl
-      (λ k. refl);
+      ∙ call-numbers code_numbers (coder_fault s b) (Ok (coded_block s b)) refused (coded_block s b ∷ []) refl
+      (λ some. let l = coder-range s b some in numbered _ (omega (arith, l.0), l.1));
 }
 
 -- ---- a step that is taken

@@ -14,11 +14,11 @@ use native.Mathlib.Omega.{arith}
 use borrow.Author.Tests.{leb-true, eqb-true}
 use lib.Dec.{leb, eqb}
 use lib.ListN.{length, get_or}
+use Rattle.link.specs.Refusals.{Answer}
 use Rattle.tables.proofs.Fit.{and_left, and_right}
 use Rattle.tables.proofs.Every.{every, every-at}
 use Rattle.link.specs.Recovery.{Stretch, Burst, Chosen, Within}
-use Rattle.iwadare.specs.declared.decode.DecodeAnswer.{DecodeAnswer}
-use Rattle.iwadare.specs.declared.decode.DecodeAnswer.TheVariants.{Delivery}
+use Rattle.std.specs.Prelude.{Option, Some, Ok}
 use Rattle.iwadare.specs.Decoder.{decode_numbers}
 use Rattle.iwadare.specs.Runs.{Sent, Taken, sent_at, taken_at, bit_sent, bit_taken}
 use Rattle.iwadare.specs.Correction.{WrongBit, BitBursts}
@@ -109,5 +109,5 @@ module _ (sent : List Sent) (taken : List Taken) where
       eqb-true (taken_at taken (suc i)).block (sent_at sent (suc i)).block
       (every-at (λ i. eqb (taken_at taken (suc i)).block (sent_at sent (suc i)).block) right e i (omega arith))
 
-pub delivery-same : (a b : ℕ) → ◌≡◌ {A = DecodeAnswer} (Delivery a) (Delivery b) → a ≡ b
-delivery-same a b e = ap (λ (x : DecodeAnswer). get_or (decode_numbers x) 2 0) e
+pub delivery-same : (a b : ℕ) → ◌≡◌ {A = Answer (Option ℕ)} (Ok (Some a)) (Ok (Some b)) → a ≡ b
+delivery-same a b e = ap (λ (x : Answer (Option ℕ)). get_or (decode_numbers x) 2 0) e

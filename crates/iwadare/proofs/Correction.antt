@@ -18,7 +18,7 @@ use Rattle.span.proofs.Word.{xor_zero_r}
 use Rattle.link.specs.Memory.{started}
 use Rattle.link.specs.Recovery.{Separated}
 use Rattle.link.proofs.Bursts.{bursts-separated, bursts_longer}
-use Rattle.iwadare.specs.declared.decode.DecodeAnswer.TheVariants.{Delivery}
+use Rattle.std.specs.Prelude.{Some, Ok}
 use Rattle.iwadare.specs.Memory.{coder_words, decoder_words, delay, coder_pending, pending_of}
 use Rattle.iwadare.specs.Decoder.{delivered}
 use Rattle.iwadare.specs.Runs.{Sent, Taken, sent_by, taken_by, none_sent, sent_at, taken_at}
@@ -63,7 +63,7 @@ module _ (coder decoder bs rs : List ℕ) where
         → Corrected sent taken (suc p)
     right_at p late inside zeros =
         answers_complete (decoded decoder rs) p inside late
-        ∙ ap Delivery
+        ∙ ap (λ d. Ok (Some d))
         (delivers linked p inside late zeros
         ∙ ap (λ (k : ℕ). (get_or sent k none_sent).info) (let q : suc (p - 18) - 1 ≡ suc p - 18 - 1 = omega arith in q))
 

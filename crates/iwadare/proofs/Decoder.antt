@@ -18,18 +18,17 @@ use lib.ListN.{length}
 use Rattle.span.specs.Word.{sel}
 use Rattle.span.proofs.Word.{xor_lt, sel-lt}
 use Rattle.span.proofs.Masks.{topped-lt}
-use Rattle.link.specs.Refusals.{some_above}
-use Rattle.link.proofs.Refusals.{or-none, refuses, takes, call-numbers}
+use Rattle.link.specs.Refusals.{Answer, some_above, refused}
+use Rattle.link.proofs.Refusals.{or-none, refuses, takes, call-numbers, numbered}
 use Rattle.link.proofs.Malformed.{some-none}
-use Rattle.iwadare.specs.declared.decode.DecodeAnswer.{DecodeAnswer}
-use Rattle.iwadare.specs.declared.decode.DecodeAnswer.TheVariants.{Delivery, NothingYet, Refused}
+use Rattle.std.specs.Prelude.{Option, Some, None, Ok}
 use Rattle.iwadare.specs.Memory.{decoder_words, delay, fill_of, pending_of, terms_of, word_back, delayed_back}
 use Rattle.iwadare.specs.Memory.{pending_bound, terms_bound, delayed_bound, received_bound}
 use Rattle.iwadare.specs.Refusals.{decoder_malformed, decoder_fault}
 use Rattle.iwadare.specs.Formed.{DecoderFormed}
 use Rattle.iwadare.specs.Decoder.{raw_of, register_of, flips_symbol0, decoder_next, delivered, delivery, decode_answer}
 use Rattle.iwadare.specs.Decoder.{decode_memory, decode_numbers, decode_values, Decodes}
-use Rattle.iwadare.proofs.Refusals.{step_fault_lem, step_passed}
+use Rattle.iwadare.proofs.Refusals.{step_fault_lem, step_passed, decoder-range}
 
 -- ---- refusals
 
@@ -40,35 +39,35 @@ unfolding decoder_fault
 decoder-fault s r = step_fault_lem decoder_words (decoder_malformed s) received_bound s r
 
 pub decode-refuses : (s : List ℕ) (r : ℕ) (k : ℕ) → decoder_fault s r ≡ k → 0 < k
-    → (Refused k ≡ decode_answer s r) × (s ≡ decode_memory s r)
+    → (refused k ≡ decode_answer s r) × (s ≡ decode_memory s r)
 unfolding decode_answer decode_memory
-decode-refuses s r = refuses Refused (decoder_fault s r) (delivery s r) (decoder_next s r) s
+decode-refuses s r = refuses refused (decoder_fault s r) (delivery s r) (decoder_next s r) s
 
 pub decodes : (s : List ℕ) (r : ℕ) → decoder_fault s r ≡ 0
     → (delivery s r ≡ decode_answer s r) × (decoder_next s r ≡ decode_memory s r)
 unfolding decode_answer decode_memory
-decodes s r = takes Refused (decoder_fault s r) (delivery s r) (decoder_next s r) s
+decodes s r = takes refused (decoder_fault s r) (delivery s r) (decoder_next s r) s
 
 delivery-numbers : (s : List ℕ) (r : ℕ) → decode_numbers (delivery s r) ≡ 0 ∷ decode_values s r
 unfolding delivery
 delivery-numbers s r = go (ltb (fill_of s) delay)
   where
     go : (b : Bool)
-        → decode_numbers (cond b NothingYet (Delivery (delivered s r)))
+        → decode_numbers (cond b (Ok None) (Ok (Some (delivered s r))))
         ≡ 0 ∷ cond b (0 ∷ 0 ∷ []) (1 ∷ delivered s r ∷ [])
     go true = refl
     go false = refl
 
 -- answer and memory are all that is promised: the numbers follow
-pub decodes-so : (s : List ℕ) (b : ℕ) (r : DecodeAnswer) (after : List ℕ) → r ≡ decode_answer s b
+pub decodes-so : (s : List ℕ) (b : ℕ) (r : Answer (Option ℕ)) (after : List ℕ) → r ≡ decode_answer s b
     → after ≡ decode_memory s b → Decodes s b r after
 unfolding decode_answer
 decodes-so s b r after p q = record {
   answer = p;
   memory = q;
   numbers = ap decode_numbers p
-      ∙ call-numbers decode_numbers (decoder_fault s b) (delivery s b) Refused (decode_values s b) (delivery-numbers s b)
-      (λ k. refl);
+      ∙ call-numbers decode_numbers (decoder_fault s b) (delivery s b) refused (decode_values s b) (delivery-numbers s b)
+      (λ some. let l = decoder-range s b some in numbered _ (omega (arith, l.0), l.1));
 }
 
 -- ---- a step that is taken

@@ -12,11 +12,11 @@ use native.Mathlib.Nat.{add-zero}
 use native.Mathlib.Omega.{arith}
 use borrow.Author.Tests.{lt-ltb, le-ltb}
 use lib.ListN.{length, get_or}
+use Rattle.link.specs.Refusals.{Answer}
 use Rattle.span.specs.Word.{◌⊕◌, sel}
 use Rattle.link.specs.Runs.{run, placed}
 use Rattle.link.proofs.Fill.{fill_complete, fill_waits}
-use Rattle.iwadare.specs.declared.decode.DecodeAnswer.{DecodeAnswer}
-use Rattle.iwadare.specs.declared.decode.DecodeAnswer.TheVariants.{Delivery, NothingYet}
+use Rattle.std.specs.Prelude.{Option, Some, None, Ok}
 use Rattle.iwadare.specs.Memory.{fill_of, fill_next}
 use Rattle.iwadare.specs.Refusals.{decoder_fault}
 use Rattle.iwadare.specs.Decoder.{register_of, flips_symbol1, flips_symbol0, delivered, delivery, decode_memory}
@@ -28,22 +28,22 @@ use Rattle.iwadare.proofs.Runs.{DecoderRun, decoder_before, decoder-first, answe
 
 -- ---- the fill
 
-module _ {S : ℕ → List ℕ} {R : ℕ → ℕ} {A : ℕ → DecodeAnswer} {count : ℕ} (r : DecoderRun S R A count) where
+module _ {S : ℕ → List ℕ} {R : ℕ → ℕ} {A : ℕ → Answer (Option ℕ)} {count : ℕ} (r : DecoderRun S R A count) where
   fill_on : (p : ℕ) → p < count → fill_of (S (suc p)) ≡ fill_next (fill_of (S p))
   fill_on p h = (r.decodes p h).fill_on
 
-  pub answers_complete : (p : ℕ) → p < count → 18 ≤ p → A p ≡ Delivery (delivered (S p) (R p))
+  pub answers_complete : (p : ℕ) → p < count → 18 ≤ p → A p ≡ Ok (Some (delivered (S p) (R p)))
   unfolding delivery
   answers_complete p h from =
       r.answers p h
-      ∙ ap (λ (b : Bool). cond b NothingYet (Delivery (delivered (S p) (R p))))
+      ∙ ap (λ (b : Bool). cond b (Ok None) (Ok (Some (delivered (S p) (R p)))))
       (le-ltb (fill_of (S p)) 18 (fill_complete (λ q. fill_of (S q)) 18 count fill_on p (omega arith) from))
 
-  answers-waiting : (p : ℕ) → p < count → fill_of (S 0) + p < 18 → A p ≡ NothingYet
+  answers-waiting : (p : ℕ) → p < count → fill_of (S 0) + p < 18 → A p ≡ Ok None
   unfolding delivery
   answers-waiting p h l =
       r.answers p h
-      ∙ ap (λ (b : Bool). cond b NothingYet (Delivery (delivered (S p) (R p))))
+      ∙ ap (λ (b : Bool). cond b (Ok None) (Ok (Some (delivered (S p) (R p)))))
       (lt-ltb (fill_of (S p)) 18
       (let z = fill_waits (λ q. fill_of (S q)) 18 count fill_on p (omega arith) in omega arith))
 
@@ -97,7 +97,7 @@ pub deliveries : IwadareDelivery
 deliveries memory rs p after inside =
     ap (λ (k : ℕ). (get_or taken k none_taken).answer) (let z : p - 1 ≡ suc (q + 18) - 1 = omega arith in z)
     ∙ answers_complete steps (q + 18) (omega arith) (omega arith)
-    ∙ ap Delivery
+    ∙ ap (λ d. Ok (Some d))
     (comes steps q (omega arith)
     ∙ ap₂ ◌⊕◌
     (ap₂ (λ (x y : ℕ). x % 2 ^ 2 ⊕ sel (flips_symbol1 y) 2)

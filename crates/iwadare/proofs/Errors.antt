@@ -21,6 +21,8 @@ use lib.Dec.{leb, ltb}
 use lib.ListN.{length, get_or, drop, length-drop}
 use lib.Seq.{get_or-drop}
 use lib.Pow.{pow_pos}
+use Rattle.link.specs.Refusals.{Answer}
+use Rattle.std.specs.Prelude.{Option}
 use Rattle.span.specs.Word.{◌⊕◌, odd, bit, sel}
 use Rattle.span.specs.Combination.{combination}
 use Rattle.span.proofs.Word.{xor_zero_r, xor_comm, xor_assoc, xor_lt, xor_mod, xor-eq, xor-self-bool, bit-xor, bit-none}
@@ -28,7 +30,6 @@ use Rattle.span.proofs.Masks.{topped-lt}
 use Rattle.link.specs.Memory.{joining}
 use Rattle.link.specs.Step.{register}
 use Rattle.link.proofs.Step.{joined_half, joined_odd, both_half, both_odd, coder_info}
-use Rattle.iwadare.specs.declared.decode.DecodeAnswer.{DecodeAnswer}
 use Rattle.iwadare.specs.Memory.{generators, coder_pending, fill_of, pending_of, terms_of, fill_next}
 use Rattle.iwadare.specs.Decoder.{decoder_joining, raw_of, register_of, flips_symbol1, flips_symbol0, terms_next}
 use Rattle.iwadare.specs.Decoder.{decoder_next, delivered}
@@ -38,11 +39,11 @@ use Rattle.iwadare.proofs.Words.{CoderStep, delayed, DecoderStep, decoder_step}
 xor-right : (a b c : ℕ) → a ⊕ b ⊕ c ≡ a ⊕ c ⊕ b
 xor-right a b c = xor_assoc a b c ∙ ap (λ (x : ℕ). a ⊕ x) (xor_comm b c) ∙ sym (xor_assoc a c b)
 
-pub record Linked (M S : ℕ → List ℕ) (B C R : ℕ → ℕ) (A : ℕ → DecodeAnswer) (count : ℕ) : Type 0 where
+pub record Linked (M S : ℕ → List ℕ) (B C R : ℕ → ℕ) (A : ℕ → Answer (Option ℕ)) (count : ℕ) : Type 0 where
   pub coding : CoderRun M B C count
   pub decoding : DecoderRun S R A count
 
-module _ {M S : ℕ → List ℕ} {B C R : ℕ → ℕ} {A : ℕ → DecodeAnswer} {count : ℕ} (l : Linked M S B C R A count) where
+module _ {M S : ℕ → List ℕ} {B C R : ℕ → ℕ} {A : ℕ → Answer (Option ℕ)} {count : ℕ} (l : Linked M S B C R A count) where
   pub errors : ℕ → ℕ
   errors p = cond (ltb p count) (R p ⊕ C p) 0
 

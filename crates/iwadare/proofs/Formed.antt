@@ -29,7 +29,7 @@ use Rattle.iwadare.proofs.Coder.{coder-taken}
 use Rattle.iwadare.proofs.Decoder.{formed-passed, decoder-taken, register_lt}
 use Rattle.iwadare.proofs.Words.{coder-step, delayed, DecoderStep, decoder_step, terms-lt}
 use Rattle.iwadare.proofs.Taps.{images}
-use Rattle.iwadare.proofs.Runs.{None, coder-memory, decoder-memory, sent_kept, sent_entry, sent-told, taken_kept}
+use Rattle.iwadare.proofs.Runs.{Tableless, coder-memory, decoder-memory, sent_kept, sent_entry, sent-told, taken_kept}
 use Rattle.iwadare.proofs.Runs.{taken_entry, taken-told}
 
 -- ---- 13 and 14
@@ -124,9 +124,9 @@ decoder-kept s r e = record {
 
 pub formed_throughout : IwadareFormedThroughout
 formed_throughout s bs = (
-  λ f. ran_keeps (λ (n : None). coder_fault) (λ n. coder_next) (λ n. code_memory) coder-memory sent_kept sent_entry sent-told
+  λ f. ran_keeps (λ (n : Tableless). coder_fault) (λ n. coder_next) (λ n. code_memory) coder-memory sent_kept sent_entry sent-told
       CoderFormed (λ x. Unit {0}) none_sent (λ c m e a k. coder-kept m c.block e) s (handed bs) f (λ p h. tt),
-  λ f. ran_keeps (λ (n : None). decoder_fault) (λ n. decoder_next) (λ n. decode_memory) decoder-memory taken_kept taken_entry
+  λ f. ran_keeps (λ (n : Tableless). decoder_fault) (λ n. decoder_next) (λ n. decode_memory) decoder-memory taken_kept taken_entry
       taken-told DecoderFormed (λ x. Unit {0}) none_taken (λ c m e a k. decoder-kept m c.block e) s (handed bs) f
       (λ p h. tt),
 )

@@ -4,16 +4,17 @@
 --   step_fault_lem        the chain
 --   step_settled          the same once 13 is settled
 --   Passed, step_passed   what no refusal says
+--   coder-range, decoder-range   a refusal has a number from 13 to 15
 use mathlib.Core.Path.{◌≡◌, ap, ◌∙◌}
 use mathlib.Core.Bool.{Bool, false, cond, not}
 use mathlib.Core.List.{List, [], ◌∷◌}
-use Prim.Native.Nat.{ℕ, ◌<◌}
+use Prim.Native.Nat.{ℕ, ◌<◌, ◌≤◌}
 use native.Mathlib.Omega.{arith}
 use borrow.Author.Tests.{eq-eqb, eqb-true, leb-false, not-false}
 use lib.Dec.{leb, eqb}
 use lib.ListN.{length}
-use Rattle.tables.proofs.Refusal.{first-nil, first-cons, first-none}
-use Rattle.iwadare.specs.Refusals.{step_fault}
+use Rattle.tables.proofs.Refusal.{first-nil, first-cons, first-none, first_range}
+use Rattle.iwadare.specs.Refusals.{step_fault, coder_fault, decoder_fault}
 
 module _ (words : ℕ) (malformed : Bool) (bound : ℕ) (s : List ℕ) (b : ℕ) where
   abbrev long : Bool
@@ -51,3 +52,21 @@ module _ (words : ℕ) (malformed : Bool) (bound : ℕ) (s : List ℕ) (b : ℕ)
         formed = q.0;
         block = leb-false bound b r.0;
       }
+
+step_range : (words : ℕ) (malformed : Bool) (bound : ℕ) (s : List ℕ) (b : ℕ)
+    → (step_fault words malformed bound s b ≡ 0 → ⊥)
+    → (13 ≤ step_fault words malformed bound s b) × (step_fault words malformed bound s b ≤ 15)
+unfolding step_fault
+step_range words malformed bound s b some =
+    let r = first_range 13 (_ ∷ _ ∷ _ ∷ []) some in
+    (omega (arith, r), omega (arith, r))
+
+pub coder-range : (s : List ℕ) (b : ℕ) → (coder_fault s b ≡ 0 → ⊥)
+    → (13 ≤ coder_fault s b) × (coder_fault s b ≤ 15)
+unfolding coder_fault
+coder-range s b = step_range _ _ _ s b
+
+pub decoder-range : (s : List ℕ) (b : ℕ) → (decoder_fault s b ≡ 0 → ⊥)
+    → (13 ≤ decoder_fault s b) × (decoder_fault s b ≤ 15)
+unfolding decoder_fault
+decoder-range s b = step_range _ _ _ s b

@@ -14,13 +14,14 @@ use borrow.Author.Tests.{lt-ltb, le-ltb, eq-eqb, ne_eqb}
 use lib.Dec.{ltb, eqb}
 use lib.ListN.{length, get_or}
 use lib.Pow.{pow_pos}
+use Rattle.link.specs.Refusals.{Answer}
+use Rattle.std.specs.Prelude.{Option}
 use Rattle.span.specs.Word.{◌⊕◌, bit, odd, sel, digit}
 use Rattle.span.proofs.Word.{bit-suc, bit-xor, bit-low, bit-none}
 use Rattle.tables.proofs.Every.{every, every-at}
 use Rattle.link.specs.Memory.{started}
 use Rattle.link.specs.Runs.{run, placed}
 use Rattle.link.proofs.Step.{topped_low, topped_bit}
-use Rattle.iwadare.specs.declared.decode.DecodeAnswer.{DecodeAnswer}
 use Rattle.iwadare.specs.Memory.{decoder_words, terms_of}
 use Rattle.iwadare.specs.Refusals.{decoder_fault}
 use Rattle.iwadare.specs.Decoder.{raw_of, register_of, flips_symbol1, flips_symbol0, matched, terms_next, decode_memory}
@@ -122,7 +123,7 @@ zero_left a x h e = go (ℕ_discrete a 11) (ℕ_discrete a 0)
 
 -- ---- a term on its way, from the place i at which it is the newest, counted from 0
 
-module _ {S : ℕ → List ℕ} {R : ℕ → ℕ} {A : ℕ → DecodeAnswer} {count : ℕ} (r : DecoderRun S R A count) where
+module _ {S : ℕ → List ℕ} {R : ℕ → ℕ} {A : ℕ → Answer (Option ℕ)} {count : ℕ} (r : DecoderRun S R A count) where
   abbrev terms : ℕ → ℕ
   terms p = register_of (S p) (R p)
 

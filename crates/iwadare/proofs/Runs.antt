@@ -12,13 +12,11 @@ use Prim.Native.Nat.{ℕ, suc, ◌-◌, ◌<◌}
 use native.Mathlib.Omega.{arith}
 use lib.Dec.{ltb, eqb}
 use lib.ListN.{length, get_or}
-use Rattle.link.specs.declared.code.CodeAnswer.TheVariants.{Coded, Refused as CodeRefused}
-use Rattle.link.specs.Refusals.{leaves}
+use Rattle.std.specs.Prelude.{Option, Some, None, Ok}
+use Rattle.link.specs.Refusals.{Answer, leaves, refused}
 use Rattle.link.specs.Runs.{run, ran, placed}
 use Rattle.link.proofs.Refusals.{answered-is}
 use Rattle.link.proofs.Runs.{before, before_first, Told, Place, run_place, skipped}
-use Rattle.iwadare.specs.declared.decode.DecodeAnswer.{DecodeAnswer}
-use Rattle.iwadare.specs.declared.decode.DecodeAnswer.TheVariants.{Delivery, NothingYet, Refused}
 use Rattle.iwadare.specs.Memory.{delay, fill_of}
 use Rattle.iwadare.specs.Refusals.{coder_fault, decoder_fault}
 use Rattle.iwadare.specs.Coder.{coded_block, coder_next, code_answer, code_memory}
@@ -33,73 +31,73 @@ use Rattle.iwadare.specs.Taps.{info_sent, block_sent, block_taken}
 pub record CoderRun (M : ℕ → List ℕ) (B C : ℕ → ℕ) (count : ℕ) : Type 0 where
   pub codes : (p : ℕ) → p < count → CoderStep (M p) (B p) (C p) (M (suc p))
 
-pub record DecoderRun (S : ℕ → List ℕ) (R : ℕ → ℕ) (A : ℕ → DecodeAnswer) (count : ℕ) : Type 0 where
+pub record DecoderRun (S : ℕ → List ℕ) (R : ℕ → ℕ) (A : ℕ → Answer (Option ℕ)) (count : ℕ) : Type 0 where
   pub taken : (p : ℕ) → p < count → DecoderTaken (S p) (R p)
   pub decodes : (p : ℕ) → p < count → DecoderStep (S p) (R p) (S (suc p))
   pub answers : (p : ℕ) → p < count → A p ≡ delivery (S p) (R p)
 
 -- nothing is handed in the table's place
-abbrev pub None : Type 0
-None = Unit {0}
+abbrev pub Tableless : Type 0
+Tableless = Unit {0}
 
-pub coder-memory : (n : None) (s : List ℕ) (b : ℕ) → code_memory s b ≡ leaves (coder_fault s b) (coder_next s b) s
+pub coder-memory : (n : Tableless) (s : List ℕ) (b : ℕ) → code_memory s b ≡ leaves (coder_fault s b) (coder_next s b) s
 unfolding code_memory
 coder-memory n s b = refl
 
-pub decoder-memory : (n : None) (s : List ℕ) (r : ℕ) → decode_memory s r ≡ leaves (decoder_fault s r) (decoder_next s r) s
+pub decoder-memory : (n : Tableless) (s : List ℕ) (r : ℕ) → decode_memory s r ≡ leaves (decoder_fault s r) (decoder_next s r) s
 unfolding decode_memory
 decoder-memory n s r = refl
 
 abbrev pub coder_before : List ℕ → List ℕ → ℕ → List ℕ
 coder_before s bs =
-    before (λ (n : None). coder_fault) (λ n. coder_next) (λ n. code_memory) coder-memory s (handed bs)
+    before (λ (n : Tableless). coder_fault) (λ n. coder_next) (λ n. code_memory) coder-memory s (handed bs)
 
 abbrev pub decoder_before : List ℕ → List ℕ → ℕ → List ℕ
 decoder_before s rs =
-    before (λ (n : None). decoder_fault) (λ n. decoder_next) (λ n. decode_memory) decoder-memory s (handed rs)
+    before (λ (n : Tableless). decoder_fault) (λ n. decoder_next) (λ n. decode_memory) decoder-memory s (handed rs)
 
 pub coder_first : (s bs : List ℕ) → coder_before s bs 0 ≡ s
 coder_first s bs =
-    before_first (λ (n : None). coder_fault) (λ n. coder_next) (λ n. code_memory) coder-memory s (handed bs)
+    before_first (λ (n : Tableless). coder_fault) (λ n. coder_next) (λ n. code_memory) coder-memory s (handed bs)
 
 pub decoder-first : (s rs : List ℕ) → decoder_before s rs 0 ≡ s
 decoder-first s rs =
-    before_first (λ (n : None). decoder_fault) (λ n. decoder_next) (λ n. decode_memory) decoder-memory s (handed rs)
+    before_first (λ (n : Tableless). decoder_fault) (λ n. decoder_next) (λ n. decode_memory) decoder-memory s (handed rs)
 
 -- ---- what is kept of a step that is taken
 
-abbrev pub sent_entry : None → List ℕ → ℕ → Sent
+abbrev pub sent_entry : Tableless → List ℕ → ℕ → Sent
 sent_entry n s b = record { info = b; block = coded_block s b }
 
-abbrev pub taken_entry : None → List ℕ → ℕ → Taken
+abbrev pub taken_entry : Tableless → List ℕ → ℕ → Taken
 taken_entry n s r = record { block = r; answer = delivery s r }
 
-abbrev pub sent_kept : None → List ℕ → ℕ → List Sent
+abbrev pub sent_kept : Tableless → List ℕ → ℕ → List Sent
 sent_kept n s b = sent_of b (code_answer s b)
 
-abbrev pub taken_kept : None → List ℕ → ℕ → List Taken
+abbrev pub taken_kept : Tableless → List ℕ → ℕ → List Taken
 taken_kept n s r = taken_of r (decode_answer s r)
 
-pub sent-told : Told (λ (n : None). coder_fault) (λ n. coder_next) (λ n. code_memory) coder-memory sent_kept sent_entry
+pub sent-told : Told (λ (n : Tableless). coder_fault) (λ n. coder_next) (λ n. code_memory) coder-memory sent_kept sent_entry
 unfolding code_answer
 sent-told n s b =
-    ap (sent_of b) (answered-is (coder_fault s b) (Coded (coded_block s b)) CodeRefused) ∙ go (eqb (coder_fault s b) 0)
+    ap (sent_of b) (answered-is (coder_fault s b) (Ok (coded_block s b)) refused) ∙ go (eqb (coder_fault s b) 0)
   where
-    go : (q : Bool) → sent_of b (cond q (Coded (coded_block s b)) (CodeRefused (coder_fault s b)))
+    go : (q : Bool) → sent_of b (cond q (Ok (coded_block s b)) (refused (coder_fault s b)))
         ≡ cond q (sent_entry n s b ∷ []) []
     go true = refl
     go false = refl
 
-pub taken-told : Told (λ (n : None). decoder_fault) (λ n. decoder_next) (λ n. decode_memory) decoder-memory
+pub taken-told : Told (λ (n : Tableless). decoder_fault) (λ n. decoder_next) (λ n. decode_memory) decoder-memory
     taken_kept taken_entry
 unfolding decode_answer delivery
 taken-told n s r =
-    ap (taken_of r) (answered-is (decoder_fault s r) (delivery s r) Refused)
+    ap (taken_of r) (answered-is (decoder_fault s r) (delivery s r) refused)
     ∙ go (eqb (decoder_fault s r) 0) (ltb (fill_of s) delay)
   where
     go : (q d : Bool)
-        → taken_of r (cond q (cond d NothingYet (Delivery (delivered s r))) (Refused (decoder_fault s r)))
-        ≡ cond q (record { block = r; answer = cond d NothingYet (Delivery (delivered s r)) } ∷ []) []
+        → taken_of r (cond q (cond d (Ok None) (Ok (Some (delivered s r)))) (refused (decoder_fault s r)))
+        ≡ cond q (record { block = r; answer = cond d (Ok None) (Ok (Some (delivered s r))) } ∷ []) []
     go true true = refl
     go true false = refl
     go false d = refl
@@ -114,9 +112,9 @@ module _ (s bs : List ℕ) where
   M = coder_before s bs
 
   place : (p : ℕ) → p < length (sent_by s bs)
-      → Place (λ (n : None). coder_fault) (λ n. coder_next) (λ n. code_memory) coder-memory s (handed bs) p
+      → Place (λ (n : Tableless). coder_fault) (λ n. coder_next) (λ n. code_memory) coder-memory s (handed bs) p
   place =
-      run_place (λ (n : None). coder_fault) (λ n. coder_next) (λ n. code_memory) coder-memory sent_kept sent_entry sent-told
+      run_place (λ (n : Tableless). coder_fault) (λ n. coder_next) (λ n. code_memory) coder-memory sent_kept sent_entry sent-told
       s (handed bs)
 
   sent_is : (p : ℕ) (h : p < length (sent_by s bs))
@@ -140,13 +138,13 @@ module _ (s rs : List ℕ) where
   abbrev S : ℕ → List ℕ
   S = decoder_before s rs
 
-  abbrev pub answerTaken : ℕ → DecodeAnswer
+  abbrev pub answerTaken : ℕ → Answer (Option ℕ)
   answerTaken p = (taken_at (taken_by s rs) (suc p)).answer
 
   taken-place : (p : ℕ) → p < length (taken_by s rs)
-      → Place (λ (n : None). decoder_fault) (λ n. decoder_next) (λ n. decode_memory) decoder-memory s (handed rs) p
+      → Place (λ (n : Tableless). decoder_fault) (λ n. decoder_next) (λ n. decode_memory) decoder-memory s (handed rs) p
   taken-place =
-      run_place (λ (n : None). decoder_fault) (λ n. decoder_next) (λ n. decode_memory) decoder-memory taken_kept taken_entry
+      run_place (λ (n : Tableless). decoder_fault) (λ n. decoder_next) (λ n. decode_memory) decoder-memory taken_kept taken_entry
       taken-told s (handed rs)
 
   taken_is : (p : ℕ) (h : p < length (taken_by s rs))
@@ -174,7 +172,7 @@ module _ (s rs : List ℕ) where
 
   -- whatever is told of the steps, that of this step stands at its place
   pub told_place : {X : Type 0} (entry : List ℕ → ℕ → X) (d : X) (p : ℕ) → p < length (taken_by s rs)
-      → get_or (run (λ (n : None). decode_memory) (placed (λ n. decoder_fault) (λ n. entry)) s (handed rs)) p d
+      → get_or (run (λ (n : Tableless). decode_memory) (placed (λ n. decoder_fault) (λ n. entry)) s (handed rs)) p d
       ≡ entry (S p) (block_taken (taken_by s rs) p)
   told_place entry d p h =
       (taken-place p h).is (placed (λ n. decoder_fault) (λ n. entry)) (λ n. entry) (λ n s r. refl) d
@@ -188,7 +186,7 @@ handed-append xs ys = map-append (λ (b : ℕ). record { table = tt; block = b }
 pub refused_skipped : IwadareRefusedSkipped
 refused_skipped s bs b bs' = (
   λ refused.
-      let k = skipped (λ (n : None). coder_fault) (λ n. coder_next) (λ n. code_memory) coder-memory sent_kept sent_entry
+      let k = skipped (λ (n : Tableless). coder_fault) (λ n. coder_next) (λ n. code_memory) coder-memory sent_kept sent_entry
       sent-told s (handed bs) (record { table = tt; block = b }) (handed bs') refused in (
         ap (run (λ n. code_memory) sent_kept s) (handed-append bs (b ∷ bs')) ∙ k.0
             ∙ sym (ap (run (λ n. code_memory) sent_kept s) (handed-append bs bs')),
@@ -196,7 +194,7 @@ refused_skipped s bs b bs' = (
             ∙ sym (ap (ran (λ n. code_memory) s) (handed-append bs bs')),
       ),
   λ refused.
-      let k = skipped (λ (n : None). decoder_fault) (λ n. decoder_next) (λ n. decode_memory) decoder-memory taken_kept
+      let k = skipped (λ (n : Tableless). decoder_fault) (λ n. decoder_next) (λ n. decode_memory) decoder-memory taken_kept
       taken_entry taken-told s (handed bs) (record { table = tt; block = b }) (handed bs') refused in (
         ap (run (λ n. decode_memory) taken_kept s) (handed-append bs (b ∷ bs')) ∙ k.0
             ∙ sym (ap (run (λ n. decode_memory) taken_kept s) (handed-append bs bs')),

@@ -13,7 +13,7 @@ use Rattle.link.specs.Memory.{started, joining}
 use Rattle.link.specs.Refusals.{some_above, answered, leaves}
 use Rattle.link.specs.Runs.{run}
 use Rattle.link.specs.Recovery.{Stretch, Burst}
-use Rattle.iwadare.specs.declared.decode.DecodeAnswer.TheVariants.{Delivery}
+use Rattle.std.specs.Prelude.{Some, Ok}
 use Rattle.iwadare.specs.Memory.{coder_words, decoder_words}
 use Rattle.iwadare.specs.Refusals.{step_fault, coder_fault, decoder_fault}
 use Rattle.iwadare.specs.Coder.{coder_joining, coded_block, coder_next, code_answer, code_memory}
@@ -67,7 +67,7 @@ record Shown (taken : List Taken) (count : ℕ) (chosen : List Stretch) (answer 
   takes : length taken ≡ count
   sends : length (zeros_sent count) ≡ count
   covering : covers (zeros_sent count) taken chosen (3 * length taken) ≡ true
-  answers : (taken_at taken count).answer ≡ Delivery answer
+  answers : (taken_at taken count).answer ≡ Ok (Some answer)
   info : (sent_at (zeros_sent count) (count - 18)).info ≡ 0
 
 computed : (Shown long_taken 53 (at 93 103 ∷ []) 1 × Ends (zeros_sent 53) long_taken (at 93 103)
@@ -113,7 +113,7 @@ module _ {taken : List Taken} {count : ℕ} {chosen : List Stretch} {answer : �
     -- zero was sent, and something else is delivered
     goes-wrong : 0 < answer → Corrected (zeros_sent count) taken count → ⊥
     goes-wrong some right =
-        let same = delivery-same answer 0 (sym s.answers ∙ right ∙ ap Delivery s.info) in
+        let same = delivery-same answer 0 (sym s.answers ∙ right ∙ ap (λ d. Ok (Some d)) s.info) in
         omega arith
 
 -- a burst of one run

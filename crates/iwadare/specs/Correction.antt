@@ -8,10 +8,9 @@
 --   CorrectionWith long gap   the claim, with these numbers
 --   IwadareCorrection         02's: 9 and 56
 --   IwadareCorrectionTen      more than 02 and 001 say: 10 and 56
-use Rattle.std.specs.Prelude.{◌≡◌, ◌≢◌, List, ℕ, ◌-◌, ◌*◌, ◌≤◌, ◌<◌, length}
+use Rattle.std.specs.Prelude.{◌≡◌, ◌≢◌, List, ℕ, ◌-◌, ◌*◌, ◌≤◌, ◌<◌, length, Some, Ok}
 use Rattle.link.specs.Memory.{started}
 use Rattle.link.specs.Recovery.{Bursts}
-use Rattle.iwadare.specs.declared.decode.DecodeAnswer.TheVariants.{Delivery}
 use Rattle.iwadare.specs.Memory.{coder_words, decoder_words, delay}
 use Rattle.iwadare.specs.Runs.{Sent, Taken, sent_by, taken_by, sent_at, taken_at, bit_sent, bit_taken}
 
@@ -24,7 +23,7 @@ BitBursts long gap sent taken = Bursts (WrongBit sent taken) long gap (3 * lengt
 
 -- "when the eighteenth block after it is taken": the information sent 18 blocks back
 abbrev pub Corrected : List Sent → List Taken → ℕ → Type 0
-Corrected sent taken p = (taken_at taken p).answer ≡ Delivery (sent_at sent (p - delay)).info
+Corrected sent taken p = (taken_at taken p).answer ≡ Ok (Some (sent_at sent (p - delay)).info)
 
 -- at least as many blocks are sent as taken; each step past the eighteenth that takes a block answers with the
 -- information sent 18 blocks before

@@ -14,12 +14,12 @@
 --   decode_values             the values of a step that is taken
 --   Decodes                   what `decode` promises
 use Rattle.std.specs.Prelude.{◌≡◌, Bool, cond, not, ◌&&◌, List, [], ◌∷◌, ◌++◌, ℕ, ◌+◌, ◌/◌, ◌^◌, ltb, set, drop}
+use Rattle.std.specs.Prelude.{Option, Some, None, Result, Ok, Err}
 use Rattle.span.specs.Word.{◌⊕◌, bit, sel}
 use Rattle.link.specs.Memory.{joining, next_pending}
 use Rattle.link.specs.Step.{information, raw_term, register}
-use Rattle.link.specs.Refusals.{answered, leaves, call_numbers}
-use Rattle.iwadare.specs.declared.decode.DecodeAnswer.{DecodeAnswer}
-use Rattle.iwadare.specs.declared.decode.DecodeAnswer.TheVariants.{Delivery, NothingYet, Refused}
+use Rattle.link.specs.Refusals.{Answer, answered, leaves, call_numbers, refused, refusal_number}
+use Rattle.link.specs.declared.refusal.Refusal.{Refusal}
 use Rattle.iwadare.specs.Memory.{generators, delay, fill_of, pending_of, terms_of, word_back, delayed_back, fill_next}
 use Rattle.iwadare.specs.Refusals.{decoder_fault}
 
@@ -65,25 +65,25 @@ unfoldable pub delivered : List ℕ → ℕ → ℕ
 delivered s r = delayed_back s delay ⊕ sel (flips_symbol0 (register_of s r)) 1
 
 -- "before that the answer is "nothing yet""
-unfoldable pub delivery : List ℕ → ℕ → DecodeAnswer
-delivery s r = cond (ltb (fill_of s) delay) NothingYet (Delivery (delivered s r))
+unfoldable pub delivery : List ℕ → ℕ → Answer (Option ℕ)
+delivery s r = cond (ltb (fill_of s) delay) (Ok None) (Ok (Some (delivered s r)))
 
-unfoldable pub decode_answer : List ℕ → ℕ → DecodeAnswer
-decode_answer s r = answered (decoder_fault s r) (delivery s r) Refused
+unfoldable pub decode_answer : List ℕ → ℕ → Answer (Option ℕ)
+decode_answer s r = answered (decoder_fault s r) (delivery s r) refused
 
 unfoldable pub decode_memory : List ℕ → ℕ → List ℕ
 decode_memory s r = leaves (decoder_fault s r) (decoder_next s r) s
 
 -- 0, whether a block is delivered, and its information, or 0; or the refusal's number
-abbrev pub decode_numbers : DecodeAnswer → List ℕ
-decode_numbers (Delivery info) = 0 ∷ 1 ∷ info ∷ []
-decode_numbers NothingYet = 0 ∷ 0 ∷ 0 ∷ []
-decode_numbers (Refused k) = k ∷ []
+abbrev pub decode_numbers : Answer (Option ℕ) → List ℕ
+decode_numbers (Ok (Some info)) = 0 ∷ 1 ∷ info ∷ []
+decode_numbers (Ok None) = 0 ∷ 0 ∷ 0 ∷ []
+decode_numbers (Err e) = refusal_number e ∷ []
 
 abbrev pub decode_values : List ℕ → ℕ → List ℕ
 decode_values s r = cond (ltb (fill_of s) delay) (0 ∷ 0 ∷ []) (1 ∷ delivered s r ∷ [])
 
-pub record Decodes (before : List ℕ) (received : ℕ) (r : DecodeAnswer) (after : List ℕ) : Type 0 where
+pub record Decodes (before : List ℕ) (received : ℕ) (r : Answer (Option ℕ)) (after : List ℕ) : Type 0 where
   pub answer : r ≡ decode_answer before received
   pub memory : after ≡ decode_memory before received
   pub numbers : decode_numbers r ≡ call_numbers (decoder_fault before received) (decode_values before received)

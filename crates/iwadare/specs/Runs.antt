@@ -9,13 +9,11 @@
 --   sent_at xs p, taken_at xs p   entry p of such a list, counted from 1; past its end none_sent and none_taken
 --   IwadareRefusedSkipped   a run with a refused step in it is the run without it
 --   bit_sent xs q, bit_taken xs q   bit q of what is sent and of what is taken, counted from 1
-use Rattle.std.specs.Prelude.{◌≡◌, Bool, ◌≢◌, List, [], ◌∷◌, ◌++◌, map, ℕ, ◌+◌, ◌-◌, ◌/◌, ◌%◌, get_or}
+use Rattle.link.specs.Refusals.{Answer}
+use Rattle.std.specs.Prelude.{Option, ◌≡◌, Bool, ◌≢◌, List, [], ◌∷◌, ◌++◌, map, ℕ, ◌+◌, ◌-◌, ◌/◌, ◌%◌, get_or, Some, None, Ok}
+use Rattle.std.specs.Prelude.{Err}
 use Rattle.span.specs.Word.{bit}
-use Rattle.link.specs.declared.code.CodeAnswer.{CodeAnswer}
-use Rattle.link.specs.declared.code.CodeAnswer.TheVariants.{Coded, Refused as CodeRefused}
 use Rattle.link.specs.Runs.{CallOf, run, ran}
-use Rattle.iwadare.specs.declared.decode.DecodeAnswer.{DecodeAnswer}
-use Rattle.iwadare.specs.declared.decode.DecodeAnswer.TheVariants.{Delivery, NothingYet, Refused}
 use Rattle.iwadare.specs.Refusals.{coder_fault, decoder_fault}
 use Rattle.iwadare.specs.Coder.{code_answer, code_memory}
 use Rattle.iwadare.specs.Decoder.{decode_answer, decode_memory}
@@ -24,18 +22,18 @@ pub record Sent : Type 0 where
   pub info : ℕ
   pub block : ℕ
 
-abbrev pub sent_of : ℕ → CodeAnswer → List Sent
-sent_of b (Coded c) = record { info = b; block = c } ∷ []
-sent_of b (CodeRefused k) = []
+abbrev pub sent_of : ℕ → Answer ℕ → List Sent
+sent_of b (Ok c) = record { info = b; block = c } ∷ []
+sent_of b (Err e) = []
 
 pub record Taken : Type 0 where
   pub block : ℕ
-  pub answer : DecodeAnswer
+  pub answer : Answer (Option ℕ)
 
-abbrev pub taken_of : ℕ → DecodeAnswer → List Taken
-taken_of r (Delivery info) = record { block = r; answer = Delivery info } ∷ []
-taken_of r NothingYet = record { block = r; answer = NothingYet } ∷ []
-taken_of r (Refused k) = []
+abbrev pub taken_of : ℕ → Answer (Option ℕ) → List Taken
+taken_of r (Ok (Some info)) = record { block = r; answer = Ok (Some info) } ∷ []
+taken_of r (Ok None) = record { block = r; answer = Ok None } ∷ []
+taken_of r (Err e) = []
 
 -- nothing stands in the table's place
 abbrev pub handed : List ℕ → List (CallOf (Unit {0}))
@@ -57,7 +55,7 @@ abbrev pub none_sent : Sent
 none_sent = record { info = 0; block = 0 }
 
 abbrev pub none_taken : Taken
-none_taken = record { block = 0; answer = NothingYet }
+none_taken = record { block = 0; answer = Ok None }
 
 abbrev pub sent_at : List Sent → ℕ → Sent
 sent_at xs p = get_or xs (p - 1) none_sent

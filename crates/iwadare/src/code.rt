@@ -1,11 +1,12 @@
 // The coder: one step on lent memory.
 ghost use Rattle.std.specs.Prelude.{◌≡◌, ◌<◌, length};
 ghost use Rattle.span.specs.Combination.{combination};
+ghost use Rattle.link.specs.Refusals.{settled};
 ghost use Rattle.iwadare.specs.Memory.{generators};
 ghost use Rattle.iwadare.specs.Refusals.{coder_fault};
 ghost use Rattle.iwadare.specs.Coder.{coded_block, coder_next, Codes};
 
-use link::code::CodeAnswer;
+use link::refusal::Refusal;
 use span::bits::select;
 use span::combine::combination;
 
@@ -19,20 +20,20 @@ pub(crate) fn image(info: u64) -> u64
     combination(&GENERATORS, GENERATORS.len(), info)
 }
 
-// The first of refusals 13 to 15 that applies, or 0.
-fn fault(state: &[u64], info: u64) -> u64
-    ensures { result ≡ coder_fault state.now info }
+// Whether one of refusals 13 to 15 applies: the first of them.
+fn fault(state: &[u64], info: u64) -> Result<(), Refusal>
+    ensures { result ≡ settled (coder_fault state.now info) }
 {
     if state.len() != 1 {
-        return 13;
+        return Err(Refusal::WrongLength);
     }
     if 262144 <= state[0] {
-        return 14;
+        return Err(Refusal::MalformedMemory);
     }
     if 4 <= info {
-        return 15;
+        return Err(Refusal::BlockTooLarge);
     }
-    0
+    Ok(())
 }
 
 // A step that no refusal applies to: the parity is bit 0 of w, and w halved stays.
@@ -46,13 +47,10 @@ fn taken(state: &mut [u64], info: u64) -> u64
     info + select(4, w)
 }
 
-pub fn code(state: &mut [u64], info: u16) -> CodeAnswer
+pub fn code(state: &mut [u64], info: u16) -> Result<u16, Refusal>
     ensures { Codes state.old info result state.new }
 {
     let block = info as u64;
-    let number = fault(state, block);
-    if number != 0 {
-        return CodeAnswer::Refused(number);
-    }
-    CodeAnswer::Coded(taken(state, block) as u16)
+    fault(state, block)?;
+    Ok(taken(state, block) as u16)
 }

@@ -1,24 +1,16 @@
 // The decoder: one step on lent memory.
-ghost use Rattle.std.specs.Prelude.{◌≡◌, [], ◌∷◌, ◌++◌, ◌/◌, ◌^◌, ◌<◌, length, get_or, set, drop};
+ghost use Rattle.std.specs.Prelude.{◌≡◌, [], ◌∷◌, ◌++◌, ◌/◌, ◌^◌, ◌<◌, length, get_or, set, drop, Ok};
 ghost use Rattle.span.specs.Word.{◌⊕◌, sel};
-ghost use Rattle.link.specs.Refusals.{some_above};
+ghost use Rattle.link.specs.Refusals.{some_above, settled};
 ghost use Rattle.iwadare.specs.Memory.{fill_of, fill_next};
 ghost use Rattle.iwadare.specs.Refusals.{decoder_malformed, decoder_fault};
 ghost use Rattle.iwadare.specs.Decoder.{flips_symbol1, flips_symbol0, terms_next, delivery, decoder_next, Decodes};
 
 use crate::code::image;
 use crate::memory::{DELAY, DELAYED_BOUND, PENDING_BOUND, TERMS_BOUND};
+use link::refusal::Refusal;
 use link::stream::push;
 use span::bits::select;
-
-#[derive(Clone, Copy)]
-pub enum DecodeAnswer {
-    // The oldest delayed block, flipped where it is to be: over a run, that of the block taken 18 places before.
-    Delivery(u16),
-    NothingYet,
-    // Refusals 13 to 15.
-    Refused(u64),
-}
 
 // The weight of the newest of 13 terms.
 const NEWEST: u64 = 1 << 12;
@@ -56,20 +48,20 @@ fn malformed(state: &[u64]) -> bool
     DELAY < state[0] || PENDING_BOUND <= state[1] || TERMS_BOUND <= state[2] || delayed_above(state)
 }
 
-// The first of refusals 13 to 15 that applies, or 0.
-fn fault(state: &[u64], received: u64) -> u64
-    ensures { result ≡ decoder_fault state.now received }
+// Whether one of refusals 13 to 15 applies: the first of them.
+fn fault(state: &[u64], received: u64) -> Result<(), Refusal>
+    ensures { result ≡ settled (decoder_fault state.now received) }
 {
     if state.len() != 21 {
-        return 13;
+        return Err(Refusal::WrongLength);
     }
     if malformed(state) {
-        return 14;
+        return Err(Refusal::MalformedMemory);
     }
     if 8 <= received {
-        return 15;
+        return Err(Refusal::BlockTooLarge);
     }
-    0
+    Ok(())
 }
 
 // ---- a step
@@ -138,9 +130,9 @@ fn keep(state: &mut [u64], w: u64, terms: u64, weight: u64, youngest: u64)
 }
 
 // A step that no refusal applies to. The two generators are those of the two low bits, the received information.
-fn taken(state: &mut [u64], received: u64) -> DecodeAnswer
+fn taken(state: &mut [u64], received: u64) -> Option<u16>
     requires { decoder_fault state.old received ≡ 0 }
-    ensures answer { result ≡ delivery state.old received }
+    ensures answer { Ok result ≡ delivery state.old received }
     ensures memory { state.new ≡ decoder_next state.old received }
 {
     let fill = state[0];
@@ -149,18 +141,17 @@ fn taken(state: &mut [u64], received: u64) -> DecodeAnswer
     let oldest = state[3] ^ v.symbol0;
     keep(state, w, v.terms, v.symbol1, received % 4);
     if fill < DELAY {
-        return DecodeAnswer::NothingYet;
+        return None;
     }
-    DecodeAnswer::Delivery(oldest as u16)
+    Some(oldest as u16)
 }
 
-pub fn decode(state: &mut [u64], received: u16) -> DecodeAnswer
+// None is "nothing yet". A delivery is the oldest delayed block, flipped where it is to be: over a run, that of the
+// block taken 18 places before.
+pub fn decode(state: &mut [u64], received: u16) -> Result<Option<u16>, Refusal>
     ensures { Decodes state.old received result state.new }
 {
     let block = received as u64;
-    let number = fault(state, block);
-    if number != 0 {
-        return DecodeAnswer::Refused(number);
-    }
-    taken(state, block)
+    fault(state, block)?;
+    Ok(taken(state, block))
 }

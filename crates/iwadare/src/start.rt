@@ -2,15 +2,16 @@
 ghost use Rattle.link.specs.Start.{StartsWords};
 ghost use Rattle.iwadare.specs.Memory.{coder_words, decoder_words};
 
-use link::start::{StartAnswer, start};
+use link::refusal::Refusal;
+use link::start::start;
 
-pub fn start_coder(state: &mut [u64]) -> StartAnswer
+pub fn start_coder(state: &mut [u64]) -> Result<(), Refusal>
     ensures { StartsWords coder_words state.old result state.new }
 {
     start(state, 1)
 }
 
-pub fn start_decoder(state: &mut [u64]) -> StartAnswer
+pub fn start_decoder(state: &mut [u64]) -> Result<(), Refusal>
     ensures { StartsWords decoder_words state.old result state.new }
 {
     start(state, 21)

@@ -20,14 +20,13 @@ use native.Mathlib.Omega.{arith}
 use native.Mathlib.Decide.{ℕ_discrete}
 use lib.Pow.{pow_mono}
 use lib.ListN.{length, get_or, take, length-take, length-map, get_or-map}
+use Rattle.link.specs.declared.decode.Delivered.{Delivered}
 use Rattle.tables.specs.declared.table.Table.{Table}
-use Rattle.link.specs.declared.code.CodeAnswer.{CodeAnswer}
-use Rattle.link.specs.declared.code.CodeAnswer.TheVariants.{Coded, Refused as CodeRefused}
+use Rattle.std.specs.Prelude.{Option, Some, None, Ok, Err}
 use Rattle.link.specs.declared.decode.Mark.{Mark}
 use Rattle.link.specs.declared.decode.Mark.TheVariants.{Clean, Parity}
-use Rattle.link.specs.declared.decode.DecodeAnswer.{DecodeAnswer}
-use Rattle.link.specs.declared.decode.DecodeAnswer.TheVariants.{Delivery, NothingYet, Refused as DecodeRefused}
-use Rattle.link.specs.Refusals.{coder_fault, decoder_fault}
+use Rattle.link.specs.declared.refusal.Refusal.{Refusal}
+use Rattle.link.specs.Refusals.{Answer, coder_fault, decoder_fault, refusal_of}
 use Rattle.link.specs.Coder.{coded_block, code_answer, code_memory}
 use Rattle.link.specs.Decoder.{decode_answer, decode_memory, mark_number}
 use Rattle.link.specs.Memory.{delay_of}
@@ -252,10 +251,10 @@ run-map {X} {Y} f memory kept told e s (c ∷ cs) =
 -- ---- coder and decoder
 
 abbrev code_refused : Table → List ℕ → ℕ → Type 0
-code_refused t s b = (number : ℕ) × (code_answer t s b ≡ CodeRefused number)
+code_refused t s b = (e : Refusal) × (code_answer t s b ≡ Err e)
 
 abbrev decode_refused : Table → List ℕ → ℕ → Type 0
-decode_refused t s r = (number : ℕ) × (decode_answer t s r ≡ DecodeRefused number)
+decode_refused t s r = (e : Refusal) × (decode_answer t s r ≡ Err e)
 
 code_one : (t : Table) (s : List ℕ) (b : ℕ)
     → One (code_entries (code_answer t s b)) (code_refused t s b) (code_memory t s b) s
@@ -267,28 +266,32 @@ code_one t s b = go (ℕ_discrete (coder_fault t s b) 0)
         inr (coded_block t s b, coded_one t s b e, λ k. let w : ◌≡◌ {A = ℕ} 0 1 = cc k.1 in omega arith)
     go (no e) =
         let z = code-refuses t s b (coder_fault t s b) refl (omega arith) in
-        inl (coded_none t s b (coder_fault t s b) refl (omega arith), (coder_fault t s b, sym z.0), sym z.1)
+        inl (coded_none t s b (coder_fault t s b) refl (omega arith), (refusal_of (coder_fault t s b), sym z.0), sym z.1)
 
 decode-one : (t : Table) (s : List ℕ) (r : ℕ)
     → One (decode_entries (decode_answer t s r)) (decode_refused t s r) (decode_memory t s r) s
 decode-one t s r = go (ℕ_discrete (decoder_fault t s r) 0)
   where
     -- an answer that is no refusal has its entry
-    entry : (a : DecodeAnswer) → ((k : ℕ) → a ≡ DecodeRefused k → ⊥) → (e : ℕ) × (decode_entries a ≡ e ∷ [])
-    entry (Delivery d) taken = (decode_entry (mark_number d.mark) d.info, refl)
-    entry NothingYet taken = (decode_entry 0 0, refl)
-    entry (DecodeRefused k) taken = absurd (taken k refl)
+    entry : (a : Answer (Option Delivered)) → ((k : Refusal) → a ≡ Err k → ⊥) → (e : ℕ) × (decode_entries a ≡ e ∷ [])
+    entry (Ok (Some d)) taken = (decode_entry (mark_number d.mark) d.info, refl)
+    entry (Ok None) taken = (decode_entry 0 0, refl)
+    entry (Err k) taken = absurd (taken k refl)
 
     go : Dec (decoder_fault t s r ≡ 0)
         → One (decode_entries (decode_answer t s r)) (decode_refused t s r) (decode_memory t s r) s
     go (yes e) =
         let z = sym (decodes t s r e).0 in
-        let taken : (k : ℕ) → decode_answer t s r ≡ DecodeRefused k → ⊥ = (λ k w. delivery-taken t s r k (sym z ∙ w)) in
+        let taken : (k : Refusal) → decode_answer t s r ≡ Err k → ⊥ = (λ k w. delivery-taken t s r k (sym z ∙ w)) in
         let x = entry (decode_answer t s r) taken in
         inr (x.0, x.1, λ k. taken k.0 k.1)
     go (no e) =
         let z = decode-refuses t s r (decoder_fault t s r) refl (omega arith) in
-        inl (decoded_none t s r (decoder_fault t s r) refl (omega arith), (decoder_fault t s r, sym z.0), sym z.1)
+        inl (
+          decoded_none t s r (decoder_fault t s r) refl (omega arith),
+          (refusal_of (decoder_fault t s r), sym z.0),
+          sym z.1,
+        )
 
 abbrev code_kept : Table → List ℕ → ℕ → List ℕ
 code_kept t s b = code_entries (code_answer t s b)
@@ -333,14 +336,14 @@ single = (
 abbrev entry_of : Taken → ℕ
 entry_of x = get_or (decode_entries x.answer) 0 0
 
-entries-told : (t : Table) (r : ℕ) (a : DecodeAnswer) → decode_entries a ≡ map entry_of (taken_of t r a)
-entries-told t r (Delivery d) = refl
-entries-told t r NothingYet = refl
-entries-told t r (DecodeRefused k) = refl
+entries-told : (t : Table) (r : ℕ) (a : Answer (Option Delivered)) → decode_entries a ≡ map entry_of (taken_of t r a)
+entries-told t r (Ok (Some d)) = refl
+entries-told t r (Ok None) = refl
+entries-told t r (Err e) = refl
 
-blocks-told : (t : Table) (b : ℕ) (a : CodeAnswer) → code_entries a ≡ map (λ (x : Sent). x.block) (sent_of t b a)
-blocks-told t b (Coded c) = refl
-blocks-told t b (CodeRefused k) = refl
+blocks-told : (t : Table) (b : ℕ) (a : Answer ℕ) → code_entries a ≡ map (λ (x : Sent). x.block) (sent_of t b a)
+blocks-told t b (Ok c) = refl
+blocks-told t b (Err e) = refl
 
 taken-entries : (s : List ℕ) (hs : List Handed) → filled decoder_batch s hs ≡ decoded_by s (calls_of decoder_batch s hs)
     → filled decoder_batch s hs ≡ map entry_of (taken_by s (calls_of decoder_batch s hs))
@@ -383,7 +386,7 @@ info-fits s cs p h =
 entry-told : (coder decoder : List ℕ) (cs : List Call) (gs : List Handed) (p q : ℕ) (mark : Mark)
     → q < length (sent_by coder cs)
     → (taken_at (taken_by decoder (calls_of decoder_batch decoder gs)) p).answer
-    ≡ Delivery (record { info = (get_or (sent_by coder cs) q none_sent).info; mark = mark }) →
+    ≡ Ok (Some (record { info = (get_or (sent_by coder cs) q none_sent).info; mark = mark })) →
     let e = get_or (filled decoder_batch decoder gs) (p - 1) 0 in
     (e % 2 ^ 16 ≡ (get_or (sent_by coder cs) q none_sent).info) × (e / 2 ^ 16 ≡ mark_number mark)
 entry-told coder decoder cs gs p q mark h r =
@@ -392,7 +395,7 @@ entry-told coder decoder cs gs p q mark h r =
     let is : get_or (filled decoder_batch decoder gs) (p - 1) 0 ≡ decode_entry (mark_number mark) info =
     ap (λ (es : List ℕ). get_or es (p - 1) 0) (taken-entries decoder gs (mixture decoder gs).1.0)
     ∙ get_or-map entry_of taken (p - 1) none_taken
-    ∙ ap (λ (a : DecodeAnswer). get_or (decode_entries a) 0 0) r in
+    ∙ ap (λ (a : Answer (Option Delivered)). get_or (decode_entries a) 0 0) r in
     let parts = entry_read (mark_number mark) info (info-fits coder cs q h) in
     (ap (λ (e : ℕ). e % 2 ^ 16) is ∙ parts.0, ap (λ (e : ℕ). e / 2 ^ 16) is ∙ parts.1)
 

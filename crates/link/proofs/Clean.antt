@@ -7,14 +7,15 @@ use native.Mathlib.Nat.{zero-mul}
 use native.Mathlib.Decide.{dec_lt}
 use native.Mathlib.Omega.{arith}
 use lib.ListN.{length}
+use Rattle.std.specs.Prelude.{Option}
+use Rattle.link.specs.declared.decode.Delivered.{Delivered}
 use Rattle.span.specs.Word.{◌⊕◌}
 use Rattle.tables.specs.declared.table.Table.{Table}
 use Rattle.tables.proofs.Fit.{fit-facts}
 use Rattle.tables.proofs.Fit.{zeros-at}
-use Rattle.link.specs.declared.decode.DecodeAnswer.{DecodeAnswer}
 use Rattle.link.specs.Memory.{started, coder_words, turn_of, decoder_words, pending_at, fill_of, delay_of, stream_at}
 use Rattle.link.specs.Memory.{pending_of, syndrome_of, delayed_of}
-use Rattle.link.specs.Refusals.{coder_fault, decoder_fault}
+use Rattle.link.specs.Refusals.{Answer, coder_fault, decoder_fault}
 use Rattle.link.specs.Coder.{coder_next, code_memory}
 use Rattle.link.specs.Decoder.{decoder_next, decode_memory}
 use Rattle.link.specs.Runs.{Call, Sent, Taken, sent_by, taken_by, sent_at, taken_at}
@@ -27,7 +28,7 @@ use Rattle.link.proofs.Bursts.{bursts-separated}
 use Rattle.link.proofs.Fade.{WrongApart, delivers, delivers_first, clean_first}
 use Rattle.link.proofs.Recovery.{answer, separated, linked}
 
-tells-sure : (a : DecodeAnswer) (info error : ℕ) → Tells a info error → Sure a info
+tells-sure : (a : Answer (Option Delivered)) (info error : ℕ) → Tells a info error → Sure a info
 tells-sure a info error (mark, delivery, sure, error_is) = (mark, delivery, sure)
 
 module _ {t : Table} {coder decoder : List ℕ} {cs ds : List Call} (f : Running t coder decoder cs ds)

@@ -24,13 +24,12 @@ use Rattle.span.specs.Combination.{combination}
 use Rattle.tables.specs.declared.table.Table.{Table}
 use Rattle.tables.specs.Table.{fit, info_rows}
 use Rattle.tables.specs.Lent.{lent}
-use Rattle.link.specs.declared.code.CodeAnswer.{CodeAnswer}
-use Rattle.link.specs.declared.code.CodeAnswer.TheVariants.{Coded, Refused}
+use Rattle.std.specs.Prelude.{Ok}
 use Rattle.link.specs.Coder.{code_answer, code_memory, code_numbers, Codes, CodedBelow, coder_joining, coded_block}
 use Rattle.link.specs.Coder.{coder_next}
 use Rattle.tables.proofs.Fit.{Fits}
 use Rattle.link.specs.Memory.{joining, next_turn, coder_words, turn_of, pending_at}
-use Rattle.link.specs.Refusals.{coder_malformed, coder_fault}
+use Rattle.link.specs.Refusals.{Answer, coder_malformed, coder_fault, refused}
 use Rattle.span.proofs.Masks.{topped-lt}
 use Rattle.link.proofs.Malformed.{fine-coder}
 use Rattle.link.proofs.Refusals.{
@@ -39,6 +38,8 @@ use Rattle.link.proofs.Refusals.{
   refuses,
   takes,
   call-numbers,
+  numbered,
+  coder-range,
   zero-refused,
   LentTaken,
   lent-taken,
@@ -54,25 +55,25 @@ unfolding coder_fault
 coder-fault t s b = step_fault_lem t (coder_words t) (coder_malformed t s) (2 ^ (t.symbols - 1)) s b
 
 pub code-refuses : (t : Table) (s : List ℕ) (b : ℕ) (k : ℕ) → coder_fault t s b ≡ k → 0 < k
-    → (Refused k ≡ code_answer t s b) × (s ≡ code_memory t s b)
+    → (refused k ≡ code_answer t s b) × (s ≡ code_memory t s b)
 unfolding code_answer code_memory
-code-refuses t s b = refuses Refused (coder_fault t s b) (Coded (coded_block t s b)) (coder_next t s b) s
+code-refuses t s b = refuses refused (coder_fault t s b) (Ok (coded_block t s b)) (coder_next t s b) s
 
 pub codes : (t : Table) (s : List ℕ) (b : ℕ) → coder_fault t s b ≡ 0
-    → (Coded (coded_block t s b) ≡ code_answer t s b) × (coder_next t s b ≡ code_memory t s b)
+    → (Ok (coded_block t s b) ≡ code_answer t s b) × (coder_next t s b ≡ code_memory t s b)
 unfolding code_answer code_memory
-codes t s b = takes Refused (coder_fault t s b) (Coded (coded_block t s b)) (coder_next t s b) s
+codes t s b = takes refused (coder_fault t s b) (Ok (coded_block t s b)) (coder_next t s b) s
 
 -- answer and memory are all that is promised: the numbers follow
-pub codes-so : (t : Table) (s : List ℕ) (b : ℕ) (r : CodeAnswer) (after : List ℕ) → r ≡ code_answer t s b
+pub codes-so : (t : Table) (s : List ℕ) (b : ℕ) (r : Answer ℕ) (after : List ℕ) → r ≡ code_answer t s b
     → after ≡ code_memory t s b → Codes t s b r after
 unfolding code_answer
 codes-so t s b r after p q = record {
   answer = p;
   memory = q;
   numbers = ap code_numbers p
-      ∙ call-numbers code_numbers (coder_fault t s b) (Coded (coded_block t s b)) Refused
-      (coded_block t s b ∷ []) refl (λ k. refl);
+      ∙ call-numbers code_numbers (coder_fault t s b) (Ok (coded_block t s b)) refused
+      (coded_block t s b ∷ []) refl (λ some. numbered (coder_fault t s b) (coder-range t s b some));
 }
 
 pub code-lent-taken : (t : Table) (rows s : List ℕ) (b : ℕ) → coder_fault (lent t rows) s b ≡ 0

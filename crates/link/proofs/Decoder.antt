@@ -18,24 +18,23 @@ use borrow.Author.Tests.{lt-ltb, le-ltb}
 use lib.Dec.{leb, ltb, eqb}
 use lib.ListN.{length, get_or, set, take, drop, length-append, length-set, length-drop, get_or-append}
 use lib.Seq.{get_or-set_same, get_or-set_other, length-take-le, get_or-append-add, get_or-take, get_or-drop, get_or_at}
-use Rattle.std.specs.Prelude.{Option}
+use Rattle.link.specs.declared.decode.Delivered.{Delivered}
+use Rattle.std.specs.Prelude.{Option, Some, None, Ok}
 use Rattle.span.specs.Word.{◌⊕◌, odd, bit, digit}
 use Rattle.tables.specs.declared.table.Table.{Table}
 use Rattle.tables.specs.Table.{fit, info_rows}
 use Rattle.tables.specs.Lent.{lent}
 use Rattle.tables.proofs.Fit.{Fits}
-use Rattle.link.specs.declared.decode.DecodeAnswer.{DecodeAnswer}
-use Rattle.link.specs.declared.decode.DecodeAnswer.TheVariants.{Delivery, NothingYet, Refused}
 use Rattle.link.specs.Memory.{joining, next_turn, turn_of, decoder_words, fill_of, delay_of}
 use Rattle.link.specs.Memory.{fill_next}
 use Rattle.link.specs.Step.{raw_term, found, error_of, kept_of, mark_of}
-use Rattle.link.specs.Refusals.{decoder_malformed, decoder_fault}
+use Rattle.link.specs.Refusals.{Answer, decoder_malformed, decoder_fault, refused}
 use Rattle.link.specs.Decoder.{decode_answer, decode_memory, record_numbers, decode_numbers, decode_values, Decodes}
 use Rattle.link.specs.Decoder.{decoder_joining, decoder_register, decoder_found, part_next, stream_replaced}
 use Rattle.link.specs.Decoder.{decoder_next, delivered, delivery}
 use Rattle.link.proofs.Malformed.{Fine, fine-decoder}
-use Rattle.link.proofs.Refusals.{picked, passed, step_fault_lem, step_passed, refuses, takes, call-numbers}
-use Rattle.link.proofs.Refusals.{zero-refused, LentTaken, lent-taken}
+use Rattle.link.proofs.Refusals.{picked, passed, step_fault_lem, step_passed, refuses, takes, call-numbers, numbered}
+use Rattle.link.proofs.Refusals.{decoder-range, zero-refused, LentTaken, lent-taken}
 
 abbrev pub stream_in : ℕ → ℕ → ℕ
 stream_in N k = 2 + k * (N + 1)
@@ -55,7 +54,7 @@ register_in n N infos s r =
     syndrome_in N s
     + digit (xor (odd (joining infos (pending_in N s) (r % 2 ^ (n - 1)))) (bit (n - 1) r)) * 2 ^ (N - 1)
 
-pub record DecoderStep (n N m : ℕ) (infos : List ℕ) (s : List ℕ) (r : ℕ) (answer : DecodeAnswer) (after : List ℕ)
+pub record DecoderStep (n N m : ℕ) (infos : List ℕ) (s : List ℕ) (r : ℕ) (answer : Answer (Option Delivered)) (after : List ℕ)
     : Type 0 where
   pub fits : Fits n N m infos
   pub turn_lt : turn_of s < m
@@ -71,13 +70,13 @@ pub record DecoderStep (n N m : ℕ) (infos : List ℕ) (s : List ℕ) (r : ℕ)
   pub youngest : (i : ℕ) → suc i ≡ N - 1 → get_or after (stream_in N (turn_of s) + 2 + i) 0 ≡ r % 2 ^ (n - 1)
   pub others : (k j : ℕ) → k < m → j < N + 1 → k ≢ turn_of s
       → get_or after (stream_in N k + j) 0 ≡ get_or s (stream_in N k + j) 0
-  pub waits : fill_of s < m * (N - 1) → answer ≡ NothingYet
+  pub waits : fill_of s < m * (N - 1) → answer ≡ Ok None
   pub answers : m * (N - 1) ≤ fill_of s → answer
-      ≡ Delivery (record {
+      ≡ Ok (Some (record {
         info = delayed_in N s 0 ⊕ error_of (found (infos ++ (1 ∷ [])) (register_in n N infos s r)) % 2 ^ (n - 1);
         mark =
             mark_of (2 ^ (n - 1)) (found (infos ++ (1 ∷ [])) (register_in n N infos s r)) (register_in n N infos s r);
-      })
+      }))
 
 -- a part of a list put in place of another of its length
 module _ (s part : List ℕ) (at long : ℕ) (size : length part ≡ long) (room : at + long ≤ length s) where
@@ -213,27 +212,27 @@ unfolding decoder_fault
 decoder-fault t s r = step_fault_lem t (decoder_words t) (decoder_malformed t s) (2 ^ t.symbols) s r
 
 pub decode-refuses : (t : Table) (s : List ℕ) (r : ℕ) (k : ℕ) → decoder_fault t s r ≡ k → 0 < k
-    → (Refused k ≡ decode_answer t s r) × (s ≡ decode_memory t s r)
+    → (refused k ≡ decode_answer t s r) × (s ≡ decode_memory t s r)
 unfolding decode_answer decode_memory
-decode-refuses t s r = refuses Refused (decoder_fault t s r) (delivery t s r) (decoder_next t s r) s
+decode-refuses t s r = refuses refused (decoder_fault t s r) (delivery t s r) (decoder_next t s r) s
 
 pub decodes : (t : Table) (s : List ℕ) (r : ℕ) → decoder_fault t s r ≡ 0
     → (delivery t s r ≡ decode_answer t s r) × (decoder_next t s r ≡ decode_memory t s r)
 unfolding decode_answer decode_memory
-decodes t s r = takes Refused (decoder_fault t s r) (delivery t s r) (decoder_next t s r) s
+decodes t s r = takes refused (decoder_fault t s r) (delivery t s r) (decoder_next t s r) s
 
 delivery-numbers : (t : Table) (s : List ℕ) (r : ℕ) → decode_numbers (delivery t s r) ≡ 0 ∷ decode_values t s r
 unfolding delivery
 delivery-numbers t s r = go (ltb (fill_of s) (delay_of t))
   where
     go : (b : Bool)
-        → decode_numbers (cond b NothingYet (Delivery (delivered t s r)))
+        → decode_numbers (cond b (Ok None) (Ok (Some (delivered t s r))))
         ≡ 0 ∷ cond b (0 ∷ 0 ∷ 0 ∷ []) (record_numbers (delivered t s r))
     go true = refl
     go false = refl
 
 -- answer and memory are all that is promised: the numbers follow
-pub decodes-so : (t : Table) (s : List ℕ) (b : ℕ) (r : DecodeAnswer) (left : List ℕ) → r ≡ decode_answer t s b
+pub decodes-so : (t : Table) (s : List ℕ) (b : ℕ) (r : Answer (Option Delivered)) (left : List ℕ) → r ≡ decode_answer t s b
     → left ≡ decode_memory t s b
     → Decodes t s b r left
 unfolding decode_answer
@@ -241,8 +240,8 @@ decodes-so t s b r left p q = record {
   answer = p;
   memory = q;
   numbers = ap decode_numbers p
-      ∙ call-numbers decode_numbers (decoder_fault t s b) (delivery t s b) Refused (decode_values t s b)
-      (delivery-numbers t s b) (λ k. refl);
+      ∙ call-numbers decode_numbers (decoder_fault t s b) (delivery t s b) refused (decode_values t s b)
+      (delivery-numbers t s b) (λ some. numbered (decoder_fault t s b) (decoder-range t s b some));
 }
 
 pub decode-lent-taken : (t : Table) (rows s : List ℕ) (r : ℕ) → decoder_fault (lent t rows) s r ≡ 0
@@ -306,10 +305,10 @@ decoder_step t s r e = record {
   others = after-others N t.depth s pending syndrome young fill to k.sizes.N_from k.size k.fine.turn;
   waits =
       λ h. sym
-      (picked (ltb (fill_of s) (delay_of t)) NothingYet (Delivery (delivered t s r)) (lt-ltb (fill_of s) (delay_of t) h));
+      (picked (ltb (fill_of s) (delay_of t)) (Ok None) (Ok (Some (delivered t s r))) (lt-ltb (fill_of s) (delay_of t) h));
   answers =
       λ h. sym
-      (passed (ltb (fill_of s) (delay_of t)) NothingYet (Delivery (delivered t s r)) (le-ltb (fill_of s) (delay_of t) h));
+      (passed (ltb (fill_of s) (delay_of t)) (Ok None) (Ok (Some (delivered t s r))) (le-ltb (fill_of s) (delay_of t) h));
 }
   where
     k : DecoderTaken t s r

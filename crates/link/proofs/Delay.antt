@@ -13,14 +13,16 @@ use native.Mathlib.Nat.{add-zero, zero-add, add-mod-mod, div-lt_iff_lt-mul, suc-
 use native.Mathlib.Omega.{arith}
 use lib.Dec.{ltb}
 use lib.ListN.{get_or}
-use Rattle.link.specs.declared.decode.DecodeAnswer.{DecodeAnswer}
+use Rattle.link.specs.Refusals.{Answer}
+use Rattle.std.specs.Prelude.{Option}
+use Rattle.link.specs.declared.decode.Delivered.{Delivered}
 use Rattle.link.specs.Memory.{turn_of, fill_of}
 use Rattle.link.proofs.Fill as fill
 use Rattle.link.proofs.Interleaving.{place-first, place-next}
 use Rattle.link.proofs.Decoder.{stream_in, delayed_in}
 use Rattle.link.proofs.Turn.{DecoderRun, delayed_again, delayed_first}
 
-module _ {n N m : ℕ} {infos : List ℕ} {S : ℕ → List ℕ} {R : ℕ → ℕ} {A : ℕ → DecodeAnswer} {count : ℕ}
+module _ {n N m : ℕ} {infos : List ℕ} {S : ℕ → List ℕ} {R : ℕ → ℕ} {A : ℕ → Answer (Option Delivered)} {count : ℕ}
     (l : DecoderRun n N m infos S R A count) where
   fill_on : (p : ℕ) → p < count → fill_of (S (suc p)) ≡ cond (ltb (fill_of (S p)) (m * (N - 1))) (fill_of (S p) + 1)
       (fill_of (S p))

@@ -9,11 +9,12 @@ use mathlib.Core.List.{List}
 use Prim.Native.Nat.{ℕ, suc, ◌+◌, ◌-◌, ◌*◌, ◌%◌, ◌^◌, ◌≤◌, ◌<◌}
 use native.Mathlib.Omega.{arith}
 use lib.ListN.{length, get_or}
+use Rattle.link.specs.Refusals.{Answer}
+use Rattle.link.specs.declared.decode.Delivered.{Delivered}
 use Rattle.std.specs.Prelude.{Option}
 use Rattle.span.specs.Word.{◌⊕◌, odd, bit}
 use Rattle.span.proofs.Word.{xor-swap-bool}
 use Rattle.span.proofs.Combination.{combination-lt}
-use Rattle.link.specs.declared.decode.DecodeAnswer.{DecodeAnswer}
 use Rattle.link.specs.Memory.{joining, turn_of, pending_at}
 use Rattle.link.specs.Massey.{convolution, stream}
 use Rattle.link.proofs.Convolution.{stream_differ}
@@ -38,7 +39,7 @@ module _ {n N m : ℕ} {infos : List ℕ} (size : length infos ≤ n - 1) where
       (λ k h. pending_on l r b low inside k (omega arith)) (λ k h. pending_on l' r b low inside' k (omega arith)) b
       (omega arith)
 
-  pub raws_differ : {S S' : ℕ → List ℕ} {R R' : ℕ → ℕ} {A A' : ℕ → DecodeAnswer} {count count' : ℕ}
+  pub raws_differ : {S S' : ℕ → List ℕ} {R R' : ℕ → ℕ} {A A' : ℕ → Answer (Option Delivered)} {count count' : ℕ}
       (l : DecoderRun n N m infos S R A count) (l' : DecoderRun n N m infos S' R' A' count') → S 0 ≡ S' 0
       → (raw raw' : ℕ → Bool) (register register' : ℕ → ℕ) (error error' : ℕ → Option ℕ)
       → ((p : ℕ) → p < count → Verdict n N infos (S p) (R p) (raw p) (register p) (error p))

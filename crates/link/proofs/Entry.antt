@@ -18,7 +18,7 @@ use Rattle.span.proofs.Word.{xor_lt}
 use Rattle.tables.specs.declared.table.Table.{Table}
 use Rattle.link.specs.declared.decode.Mark.{Mark}
 use Rattle.link.specs.declared.decode.Mark.TheVariants.{Clean, Held, Corrected, Doubtful, Parity}
-use Rattle.link.specs.declared.decode.DecodeAnswer.TheVariants.{Delivery, NothingYet}
+use Rattle.std.specs.Prelude.{Some, None, Ok}
 use Rattle.link.specs.Memory.{turn_of, fill_of, delay_of, delayed_of}
 use Rattle.link.specs.Step.{error_of}
 use Rattle.link.specs.Refusals.{decoder_fault}
@@ -63,7 +63,7 @@ entry-is t s r mark info p q = go (ltb (fill_of s) (delay_of t))
   where
     go : (b : Bool)
         → cond b (decode_entry 0 0) (decode_entry (mark_number mark) info) ∷ []
-        ≡ decode_entries (cond b NothingYet (Delivery (delivered t s r)))
+        ≡ decode_entries (cond b (Ok None) (Ok (Some (delivered t s r))))
     go true = refl
     go false = ap₂ (λ (m : Mark) (i : ℕ). decode_entry (mark_number m) i ∷ []) p q
 

@@ -20,15 +20,14 @@ use native.Mathlib.Nat.{mul_assoc, le-div_iff_mul-le, eq-zero-or-pos}
 use native.Mathlib.Omega.{arith}
 use lib.ListN.{length, get_or}
 use lib.Pow.{pow_pos}
-use Rattle.std.specs.Prelude.{Option}
-use Rattle.std.specs.Prelude.{Some}
+use Rattle.link.specs.Refusals.{Answer}
+use Rattle.link.specs.declared.decode.Delivered.{Delivered}
+use Rattle.std.specs.Prelude.{Option, Some, Ok}
 use Rattle.span.specs.Word.{◌⊕◌, odd, digit}
 use Rattle.span.specs.Combination.{combination}
 use Rattle.span.proofs.Word.{xor_zero_r, xor_lt, xor_mod, xor_self, xor-twice}
 use Rattle.link.specs.declared.decode.Mark.{Mark}
 use Rattle.link.specs.declared.decode.Mark.TheVariants.{Clean, Parity}
-use Rattle.link.specs.declared.decode.DecodeAnswer.{DecodeAnswer}
-use Rattle.link.specs.declared.decode.DecodeAnswer.TheVariants.{Delivery}
 use Rattle.link.specs.Memory.{joining, turn_of, pending_at, fill_of}
 use Rattle.link.specs.Step.{found, error_of, kept_of, mark_of}
 use Rattle.link.specs.Recovery.{Sure}
@@ -47,7 +46,7 @@ use Rattle.link.proofs.Turn.{CoderRun, DecoderRun, coder_again, coder_first, pen
 use Rattle.link.proofs.Turn.{syndrome_again, syndrome_first}
 use Rattle.link.proofs.Delay.{fill_complete, oldest, oldest_first}
 
-pub record Linked (n N m : ℕ) (infos : List ℕ) (S M : ℕ → List ℕ) (R B C : ℕ → ℕ) (A : ℕ → DecodeAnswer) (count : ℕ)
+pub record Linked (n N m : ℕ) (infos : List ℕ) (S M : ℕ → List ℕ) (R B C : ℕ → ℕ) (A : ℕ → Answer (Option Delivered)) (count : ℕ)
     : Type 0 where
   pub n_from : 2 ≤ n
   pub N_from : 2 ≤ N
@@ -62,12 +61,12 @@ abbrev pub WrongApart : (ℕ → ℕ) → (ℕ → ℕ) → ℕ → ℕ → ℕ 
 WrongApart R C long gap count = (p q : ℕ) → p < q → q < count → R p ≢ C p → R q ≢ C q → (q < p + long) ⊎ (p + gap < q)
 
 -- that information is delivered, with a mark that is clean or parity
-abbrev pub Settles : ℕ → DecodeAnswer → ℕ → Type 0
+abbrev pub Settles : ℕ → Answer (Option Delivered) → ℕ → Type 0
 Settles n answer info =
-    (mark : Mark) × (answer ≡ Delivery (record { info = info; mark = mark }))
+    (mark : Mark) × (answer ≡ Ok (Some (record { info = info; mark = mark })))
     × ((mark ≡ Clean) ⊎ (mark ≡ Parity (2 ^ (n - 1))))
 
-module _ {n N m : ℕ} {infos : List ℕ} {S M : ℕ → List ℕ} {R B C : ℕ → ℕ} {A : ℕ → DecodeAnswer} {count : ℕ}
+module _ {n N m : ℕ} {infos : List ℕ} {S M : ℕ → List ℕ} {R B C : ℕ → ℕ} {A : ℕ → Answer (Option Delivered)} {count : ℕ}
     (l : Linked n N m infos S M R B C A count) where
   abbrev rows : List ℕ
   rows = infos ++ (1 ∷ [])
@@ -194,14 +193,14 @@ module _ {n N m : ℕ} {infos : List ℕ} {S M : ℕ → List ℕ} {R B C : ℕ 
       ∙ coder_info infos (n - 1) l.size (pc q) (pd q) (B q) (C q) (R q) c.info_lt c.coded
 
   answers : (p x y : ℕ) → p < count → m * (N - 1) ≤ fill_of (S p) → Finds p x → dl 0 p ⊕ x % 2 ^ (n - 1) ≡ y
-      → A p ≡ Delivery (record { info = y; mark = mark p })
+      → A p ≡ Ok (Some (record { info = y; mark = mark p }))
   answers p x y h full f is =
       (l.decoding.decodes p h).answers full
-      ∙ ap (λ (z : ℕ). Delivery (record { info = z; mark = mark p })) (ap (λ (e : ℕ). dl 0 p ⊕ e) f ∙ is)
+      ∙ ap (λ (z : ℕ). Ok (Some (record { info = z; mark = mark p }))) (ap (λ (e : ℕ). dl 0 p ⊕ e) f ∙ is)
 
   -- of the block taken m × (N − 1) places before
   answers-taken : (p q : ℕ) → p < count → q + m * (N - 1) ≡ p → Finds p (er q)
-      → A p ≡ Delivery (record { info = B q; mark = mark p })
+      → A p ≡ Ok (Some (record { info = B q; mark = mark p }))
   answers-taken p q h e f =
       answers p (er q) (B q) h (fill_complete l.decoding p h (omega arith)) f
       (ap (λ (x : ℕ). x ⊕ er q % 2 ^ (n - 1)) (oldest l.decoding p q h e) ∙ corrected q (omega arith))

@@ -13,6 +13,8 @@ use lib.Dec.{leb, ltb, eqb}
 use lib.ListN.{length, get_or, set, length-replicate}
 use lib.Seq.{get_or-set_same, get_or-set_other}
 use lib.Pow.{pow_pos}
+use Rattle.std.specs.Prelude.{Option}
+use Rattle.link.specs.declared.decode.Delivered.{Delivered}
 use Rattle.span.specs.Word.{◌⊕◌, odd, bit}
 use Rattle.span.specs.Combination.{combination}
 use Rattle.span.proofs.Word.{xor_lt}
@@ -23,12 +25,11 @@ use Rattle.tables.proofs.Fit.{fit-facts}
 use Rattle.link.specs.Memory.{joining, next_turn, started, coder_words, turn_of, decoder_words, pending_at, fill_of}
 use Rattle.link.specs.Memory.{delay_of, stream_at}
 use Rattle.link.specs.Step.{found}
-use Rattle.link.specs.Refusals.{step_fault, coder_malformed, decoder_malformed, coder_fault, decoder_fault}
+use Rattle.link.specs.Refusals.{Answer, step_fault, coder_malformed, decoder_malformed, coder_fault, decoder_fault}
 use Rattle.link.specs.Coder.{coded_block, coder_next, code_answer, code_memory}
 use Rattle.link.specs.Formed.{CoderFormed, DecoderFormed, NeverMalformed, FormedExactly, FormedSteps}
 use Rattle.link.specs.Formed.{StartedFormed, FormedKept, FormedThroughout}
 use Rattle.link.specs.Decoder.{decoder_next, delivery, decode_answer, decode_memory}
-use Rattle.link.specs.declared.decode.DecodeAnswer.{DecodeAnswer}
 use Rattle.link.specs.Runs.{Sent, Taken, sent_of, taken_of, sent_by, taken_by, none_sent, none_taken}
 use Rattle.link.proofs.Interleaving.{turn_next}
 use Rattle.link.proofs.Refusals.{step_fault_lem}
@@ -232,7 +233,7 @@ register_lt n N infos s r =
     topped-lt (N - 1) (syndrome_in N s) (xor (odd (joining infos (pending_in N s) (r % 2 ^ (n - 1)))) (bit (n - 1) r))
 
 -- 14 would not refuse a stream after the step, if it would not before: the turn's own, and any other
-module _ (t : Table) (s : List ℕ) (r : ℕ) (answer : DecodeAnswer) (after : List ℕ)
+module _ (t : Table) (s : List ℕ) (r : ℕ) (answer : Answer (Option Delivered)) (after : List ℕ)
     (step : DecoderStep t.symbols t.span t.depth (info_rows t) s r answer after)
     (own : Fine t s (turn_of s)) (k : ℕ) (f : Fine t s k) where
   abbrev n : ℕ
@@ -296,7 +297,7 @@ fine_of t s f k h = record {
   delayed = λ i l. f.delayed k i h l;
 }
 
-decoder-kept : (t : Table) (s : List ℕ) (r : ℕ) (answer : DecodeAnswer) (after : List ℕ)
+decoder-kept : (t : Table) (s : List ℕ) (r : ℕ) (answer : Answer (Option Delivered)) (after : List ℕ)
     → DecoderStep t.symbols t.span t.depth (info_rows t) s r answer after → length after ≡ length s
     → DecoderFormed t s → DecoderFormed t after
 decoder-kept t s r answer after step long f = record {
@@ -320,7 +321,7 @@ formed-kept t u same s b = (
       (coder_next u s b) (coder_next u s b) refl (coder-step u s b e) in
       coder-kept t s b (coded_block u s b) (coder_next u s b) step (coder-length u s b) f,
   λ f e.
-      let step = same_step (λ n N m infos (a : DecodeAnswer) after. DecoderStep n N m infos s b a after) u t same
+      let step = same_step (λ n N m infos (a : Answer (Option Delivered)) after. DecoderStep n N m infos s b a after) u t same
       (delivery u s b) (delivery u s b) refl
       (decoder_next u s b) (decoder_next u s b) refl (decoder_step u s b e) in
       decoder-kept t s b (delivery u s b) (decoder_next u s b) step (decoder-length u s b e) f,

@@ -18,8 +18,8 @@ use native.Mathlib.Omega.{arith}
 use lib.Dec.{leb}
 use lib.ListN.{length, get_or, length-append, length-take}
 use lib.Seq.{length-take-le}
-use Rattle.std.specs.Prelude.{Option}
-use Rattle.std.specs.Prelude.{Some, None}
+use Rattle.link.specs.declared.decode.Delivered.{Delivered}
+use Rattle.std.specs.Prelude.{Option, Some, None, Ok}
 use Rattle.span.specs.Word.{◌⊕◌, odd, bit, digit}
 use Rattle.span.specs.Combination.{combination}
 use Rattle.span.proofs.Word.{xor-false-r}
@@ -27,12 +27,10 @@ use Rattle.span.proofs.Combination.{combination-lt}
 use Rattle.tables.specs.declared.table.Table.{Table}
 use Rattle.tables.specs.Table.{rows_of, info_rows}
 use Rattle.tables.proofs.Fit.{zeros-at}
-use Rattle.link.specs.declared.decode.DecodeAnswer.{DecodeAnswer}
-use Rattle.link.specs.declared.decode.DecodeAnswer.TheVariants.{Delivery}
 use Rattle.link.specs.Memory.{joining, started, coder_words, turn_of, decoder_words, pending_at, fill_of, delay_of}
 use Rattle.link.specs.Memory.{pending_of}
 use Rattle.link.specs.Step.{information, parity as received, found, error_of, kept_of, mark_of}
-use Rattle.link.specs.Refusals.{coder_fault, decoder_fault}
+use Rattle.link.specs.Refusals.{Answer, coder_fault, decoder_fault}
 use Rattle.link.specs.Coder.{coder_next, code_memory}
 use Rattle.link.specs.Decoder.{decoder_next, decode_memory}
 use Rattle.link.specs.Runs.{Call, DecoderTables, sent_by, taken_by, taken_at, placed}
@@ -143,7 +141,7 @@ module _ {n N m : ℕ} {infos : List ℕ} {M : ℕ → List ℕ} {B C : ℕ → 
 
 -- ---- a stream of the decoder
 
-module _ {n N m : ℕ} {infos : List ℕ} {S : ℕ → List ℕ} {R : ℕ → ℕ} {A : ℕ → DecodeAnswer} {count : ℕ}
+module _ {n N m : ℕ} {infos : List ℕ} {S : ℕ → List ℕ} {R : ℕ → ℕ} {A : ℕ → Answer (Option Delivered)} {count : ℕ}
     (l : DecoderRun n N m infos S R A count) (r b : ℕ) (low : r < m) (inside : r + b * m < count) where
   abbrev pub joins : ℕ → ℕ
   joins k = pending_in N (S (r + k * m))
@@ -250,25 +248,25 @@ module _ {n N m : ℕ} {infos : List ℕ} {S : ℕ → List ℕ} {R : ℕ → �
 
 -- ---- what is delivered
 
-module _ {n N m : ℕ} {infos : List ℕ} {S : ℕ → List ℕ} {R : ℕ → ℕ} {A : ℕ → DecodeAnswer} {count : ℕ}
+module _ {n N m : ℕ} {infos : List ℕ} {S : ℕ → List ℕ} {R : ℕ → ℕ} {A : ℕ → Answer (Option Delivered)} {count : ℕ}
     (l : DecoderRun n N m infos S R A count)
     (raw : ℕ → Bool) (register : ℕ → ℕ) (error : ℕ → Option ℕ)
     (judges : (p : ℕ) → p < count → Verdict n N infos (S p) (R p) (raw p) (register p) (error p)) where
   pub decoder_delivers : (p q : ℕ) → p < count → q + m * (N - 1) ≡ p
-      → A p ≡ Delivery (record {
+      → A p ≡ Ok (Some (record {
         info = R q % 2 ^ (n - 1) ⊕ error_of (error p) % 2 ^ (n - 1);
         mark = mark_of (2 ^ (n - 1)) (error p) (register p);
-      })
+      }))
   decoder_delivers p q h e =
       let v = judges p h in
       (l.decodes p h).answers (fill_complete l p h (omega arith))
       ∙ ap₂ (λ (f : Option ℕ) (x : ℕ).
-      Delivery (record { info = delayed_in N (S p) 0 ⊕ error_of f % 2 ^ (n - 1); mark = mark_of (2 ^ (n - 1)) f x }))
+      Ok (Some (record { info = delayed_in N (S p) 0 ⊕ error_of f % 2 ^ (n - 1); mark = mark_of (2 ^ (n - 1)) f x })))
       (sym v.found_is) (sym v.register_is)
-      ∙ ap (λ (x : ℕ). Delivery (record {
+      ∙ ap (λ (x : ℕ). Ok (Some (record {
         info = x ⊕ error_of (error p) % 2 ^ (n - 1);
         mark = mark_of (2 ^ (n - 1)) (error p) (register p);
-      })) (oldest l p q h e)
+      }))) (oldest l p q h e)
 
 -- ---- runs from started memories
 
@@ -369,10 +367,10 @@ deliveries t s ds tables p late inside =
     ∙ decoder_delivers (decoded t s ds tables) (raw_at s ds) (register_at s ds) (found_at s ds) (verdict t s ds tables)
     (p - 1) (p - delay_of t - 1)
     (omega arith) (omega arith)
-    ∙ ap (λ (k : ℕ). Delivery (record {
+    ∙ ap (λ (k : ℕ). Ok (Some (record {
       info = information t.symbols (taken_at taken k).block ⊕ information t.symbols (error_of error);
       mark = mark_of (2 ^ (t.symbols - 1)) error (register_at s ds (p - 1));
-    })) there
+    }))) there
 
 pub waiting : Waiting
 waiting t s ds tables p from inside few =

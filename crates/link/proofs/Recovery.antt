@@ -12,11 +12,11 @@ use Prim.Native.Nat.{ℕ, zero, suc, ◌+◌, ◌-◌, ◌*◌, ◌≤◌, ◌<�
 use native.Mathlib.Nat.{mul-le-mul_left}
 use native.Mathlib.Omega.{arith}
 use lib.ListN.{length}
+use Rattle.link.specs.Refusals.{Answer}
 use Rattle.tables.specs.declared.table.Table.{Table}
 use Rattle.tables.specs.Table.{info_rows}
 use Rattle.link.specs.declared.decode.Delivered.{Delivered}
-use Rattle.link.specs.declared.decode.DecodeAnswer.{DecodeAnswer}
-use Rattle.link.specs.declared.decode.DecodeAnswer.TheVariants.{Delivery}
+use Rattle.std.specs.Prelude.{Option, Some, Ok}
 use Rattle.link.specs.Memory.{delay_of}
 use Rattle.link.specs.Runs.{Call, Sent, Taken, sent_by, taken_by, sent_at, taken_at, coder_after, decoder_after}
 use Rattle.link.specs.Recovery.{Wrong, Sure, Recovered, RecoveryLaw, RecoveryLater, DoubtfulLaw, Running, Separated}
@@ -36,7 +36,7 @@ module _ {t : Table} {coder decoder : List ℕ} {cs ds : List Call} (f : Running
   abbrev taken : List Taken
   taken = taken_by decoder ds
 
-  abbrev pub answer : ℕ → DecodeAnswer
+  abbrev pub answer : ℕ → Answer (Option Delivered)
   answer p = (taken_at taken (suc p)).answer
 
   pub separated : Separated (Wrong sent taken) t.depth (delay_of t) (length taken)
@@ -103,7 +103,7 @@ recovery-later t coder decoder cs0 ds0 cs ds c d ct dt running right bursts =
       bursts = bursts;
     })
 
-pub same-delivery : (a b : Delivered) → ◌≡◌ {A = DecodeAnswer} (Delivery a) (Delivery b)
+pub same-delivery : (a b : Delivered) → ◌≡◌ {A = Answer (Option Delivered)} (Ok (Some a)) (Ok (Some b))
     → (a.info ≡ b.info) × (a.mark ≡ b.mark)
 same-delivery a b e = (cc, cc)
 

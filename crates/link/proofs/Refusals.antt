@@ -6,6 +6,8 @@
 --   start-fault, step_fault_lem   the chains of a start and of a step
 --   step_settled                  the same once 12 and 13 are settled
 --   Passed, step_passed           what no refusal says
+--   refusal-number, numbered      the number of the refusal of a number from 12 to 15
+--   settled-taken, settled-refused   what is known where a call is not refused, and where it is
 --   answered-is                   an answer, by its fault
 --   refuses, takes                answer and memory of a call that is refused, and of one that is not
 --   call-numbers, refused-numbers, taken-numbers   the numbers of both
@@ -14,11 +16,12 @@
 use mathlib.Core.Path.{◌≡◌, refl, sym, ap, ◌∙◌}
 use mathlib.Core.Bool.{Bool, true, false, cond, not, ◌||◌}
 use mathlib.Core.List.{List, [], ◌∷◌}
-use Prim.Native.Nat.{ℕ, suc, ◌+◌, ◌≤◌, ◌<◌}
+use Prim.Native.Nat.{ℕ, zero, suc, ◌+◌, ◌-◌, ◌≤◌, ◌<◌}
 use native.Mathlib.Omega.{arith}
-use borrow.Author.Tests.{eq-eqb, ne_eqb, eqb-true, leb-false, not-false}
+use borrow.Author.Tests.{eq-eqb, ne_eqb, eqb-true, eqb-false, leb-false, not-false}
 use lib.Dec.{leb, eqb}
 use lib.ListN.{length}
+use Rattle.std.specs.Prelude.{Result, Ok, Err, ⊤}
 use Rattle.tables.specs.declared.table.Table.{Table}
 use Rattle.tables.specs.Table.{zero_table, info_rows, fit}
 use Rattle.tables.specs.Refusal.{first_of}
@@ -26,7 +29,9 @@ use Rattle.tables.specs.Lent.{with_rows, lent}
 use Rattle.tables.proofs.Fit.{Fits, fit-facts, zero-unfit}
 use Rattle.tables.proofs.Refusal.{first-nil, first-cons, first-none, first_range}
 use Rattle.tables.proofs.Lent.{lent-held, fit-lent}
-use Rattle.link.specs.Refusals.{start_fault, step_fault, answered, leaves, call_numbers}
+use Rattle.link.specs.declared.refusal.Refusal.{Refusal}
+use Rattle.link.specs.Refusals.{start_fault, step_fault, coder_fault, decoder_fault, refusal_number, refusal_of, answered}
+use Rattle.link.specs.Refusals.{settled, leaves, call_numbers}
 
 pub or-none : (s t : Bool) → s || t ≡ false → (s ≡ false) × (t ≡ false)
 or-none true t e = let z : ◌≡◌ {A = ℕ} 0 1 = cc in absurd (omega arith)
@@ -100,6 +105,62 @@ pub ranges : (bs : List Bool) (most : ℕ) → 12 + length bs ≡ suc most → (
     → (12 ≤ first_of 12 bs) × (first_of 12 bs ≤ most)
 ranges bs most e some = let r = first_range 12 bs some in (r.0, omega (arith, r.1, e))
 
+pub start-range : (t : Table) (words : ℕ) (s : List ℕ) → (start_fault t words s ≡ 0 → ⊥)
+    → (12 ≤ start_fault t words s) × (start_fault t words s ≤ 13)
+unfolding start_fault
+start-range t words s = ranges (_ ∷ _ ∷ []) 13 refl
+
+step_range : (t : Table) (words : ℕ) (malformed : Bool) (bound : ℕ) (s : List ℕ) (b : ℕ)
+    → (step_fault t words malformed bound s b ≡ 0 → ⊥)
+    → (12 ≤ step_fault t words malformed bound s b) × (step_fault t words malformed bound s b ≤ 15)
+unfolding step_fault
+step_range t words malformed bound s b = ranges (_ ∷ _ ∷ _ ∷ _ ∷ []) 15 refl
+
+pub coder-range : (t : Table) (s : List ℕ) (b : ℕ) → (coder_fault t s b ≡ 0 → ⊥)
+    → (12 ≤ coder_fault t s b) × (coder_fault t s b ≤ 15)
+unfolding coder_fault
+coder-range t s b = step_range t _ _ _ s b
+
+pub decoder-range : (t : Table) (s : List ℕ) (b : ℕ) → (decoder_fault t s b ≡ 0 → ⊥)
+    → (12 ≤ decoder_fault t s b) × (decoder_fault t s b ≤ 15)
+unfolding decoder_fault
+decoder-range t s b = step_range t _ _ _ s b
+
+-- ---- a refusal and its number
+
+pub refusal-number : (k : ℕ) → 12 ≤ k → k ≤ 15 → refusal_number (refusal_of k) ≡ k
+refusal-number k low high = go (k - 12) (omega arith) (omega arith)
+  where
+    go : (j : ℕ) → j ≤ 3 → k ≡ 12 + j → refusal_number (refusal_of k) ≡ k
+    go zero l e = rw e refl
+    go (suc zero) l e = rw e refl
+    go (suc (suc zero)) l e = rw e refl
+    go (suc (suc (suc zero))) l e = rw e refl
+    go (suc (suc (suc (suc j)))) l e = absurd (omega arith)
+
+pub numbered : (k : ℕ) → (12 ≤ k) × (k ≤ 15) → refusal_number (refusal_of k) ∷ [] ≡ k ∷ []
+numbered k l = ap (λ (i : ℕ). i ∷ []) (refusal-number k l.0 l.1)
+
+pub settled-taken : (fault : ℕ) (u : ⊤) → settled fault ≡ Ok u → fault ≡ 0
+unfolding answered
+settled-taken fault u = go (eqb fault 0) refl
+  where
+    go : (b : Bool) → eqb fault 0 ≡ b
+        → ◌≡◌ {A = Result ⊤ Refusal} (cond b (Ok tt) (Err (refusal_of fault))) (Ok u) → fault ≡ 0
+    go true e h = eqb-true fault 0 e
+    go false e h = let z : ◌≡◌ {A = ℕ} 0 1 = cc h in absurd (omega arith)
+
+pub settled-refused : (fault : ℕ) (e : Refusal) → settled fault ≡ Err e
+    → (fault ≡ 0 → ⊥) × (e ≡ refusal_of fault)
+unfolding answered
+settled-refused fault e = go (eqb fault 0) refl
+  where
+    go : (b : Bool) → eqb fault 0 ≡ b
+        → ◌≡◌ {A = Result ⊤ Refusal} (cond b (Ok tt) (Err (refusal_of fault))) (Err e)
+        → (fault ≡ 0 → ⊥) × (e ≡ refusal_of fault)
+    go true z h = let w : ◌≡◌ {A = ℕ} 0 1 = cc h in absurd (omega arith)
+    go false z h = (eqb-false fault 0 z, cc h)
+
 -- ---- answer and memory of a call
 
 pub answered-is : {X : Type 0} (fault : ℕ) (x : X) (refused : ℕ → X)
@@ -122,14 +183,27 @@ module _ {X : Type 0} (refused : ℕ → X) (fault : ℕ) (x : X) (next before :
       (picked (eqb fault 0) x (refused fault) yes, picked (eqb fault 0) next before yes)
 
 pub call-numbers : {X : Type 0} (numbers : X → List ℕ) (fault : ℕ) (x : X) (refused : ℕ → X) (values : List ℕ)
-    → numbers x ≡ 0 ∷ values → ((k : ℕ) → numbers (refused k) ≡ k ∷ [])
+    → numbers x ≡ 0 ∷ values → ((fault ≡ 0 → ⊥) → numbers (refused fault) ≡ fault ∷ [])
     → numbers (answered fault x refused) ≡ call_numbers fault values
 unfolding answered call_numbers
-call-numbers numbers fault x refused values p q = go (eqb fault 0)
+call-numbers numbers fault x refused values p q = go (eqb fault 0) refl
   where
-    go : (b : Bool) → numbers (cond b x (refused fault)) ≡ cond b (0 ∷ values) (fault ∷ [])
-    go true = p
-    go false = q fault
+    go : (b : Bool) → eqb fault 0 ≡ b
+        → numbers (cond b x (refused fault)) ≡ cond b (0 ∷ values) (fault ∷ [])
+    go true e = p
+    go false e = q (eqb-false fault 0 e)
+
+-- an answer that is y, where what is answered otherwise is not: the call is refused, and the memory stays
+pub refused-as : {X : Type 0} (refused : ℕ → X) (fault : ℕ) (x y : X) (next before : List ℕ)
+    → answered fault x refused ≡ y → (x ≡ y → ⊥)
+    → (refused fault ≡ y) × (fault ≡ 0 → ⊥) × (leaves fault next before ≡ before)
+unfolding answered leaves
+refused-as {X} refused fault x y next before e other = go (eqb fault 0) refl e
+  where
+    go : (b : Bool) → eqb fault 0 ≡ b → cond b x (refused fault) ≡ y
+        → (refused fault ≡ y) × (fault ≡ 0 → ⊥) × (cond b next before ≡ before)
+    go true z h = absurd (other h)
+    go false z h = (h, eqb-false fault 0 z, refl)
 
 pub refused-numbers : (fault : ℕ) (values : List ℕ) → (fault ≡ 0 → ⊥) → call_numbers fault values ≡ fault ∷ []
 unfolding call_numbers
@@ -175,16 +249,16 @@ module _ (words bound : Table → ℕ) (malformed : Table → List ℕ → Bool)
   number_12 f = sym (chain (lent t rows) ∙ simp f)
 
   module _ (f : fit (lent t rows) ≡ true) where
-    settled : number (lent t rows)
+    past_12 : number (lent t rows)
         ≡ cond (not (eqb (length s) (words whole))) 13 (cond (malformed whole s) 14 (cond (leb (bound whole) b) 15 0))
-    settled = let k = fit-lent t rows f in ap number k.0 ∙ chain whole ∙ simp k.1
+    past_12 = let k = fit-lent t rows f in ap number k.0 ∙ chain whole ∙ simp k.1
 
     pub number_13 : (length s ≡ words whole → ⊥) → 13 ≡ number (lent t rows)
-    number_13 long = sym (settled ∙ simp (ne_eqb (length s) (words whole) long))
+    number_13 long = sym (past_12 ∙ simp (ne_eqb (length s) (words whole) long))
 
     pub number_14 : length s ≡ words whole → malformed whole s ≡ true → 14 ≡ number (lent t rows)
-    number_14 size out = sym (settled ∙ simp (eq-eqb (length s) (words whole) size, out))
+    number_14 size out = sym (past_12 ∙ simp (eq-eqb (length s) (words whole) size, out))
 
     pub number_15 : length s ≡ words whole → malformed whole s ≡ false → (q : Bool) → leb (bound whole) b ≡ q
         → cond q 15 0 ≡ number (lent t rows)
-    number_15 size fine q large = sym (settled ∙ simp (eq-eqb (length s) (words whole) size, fine, large))
+    number_15 size fine q large = sym (past_12 ∙ simp (eq-eqb (length s) (words whole) size, fine, large))

@@ -20,10 +20,9 @@ use borrow.Author.Tests.{eq-eqb, ne_eqb, eqb-true, eqb-false}
 use lib.Dec.{ltb, eqb}
 use lib.ListN.{length, get_or}
 use Rattle.tables.specs.declared.table.Table.{Table}
-use Rattle.link.specs.declared.code.CodeAnswer.TheVariants.{Coded, Refused as CodeRefused}
-use Rattle.link.specs.declared.decode.DecodeAnswer.TheVariants.{Delivery, NothingYet, Refused as DecodeRefused}
+use Rattle.std.specs.Prelude.{Some, None, Ok}
 use Rattle.link.specs.Memory.{fill_of, delay_of}
-use Rattle.link.specs.Refusals.{coder_fault, decoder_fault, answered, leaves}
+use Rattle.link.specs.Refusals.{coder_fault, decoder_fault, answered, leaves, refused}
 use Rattle.link.specs.Coder.{coded_block, coder_next, code_answer, code_memory}
 use Rattle.link.specs.Decoder.{decoder_next, delivered, delivery, decode_answer, decode_memory}
 use Rattle.link.specs.Runs.{CallOf, Call, Sent, Taken, sent_of, taken_of, run, ran, placed, sent_by, taken_by}
@@ -275,7 +274,7 @@ pub sent-told : Told coder_fault coder_next code_memory coder-memory (λ t s b. 
 unfolding code_answer answered
 sent-told t s b = go (eqb (coder_fault t s b) 0)
   where
-    go : (q : Bool) → sent_of t b (cond q (Coded (coded_block t s b)) (CodeRefused (coder_fault t s b)))
+    go : (q : Bool) → sent_of t b (cond q (Ok (coded_block t s b)) (refused (coder_fault t s b)))
         ≡ cond q (sent_entry t s b ∷ []) []
     go true = refl
     go false = refl
@@ -286,8 +285,8 @@ unfolding decode_answer answered delivery
 taken-told t s r = go (eqb (decoder_fault t s r) 0) (ltb (fill_of s) (delay_of t))
   where
     go : (q d : Bool)
-        → taken_of t r (cond q (cond d NothingYet (Delivery (delivered t s r))) (DecodeRefused (decoder_fault t s r)))
-        ≡ cond q (record { table = t; block = r; answer = cond d NothingYet (Delivery (delivered t s r)) } ∷ []) []
+        → taken_of t r (cond q (cond d (Ok None) (Ok (Some (delivered t s r)))) (refused (decoder_fault t s r)))
+        ≡ cond q (record { table = t; block = r; answer = cond d (Ok None) (Ok (Some (delivered t s r))) } ∷ []) []
     go true true = refl
     go true false = refl
     go false d = refl

@@ -7,6 +7,7 @@ use mathlib.Core.List.{List, [], ◌∷◌, ◌++◌, map}
 use Prim.Native.Nat.{ℕ, ◌+◌, ◌-◌, ◌*◌, ◌≤◌, ◌<◌}
 use native.Mathlib.Omega.{arith}
 use lib.ListN.{length, get_or, replicate, length-replicate, get_or-map}
+use Rattle.link.specs.declared.decode.Delivered.{Delivered}
 use Rattle.span.specs.Word.{◌⊕◌, odd, bit}
 use Rattle.span.specs.Combination.{combination}
 use Rattle.span.specs.Relation.{least_from, least_coefficients}
@@ -15,12 +16,11 @@ use Rattle.tables.specs.Table.{sizes_fit, rows_fit, fit}
 use Rattle.tables.specs.Refusal.{first_of}
 use Rattle.tables.proofs.Fit.{zeros-at}
 use Rattle.link.proofs.Examples.{z-accepted}
-use Rattle.link.specs.declared.decode.DecodeAnswer.{DecodeAnswer}
-use Rattle.link.specs.declared.decode.DecodeAnswer.TheVariants.{NothingYet}
+use Rattle.std.specs.Prelude.{Option, None, Ok}
 use Rattle.link.specs.declared.decode.Mark.{Mark}
 use Rattle.link.specs.declared.decode.Mark.TheVariants.{Clean, Corrected, Parity, Doubtful, Held}
 use Rattle.link.specs.Memory.{joining, started, coder_words, delay_of, pending_of, syndrome_of, delayed_of}
-use Rattle.link.specs.Refusals.{step_fault, coder_fault, some_above, decoder_fault, answered, leaves}
+use Rattle.link.specs.Refusals.{Answer, step_fault, coder_fault, some_above, decoder_fault, answered, leaves}
 use Rattle.link.specs.Coder.{coder_joining, coded_block, coder_next, code_answer, code_memory}
 use Rattle.link.specs.Formed.{CoderFormed, DecoderFormed}
 use Rattle.link.specs.Decoder.{decoder_joining, decoder_register, decoder_found, part_next, decoder_next, delivered}
@@ -50,10 +50,10 @@ zeros_sent count = sent_by (started (coder_words (Z 1))) (calls (Z 1) (replicate
 abbrev received : ℕ → List ℕ → List Taken
 received pending blocks = taken_by (filled pending) (calls (Z 1) blocks)
 
-abbrev answers_of : List Taken → List DecodeAnswer
+abbrev answers_of : List Taken → List (Answer (Option Delivered))
 answers_of xs = map (λ (x : Taken). x.answer) xs
 
-abbrev Shows : ℕ → List ℕ → List ℕ → List DecodeAnswer → Type 0
+abbrev Shows : ℕ → List ℕ → List ℕ → List (Answer (Option Delivered)) → Type 0
 Shows pending blocks wrong answers =
     (sent_blocks (zeros_sent (length blocks)) ≡ replicate (length blocks) 0)
     × (taken_blocks (received pending blocks) ≡ blocks)
@@ -158,7 +158,7 @@ filled-formed pending h = record {
 
 -- ---- what recovery with other numbers would say of such a run
 
-module _ (pending : ℕ) (blocks wrong : List ℕ) (answers : List DecodeAnswer)
+module _ (pending : ℕ) (blocks wrong : List ℕ) (answers : List (Answer (Option Delivered)))
     (shows : Shows pending blocks wrong answers) (h : Handed pending blocks) where
   abbrev coder : List ℕ
   coder = started (coder_words (Z 1))
@@ -180,10 +180,10 @@ module _ (pending : ℕ) (blocks wrong : List ℕ) (answers : List DecodeAnswer)
     many = let c = length-replicate {A = ℕ} (length blocks) 0 in omega arith;
   }
 
-  answer_at_lem : (p : ℕ) → (taken_at (received pending blocks) p).answer ≡ get_or answers (p - 1) NothingYet
+  answer_at_lem : (p : ℕ) → (taken_at (received pending blocks) p).answer ≡ get_or answers (p - 1) (Ok None)
   answer_at_lem p =
       sym (get_or-map (λ (x : Taken). x.answer) (received pending blocks) (p - 1) none_taken)
-      ∙ ap (λ (l : List DecodeAnswer). get_or l (p - 1) NothingYet) shows.3
+      ∙ ap (λ (l : List (Answer (Option Delivered))). get_or l (p - 1) (Ok None)) shows.3
 
   info-at : (p : ℕ) → (sent_at (zeros_sent (length blocks)) p).info ≡ 0
   info-at p =
@@ -216,7 +216,7 @@ module _ (pending : ℕ) (blocks wrong : List ℕ) (answers : List DecodeAnswer)
   shown : (p : ℕ) (mark : Mark)
       → (taken_at (received pending blocks) p).answer
       ≡ delivers (sent_at (zeros_sent (length blocks)) (p - delay_of (Z 1))).info mark
-      → get_or answers (p - 1) NothingYet ≡ delivers 0 mark
+      → get_or answers (p - 1) (Ok None) ≡ delivers 0 mark
   shown p mark e =
       sym (answer_at_lem p) ∙ e ∙ ap (λ (x : ℕ). delivers x mark) (info-at (p - delay_of (Z 1)))
 
@@ -225,7 +225,7 @@ module _ (pending : ℕ) (blocks wrong : List ℕ) (answers : List DecodeAnswer)
       → Chosen (Wrong (zeros_sent (length blocks)) (received pending blocks)) (long (Z 1)) (gap (Z 1))
       (length (received pending blocks)) chosen
       → ((p : ℕ) → In p wrong → Within p chosen × (right (Z 1) < p)) → (p : ℕ) → past (Z 1) < p → p ≤ length blocks
-      → Sure (get_or answers (p - 1) NothingYet) 0
+      → Sure (get_or answers (p - 1) (Ok None)) 0
   would-answer right past long gap r small chosen apart covered p late to =
       let all = count places in
       let w = r (Z 1) coder (filled pending) cs ds
@@ -233,7 +233,7 @@ module _ (pending : ℕ) (blocks wrong : List ℕ) (answers : List DecodeAnswer)
       (w.0, shown p w.0 w.1, w.2)
 
   would-end : (past : Table → ℕ) → GuardEndAfter past → pending < 8 → ((p : ℕ) → In p wrong → ⊥) → (p : ℕ)
-      → past (Z 1) < p → p ≤ 6 → p ≤ length blocks → Settles 2 (get_or answers (p - 1) NothingYet) 0
+      → past (Z 1) < p → p ≤ 6 → p ≤ length blocks → Settles 2 (get_or answers (p - 1) (Ok None)) 0
   would-end past g small none p late early to =
       let all = count places in
       let w = g (Z 1) coder (filled pending) cs ds (fades 6 1 3 small [] tt (λ q i. absurd (none q i))) p late early

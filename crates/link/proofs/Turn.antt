@@ -13,7 +13,9 @@ use Prim.Native.Nat.{ℕ, suc, ◌+◌, ◌-◌, ◌/◌, ◌%◌, ◌^◌, ◌<
 use native.Mathlib.Nat.{add-zero, add_assoc}
 use native.Mathlib.Omega.{arith}
 use lib.ListN.{get_or}
-use Rattle.link.specs.declared.decode.DecodeAnswer.{DecodeAnswer}
+use Rattle.link.specs.Refusals.{Answer}
+use Rattle.std.specs.Prelude.{Option}
+use Rattle.link.specs.declared.decode.Delivered.{Delivered}
 use Rattle.link.specs.Memory.{joining, turn_of, pending_at}
 use Rattle.link.specs.Step.{found, kept_of}
 use Rattle.link.proofs.Interleaving.{Turns, word_again, word_first}
@@ -24,7 +26,7 @@ use Rattle.link.proofs.Decoder.{DecoderStep, stream_in, pending_in, syndrome_in,
 pub record CoderRun (n N m : ℕ) (infos : List ℕ) (M : ℕ → List ℕ) (B C : ℕ → ℕ) (count : ℕ) : Type 0 where
   pub codes : (p : ℕ) → p < count → CoderStep n N m infos (M p) (B p) (C p) (M (suc p))
 
-pub record DecoderRun (n N m : ℕ) (infos : List ℕ) (S : ℕ → List ℕ) (R : ℕ → ℕ) (A : ℕ → DecodeAnswer) (count : ℕ)
+pub record DecoderRun (n N m : ℕ) (infos : List ℕ) (S : ℕ → List ℕ) (R : ℕ → ℕ) (A : ℕ → Answer (Option Delivered)) (count : ℕ)
     : Type 0 where
   pub decodes : (p : ℕ) → p < count → DecoderStep n N m infos (S p) (R p) (A p) (S (suc p))
 
@@ -45,7 +47,7 @@ module _ {n N m : ℕ} {infos : List ℕ} {M : ℕ → List ℕ} {B C : ℕ → 
       → pending_at (M r) (turn_of (M r)) ≡ pending_at (M 0) ((turn_of (M 0) + r) % m)
   coder_first = word_first coder-turns (λ (q k : ℕ). pending_at (M q) k) coder-kept
 
-module _ {n N m : ℕ} {infos : List ℕ} {S : ℕ → List ℕ} {R : ℕ → ℕ} {A : ℕ → DecodeAnswer} {count : ℕ}
+module _ {n N m : ℕ} {infos : List ℕ} {S : ℕ → List ℕ} {R : ℕ → ℕ} {A : ℕ → Answer (Option Delivered)} {count : ℕ}
     (l : DecoderRun n N m infos S R A count) where
   decoder-turns : Turns m (λ (p : ℕ). turn_of (S p)) count
   decoder-turns = record { inside = λ p h. (l.decodes p h).turn_lt; next = λ p h. (l.decodes p h).turn_on }

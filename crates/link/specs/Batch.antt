@@ -11,14 +11,11 @@
 --   followed, Reached   entries and then those of another batch; where a batch has come to after some of its blocks
 --   EntryLaw            a call that is not refused has one entry: the coded block; the information in its low 16
 --                       bits, and above them the mark
-use Rattle.std.specs.Prelude.{◌≡◌, List, [], ◌∷◌, ◌++◌, ℕ, zero, suc, ◌+◌, ◌-◌, ◌*◌, ◌/◌, ◌%◌, ◌^◌, ◌≤◌, ◌<◌, length}
-use Rattle.std.specs.Prelude.{get_or, take, drop}
+use Rattle.link.specs.declared.decode.Delivered.{Delivered}
+use Rattle.std.specs.Prelude.{Option, ◌≡◌, List, [], ◌∷◌, ◌++◌, ℕ, zero, suc, ◌+◌, ◌-◌, ◌*◌, ◌/◌, ◌%◌, ◌^◌, ◌≤◌, ◌<◌, length}
+use Rattle.std.specs.Prelude.{get_or, take, drop, Some, None, Ok, Err}
 use Rattle.tables.specs.declared.table.Table.{Table}
-use Rattle.link.specs.declared.code.CodeAnswer.{CodeAnswer}
-use Rattle.link.specs.declared.code.CodeAnswer.TheVariants.{Coded, Refused as CodeRefused}
-use Rattle.link.specs.declared.decode.DecodeAnswer.{DecodeAnswer}
-use Rattle.link.specs.declared.decode.DecodeAnswer.TheVariants.{Delivery, NothingYet, Refused as DecodeRefused}
-use Rattle.link.specs.Refusals.{coder_fault, decoder_fault}
+use Rattle.link.specs.Refusals.{Answer, coder_fault, decoder_fault}
 use Rattle.link.specs.Coder.{coded_block, code_answer, code_memory}
 use Rattle.link.specs.Decoder.{decode_answer, decode_memory, mark_number, decode_values}
 
@@ -43,19 +40,19 @@ batch entries memory zero s (b ∷ bs) = ended s
 batch entries memory (suc room) s (b ∷ bs) = entered (entries s b) s (batch entries memory room (memory s b) bs)
 
 -- "The coder's entry is the coded block."
-abbrev pub code_entries : CodeAnswer → List ℕ
-code_entries (Coded c) = c ∷ []
-code_entries (CodeRefused k) = []
+abbrev pub code_entries : Answer ℕ → List ℕ
+code_entries (Ok c) = c ∷ []
+code_entries (Err e) = []
 
 -- "Entries are 32-bit numbers. .. The decoder's entry has the information in its low 16 bits (0 for nothing yet) and
 -- above them the mark: 0 nothing yet, 1 clean, 2 held, 3 corrected, 4 doubtful." CR 4: parity "has 5".
 abbrev pub decode_entry : ℕ → ℕ → ℕ
 decode_entry mark info = mark * 2 ^ 16 + info
 
-abbrev pub decode_entries : DecodeAnswer → List ℕ
-decode_entries (Delivery d) = decode_entry (mark_number d.mark) d.info ∷ []
-decode_entries NothingYet = decode_entry 0 0 ∷ []
-decode_entries (DecodeRefused k) = []
+abbrev pub decode_entries : Answer (Option Delivered) → List ℕ
+decode_entries (Ok (Some d)) = decode_entry (mark_number d.mark) d.info ∷ []
+decode_entries (Ok None) = decode_entry 0 0 ∷ []
+decode_entries (Err e) = []
 
 unfoldable pub code_batch : Table → ℕ → List ℕ → List ℕ → Batch
 code_batch t room s infos = batch (λ s b. code_entries (code_answer t s b)) (code_memory t) room s infos

@@ -15,12 +15,11 @@
 --   RecoveryBatches   demand 3 of any mixture of batches and single calls
 --   GuardEndBatches     what the last m calls of the guard answer, of the same
 use Rattle.std.specs.Prelude.{◌≡◌, ◌≢◌, ◌↔◌, ◌⊎◌, List, [], ◌∷◌, ◌++◌, map, ℕ, ◌-◌, ◌*◌, ◌/◌, ◌%◌, ◌^◌, ◌≤◌, ◌<◌}
-use Rattle.std.specs.Prelude.{length, get_or, take}
+use Rattle.std.specs.Prelude.{length, get_or, take, Err}
+use Rattle.link.specs.declared.refusal.Refusal.{Refusal}
 use Rattle.tables.specs.declared.table.Table.{Table}
-use Rattle.link.specs.declared.code.CodeAnswer.TheVariants.{Refused as CodeRefused}
 use Rattle.link.specs.declared.decode.Mark.{Mark}
 use Rattle.link.specs.declared.decode.Mark.TheVariants.{Doubtful}
-use Rattle.link.specs.declared.decode.DecodeAnswer.TheVariants.{Refused as DecodeRefused}
 use Rattle.link.specs.Memory.{delay_of}
 use Rattle.link.specs.Coder.{code_answer, code_memory}
 use Rattle.link.specs.Decoder.{decode_answer, decode_memory, mark_number}
@@ -54,11 +53,11 @@ Shorter =
     ((t : Table) (room : ℕ) (s bs : List ℕ) (k : ℕ)
     → ((length (code_batch t room s bs).entries ≡ k) × (k < length bs))
     ↔ Ends (λ l. coded_by s (singly t l))
-    (λ l b. (number : ℕ) × (code_answer t (coder_after s (singly t l)) b ≡ CodeRefused number)) room bs k)
+    (λ l b. (e : Refusal) × (code_answer t (coder_after s (singly t l)) b ≡ Err e)) room bs k)
     × ((t : Table) (room : ℕ) (s bs : List ℕ) (k : ℕ)
     → ((length (decode_batch t room s bs).entries ≡ k) × (k < length bs))
     ↔ Ends (λ l. decoded_by s (singly t l))
-    (λ l r. (number : ℕ) × (decode_answer t (decoder_after s (singly t l)) r ≡ DecodeRefused number)) room bs k)
+    (λ l r. (e : Refusal) × (decode_answer t (decoder_after s (singly t l)) r ≡ Err e)) room bs k)
 
 -- "one entry a block taken": none of these calls is refused, since each has its entry
 abbrev pub BatchRun : Type 0

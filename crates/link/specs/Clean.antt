@@ -12,14 +12,14 @@
 --   Tells answer info error   the answer delivers this information, not doubtful, and its mark tells this error
 --   CleanMarks              past m × (N − 1) the mark tells the error of the block that is delivered
 --   StartedClean            it applies to started memories
-use Rattle.std.specs.Prelude.{◌≡◌, true, ◌≢◌, ◌⊎◌, List, ℕ, ◌+◌, ◌-◌, ◌/◌, ◌%◌, ◌≤◌, ◌<◌, length}
+use Rattle.link.specs.Refusals.{Answer}
+use Rattle.link.specs.declared.decode.Delivered.{Delivered}
+use Rattle.std.specs.Prelude.{Option, ◌≡◌, true, ◌≢◌, ◌⊎◌, List, ℕ, ◌+◌, ◌-◌, ◌/◌, ◌%◌, ◌≤◌, ◌<◌, length, Some, None, Ok}
 use Rattle.span.specs.Word.{◌⊕◌}
 use Rattle.tables.specs.declared.table.Table.{Table}
 use Rattle.tables.specs.Table.{fit}
 use Rattle.link.specs.declared.decode.Mark.{Mark}
 use Rattle.link.specs.declared.decode.Mark.TheVariants.{Doubtful}
-use Rattle.link.specs.declared.decode.DecodeAnswer.{DecodeAnswer}
-use Rattle.link.specs.declared.decode.DecodeAnswer.TheVariants.{Delivery, NothingYet}
 use Rattle.link.specs.Memory.{started, coder_words, turn_of, decoder_words, pending_at, delay_of, pending_of}
 use Rattle.link.specs.Memory.{syndrome_of, delayed_of}
 use Rattle.link.specs.Decoder.{mark_error}
@@ -39,7 +39,7 @@ pub record Clean (t : Table) (coder decoder : List ℕ) : Type 0 where
 -- delivered, if anything is. "Blocks from before the start are judged too": they count as right.
 abbrev pub Undisturbed : Table → List ℕ → List Taken → ℕ → Type 0
 Undisturbed t decoder taken p =
-    ((taken_at taken p).answer ≡ NothingYet)
+    ((taken_at taken p).answer ≡ Ok None)
     ⊎ Sure (taken_at taken p).answer
     (delayed_of t decoder ((turn_of decoder + (p - 1)) % t.depth) ((p - 1) / t.depth))
 
@@ -64,9 +64,9 @@ CleanSeparated =
     → EachPlace t decoder (sent_by coder cs) (taken_by decoder ds)
 
 -- `Sure`, and e of the mark, 0 where it has none, is the error
-abbrev pub Tells : DecodeAnswer → ℕ → ℕ → Type 0
+abbrev pub Tells : Answer (Option Delivered) → ℕ → ℕ → Type 0
 Tells answer info error =
-    (mark : Mark) × (answer ≡ Delivery (record { info = info; mark = mark })) × (mark ≢ Doubtful)
+    (mark : Mark) × (answer ≡ Ok (Some (record { info = info; mark = mark }))) × (mark ≢ Doubtful)
     × (mark_error mark ≡ error)
 
 -- With the same premises each mark tells how its block was taken: corrected or parity, with its error block as e, where

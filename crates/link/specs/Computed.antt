@@ -8,12 +8,12 @@
 --   sent_blocks, taken_blocks   the blocks of the steps that are not refused
 --   delivers info mark          the answer that is a delivery
 --   differing k xs ys           the places, counted from k, at which two lists of blocks differ
-use Rattle.std.specs.Prelude.{cond, List, [], ◌∷◌, ◌++◌, map, ℕ, suc, ◌-◌, eqb, length, replicate}
+use Rattle.link.specs.Refusals.{Answer}
+use Rattle.link.specs.declared.decode.Delivered.{Delivered}
+use Rattle.std.specs.Prelude.{Option, cond, List, [], ◌∷◌, ◌++◌, map, ℕ, suc, ◌-◌, eqb, length, replicate, Some, Ok}
 use Rattle.tables.specs.declared.table.Table.{Table}
 use Rattle.tables.specs.Table.{table}
 use Rattle.link.specs.declared.decode.Mark.{Mark}
-use Rattle.link.specs.declared.decode.DecodeAnswer.{DecodeAnswer}
-use Rattle.link.specs.declared.decode.DecodeAnswer.TheVariants.{Delivery}
 use Rattle.link.specs.Runs.{Call, Sent, Taken}
 
 -- n, N, m and the rows that count
@@ -39,8 +39,8 @@ sent_blocks xs = map (λ (x : Sent). x.block) xs
 abbrev pub taken_blocks : List Taken → List ℕ
 taken_blocks xs = map (λ (x : Taken). x.block) xs
 
-abbrev pub delivers : ℕ → Mark → DecodeAnswer
-delivers info mark = Delivery (record { info = info; mark = mark })
+abbrev pub delivers : ℕ → Mark → Answer (Option Delivered)
+delivers info mark = Ok (Some (record { info = info; mark = mark }))
 
 unfoldable pub differing : ℕ → List ℕ → List ℕ → List ℕ
 differing k [] ys = []

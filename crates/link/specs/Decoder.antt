@@ -4,24 +4,23 @@
 --   part_next, stream_replaced, decoder_next   the stream's part, the memory with it, and the memory after a step that is
 --                                           taken
 --   advanced              that memory, of the words that a step comes to
---   delivered, delivery   the record of such a step, and its answer
+--   delivered, delivery   the record of a step that is taken, and its answer
 --   decode_answer, decode_memory   answer and memory of any step
 --   mark_number k, mark_error k   the number of a mark, and its e or 0
 --   record_numbers, decode_numbers   the numbers of a record, and of an answer
 --   decode_values t s r   the values of a step that is taken
 --   Decodes               what `decode` promises
-use Rattle.std.specs.Prelude.{◌≡◌, cond, List, [], ◌∷◌, ◌++◌, ℕ, ◌+◌, ltb, set, take, drop}
-use Rattle.std.specs.Prelude.{Option}
+use Rattle.std.specs.Prelude.{◌≡◌, cond, List, [], ◌∷◌, ◌++◌, ℕ, ◌+◌, ltb, set, take, drop, Option, Some, None}
+use Rattle.std.specs.Prelude.{Result, Ok, Err}
 use Rattle.tables.specs.declared.table.Table.{Table}
 use Rattle.tables.specs.Table.{table}
 use Rattle.link.specs.declared.decode.Mark.{Mark}
 use Rattle.link.specs.declared.decode.Mark.TheVariants.{Clean, Held, Corrected, Doubtful, Parity}
 use Rattle.link.specs.declared.decode.Delivered.{Delivered}
-use Rattle.link.specs.declared.decode.DecodeAnswer.{DecodeAnswer}
-use Rattle.link.specs.declared.decode.DecodeAnswer.TheVariants.{Delivery, NothingYet, Refused}
+use Rattle.link.specs.declared.refusal.Refusal.{Refusal}
 use Rattle.link.specs.Memory.{turn_of, fill_of, delay_of, stream_at, pending_of, syndrome_of, delayed_of, next_turn}
 use Rattle.link.specs.Memory.{fill_next}
-use Rattle.link.specs.Refusals.{decoder_fault, answered, leaves, call_numbers}
+use Rattle.link.specs.Refusals.{Answer, decoder_fault, answered, leaves, call_numbers, refused, refusal_number}
 use Rattle.link.specs.Step.{stream_joining, stream_register, stream_found, stream_next, stream_info, stream_mark}
 
 unfoldable pub decoder_joining : Table → List ℕ → ℕ → ℕ
@@ -71,11 +70,11 @@ delivered t s r = record {
   mark = stream_mark t.symbols t.span t.rows (pending_of t s (turn_of s)) (syndrome_of t s (turn_of s)) r;
 }
 
-unfoldable pub delivery : Table → List ℕ → ℕ → DecodeAnswer
-delivery t s r = cond (ltb (fill_of s) (delay_of t)) NothingYet (Delivery (delivered t s r))
+unfoldable pub delivery : Table → List ℕ → ℕ → Answer (Option Delivered)
+delivery t s r = cond (ltb (fill_of s) (delay_of t)) (Ok None) (Ok (Some (delivered t s r)))
 
-unfoldable pub decode_answer : Table → List ℕ → ℕ → DecodeAnswer
-decode_answer t s r = answered (decoder_fault t s r) (delivery t s r) Refused
+unfoldable pub decode_answer : Table → List ℕ → ℕ → Answer (Option Delivered)
+decode_answer t s r = answered (decoder_fault t s r) (delivery t s r) refused
 
 unfoldable pub decode_memory : Table → List ℕ → ℕ → List ℕ
 decode_memory t s r = leaves (decoder_fault t s r) (decoder_next t s r) s
@@ -100,16 +99,16 @@ mark_error (Parity e) = e
 abbrev pub record_numbers : Delivered → List ℕ
 record_numbers d = d.info ∷ mark_number d.mark ∷ mark_error d.mark ∷ []
 
-abbrev pub decode_numbers : DecodeAnswer → List ℕ
-decode_numbers (Delivery d) = 0 ∷ record_numbers d
-decode_numbers NothingYet = 0 ∷ 0 ∷ 0 ∷ 0 ∷ []
-decode_numbers (Refused k) = k ∷ []
+abbrev pub decode_numbers : Answer (Option Delivered) → List ℕ
+decode_numbers (Ok (Some d)) = 0 ∷ record_numbers d
+decode_numbers (Ok None) = 0 ∷ 0 ∷ 0 ∷ 0 ∷ []
+decode_numbers (Err e) = refusal_number e ∷ []
 
 -- "if not, the answer is "nothing yet""
 abbrev pub decode_values : Table → List ℕ → ℕ → List ℕ
 decode_values t s r = cond (ltb (fill_of s) (delay_of t)) (0 ∷ 0 ∷ 0 ∷ []) (record_numbers (delivered t s r))
 
-pub record Decodes (t : Table) (before : List ℕ) (received : ℕ) (r : DecodeAnswer) (after : List ℕ) : Type 0 where
+pub record Decodes (t : Table) (before : List ℕ) (received : ℕ) (r : Answer (Option Delivered)) (after : List ℕ) : Type 0 where
   pub answer : r ≡ decode_answer t before received
   pub memory : after ≡ decode_memory t before received
   pub numbers : decode_numbers r ≡ call_numbers (decoder_fault t before received) (decode_values t before received)

@@ -8,7 +8,9 @@
 --   bytes_of_t9   those of T9
 --   examples      T1 to T12, and 02's two
 --   ExamplesLaw   all of them hold
-use Rattle.std.specs.Prelude.{◌≡◌, List, [], ◌∷◌, ◌++◌, ℕ, ◌-◌, ◌*◌, get_or, replicate}
+use Rattle.link.specs.Refusals.{Answer}
+use Rattle.link.specs.declared.decode.Delivered.{Delivered}
+use Rattle.std.specs.Prelude.{Option, ◌≡◌, List, [], ◌∷◌, ◌++◌, ℕ, ◌-◌, ◌*◌, get_or, replicate, None, Ok}
 use Rattle.tables.specs.declared.table.Table.{Table}
 use Rattle.tables.specs.Code.{Clashes}
 use Rattle.tables.specs.Table.{table, zero_table, rows_of}
@@ -17,12 +19,8 @@ use Rattle.tables.specs.Reading.{read_numbers, reading}
 use Rattle.tables.specs.declared.make.MakeAnswer.TheVariants.{Made}
 use Rattle.tables.specs.Made.{making}
 use Rattle.link.specs.Memory.{started}
-use Rattle.link.specs.declared.code.CodeAnswer.{CodeAnswer}
-use Rattle.link.specs.declared.code.CodeAnswer.TheVariants.{Coded}
 use Rattle.link.specs.Coder.{code_answer, code_memory}
 use Rattle.link.specs.declared.decode.Mark.TheVariants.{Clean, Held, Parity, Doubtful}
-use Rattle.link.specs.declared.decode.DecodeAnswer.{DecodeAnswer}
-use Rattle.link.specs.declared.decode.DecodeAnswer.TheVariants.{NothingYet}
 use Rattle.link.specs.Decoder.{decode_answer, decode_memory}
 use Rattle.link.specs.Computed.{calls, answers_by, delivers}
 
@@ -34,8 +32,8 @@ pub data Example : Type 0 where
   clashes : List ℕ → ℕ → ℕ → ℕ → Example
   clashes_first : List ℕ → ℕ → ℕ → ℕ → Example
   makes : ℕ → List ℕ → Example
-  codes : List ℕ → List ℕ → List ℕ → List CodeAnswer → Example
-  decodes : List ℕ → List ℕ → List ℕ → List DecodeAnswer → Example
+  codes : List ℕ → List ℕ → List ℕ → List (Answer ℕ) → Example
+  decodes : List ℕ → List ℕ → List ℕ → List (Answer (Option Delivered)) → Example
 
 abbrev pub ReadsAs : List ℕ → List ℕ → Table → Type 0
 ReadsAs bytes ns t = (read_numbers (reading bytes).answer ≡ ns) × ((reading bytes).table ≡ t)
@@ -93,10 +91,10 @@ examples =
     ∷ clashes bytes_of_t9 3 3 26
     -- T10 to T12. A coder of Z has 2 words and a decoder 7: turn, fill, pending word, syndrome word, and 3 delayed
     -- blocks. T10: "Z codes 1, 1, 0, 0, 0 as 1, 3, 2, 2, 2."
-    ∷ codes bytes_of_z (started 2) (1 ∷ 1 ∷ 0 ∷ 0 ∷ 0 ∷ []) (Coded 1 ∷ Coded 3 ∷ Coded 2 ∷ Coded 2 ∷ Coded 2 ∷ [])
+    ∷ codes bytes_of_z (started 2) (1 ∷ 1 ∷ 0 ∷ 0 ∷ 0 ∷ []) (Ok 1 ∷ Ok 3 ∷ Ok 2 ∷ Ok 2 ∷ Ok 2 ∷ [])
     -- T11: "Z, started, receives 2, 2, 0, 0: three times nothing yet, then 0, doubtful."
     ∷ decodes bytes_of_z (started 7) (2 ∷ 2 ∷ 0 ∷ 0 ∷ [])
-    (NothingYet ∷ NothingYet ∷ NothingYet ∷ delivers 0 Doubtful ∷ [])
+    ((Ok None) ∷ (Ok None) ∷ (Ok None) ∷ delivers 0 Doubtful ∷ [])
     -- T12: "Z, fill 3, pending word 4, all else 0, receives zeros: calls 1 to 5 deliver 0, call 6 delivers 0 marked
     -- corrected 2, call 7 is clean." 02, CR 4: "T12's sixth call then ends with that mark", parity.
     ∷ decodes bytes_of_z (0 ∷ 3 ∷ 4 ∷ 0 ∷ 0 ∷ 0 ∷ 0 ∷ []) (replicate 7 0)

@@ -10,11 +10,10 @@
 --   GuardEndAfter past   so every place of the guard after `past` answers
 --   GuardEnd             so its last m places answer
 --   GuardEndStream       so any place answers that ends 2 × (N − 1) right blocks of its stream
-use Rattle.std.specs.Prelude.{◌≡◌, ◌⊎◌, ℕ, ◌+◌, ◌-◌, ◌*◌, ◌^◌, ◌≤◌, ◌<◌, List, length, get_or}
+use Rattle.std.specs.Prelude.{◌≡◌, ◌⊎◌, ℕ, ◌+◌, ◌-◌, ◌*◌, ◌^◌, ◌≤◌, ◌<◌, List, length, get_or, Some, Ok}
 use Rattle.tables.specs.declared.table.Table.{Table}
 use Rattle.link.specs.declared.decode.Mark.{Mark}
 use Rattle.link.specs.declared.decode.Mark.TheVariants.{Clean, Parity}
-use Rattle.link.specs.declared.decode.DecodeAnswer.TheVariants.{Delivery}
 use Rattle.link.specs.Memory.{turn_of, syndrome_of, delay_of}
 use Rattle.link.specs.Refusals.{decoder_fault}
 use Rattle.link.specs.Decoder.{decode_memory}
@@ -45,7 +44,7 @@ GuardLaw =
 abbrev pub Settled : Table → List Sent → List Taken → ℕ → Type 0
 Settled t sent taken p =
     (mark : Mark)
-    × ((taken_at taken p).answer ≡ Delivery (record { info = (sent_at sent (p - delay_of t)).info; mark = mark }))
+    × ((taken_at taken p).answer ≡ Ok (Some (record { info = (sent_at sent (p - delay_of t)).info; mark = mark })))
     × ((mark ≡ Clean) ⊎ (mark ≡ Parity (2 ^ (t.symbols - 1))))
 
 -- "under demand 3's premises, the user who waited out the double guard (its first 2 × m × (N − 1) blocks)"

@@ -22,15 +22,12 @@
 --   Pending, PendingReceived             what a bit of a pending word is, of coder and of decoder
 --   DeliveryLaw                          which block a delivery is of, from any memory
 --   Waiting                              until the fill is complete nothing is delivered
-use Rattle.std.specs.Prelude.{◌≡◌, ◌↔◌, Bool, false, cond, ◌&&◌, ◌⊎◌, List, ℕ, zero, suc, ◌+◌, ◌-◌, ◌*◌, ◌^◌, ◌≤◌, ◌<◌}
-use Rattle.std.specs.Prelude.{leb, ltb, length, get_or}
+use Rattle.std.specs.Prelude.{◌≡◌, ◌↔◌, Bool, false, cond, ◌&&◌, ◌⊎◌, List, ℕ, zero, suc, ◌+◌, ◌-◌, ◌*◌, ◌^◌, ◌≤◌}
+use Rattle.std.specs.Prelude.{◌<◌, leb, ltb, length, get_or, Option, Some, None, Ok}
 use Rattle.std.specs.Bool.{xor}
-use Rattle.std.specs.Prelude.{Option}
-use Rattle.std.specs.Prelude.{Some, None}
 use Rattle.span.specs.Word.{◌⊕◌, bit}
 use Rattle.tables.specs.declared.table.Table.{Table}
 use Rattle.tables.specs.Table.{rows_of, info_rows}
-use Rattle.link.specs.declared.decode.DecodeAnswer.TheVariants.{Delivery, NothingYet}
 use Rattle.link.specs.Step.{information, parity, raw_term, error_of, mark_of}
 use Rattle.link.specs.Marks.{NoError, LeastError}
 use Rattle.link.specs.Memory.{started, coder_words, turn_of, decoder_words, pending_at, fill_of, delay_of, pending_of}
@@ -217,10 +214,10 @@ DeliveryLaw =
     let register = register_at memory ds (p - 1) in
     let found = found_at memory ds (p - 1) in
     (taken_at taken p).answer
-    ≡ Delivery (record {
+    ≡ Ok (Some (record {
       info = information t.symbols (taken_at taken (p - delay_of t)).block ⊕ information t.symbols (error_of found);
       mark = mark_of (2 ^ (t.symbols - 1)) found register;
-    })
+    }))
 
 -- 01, "if not, the answer is "nothing yet" and fill grows by one": from any memory, by its fill; from a started one,
 -- whose fill is 0, at the first m × (N − 1) taken places.
@@ -229,4 +226,4 @@ Waiting =
     (t : Table) (memory : List ℕ) (ds : List Call) →
     let taken = taken_by memory ds in
     DecoderTables t memory ds → (p : ℕ) → 1 ≤ p → p ≤ length taken → fill_of memory + (p - 1) < delay_of t
-    → (taken_at taken p).answer ≡ NothingYet
+    → (taken_at taken p).answer ≡ Ok None

@@ -22,7 +22,9 @@
 --   RecoveryAnyMemory    the theorem from any memory, and without a choice of bursts
 --   short_guard t        2 × m × (N − 2)
 --   RecoveryShortGuard   the same after that many right blocks
-use Rattle.std.specs.Prelude.{◌≡◌, ◌≢◌, ◌⊎◌, List, [], ◌∷◌, ℕ, ◌+◌, ◌-◌, ◌*◌, ◌≤◌, ◌<◌, length}
+use Rattle.link.specs.Refusals.{Answer}
+use Rattle.link.specs.declared.decode.Delivered.{Delivered}
+use Rattle.std.specs.Prelude.{Option, ◌≡◌, ◌≢◌, ◌⊎◌, List, [], ◌∷◌, ℕ, ◌+◌, ◌-◌, ◌*◌, ◌≤◌, ◌<◌, length, Some, Ok}
 use Rattle.tables.specs.declared.table.Table.{Table}
 use Rattle.tables.specs.declared.read.ReadAnswer.TheVariants.{Accepted}
 use Rattle.tables.specs.declared.make.MakeAnswer.TheVariants.{Made}
@@ -30,8 +32,6 @@ use Rattle.tables.specs.Reading.{reading}
 use Rattle.tables.specs.Made.{making}
 use Rattle.link.specs.declared.decode.Mark.{Mark}
 use Rattle.link.specs.declared.decode.Mark.TheVariants.{Doubtful}
-use Rattle.link.specs.declared.decode.DecodeAnswer.{DecodeAnswer}
-use Rattle.link.specs.declared.decode.DecodeAnswer.TheVariants.{Delivery}
 use Rattle.link.specs.Formed.{CoderFormed, DecoderFormed}
 use Rattle.link.specs.Memory.{delay_of}
 use Rattle.link.specs.Runs.{Call, Sent, Taken, sent_by, taken_by, sent_at, taken_at, CoderTables, DecoderTables}
@@ -122,8 +122,8 @@ Fades t = FadesWith (2 * delay_of t) t.depth (delay_of t) t
 
 -- "that step's answer is a record whose information equals the information sent in block p − m × (N − 1), with a mark
 -- other than doubtful"
-abbrev pub Sure : DecodeAnswer → ℕ → Type 0
-Sure answer info = (mark : Mark) × (answer ≡ Delivery (record { info = info; mark = mark })) × (mark ≢ Doubtful)
+abbrev pub Sure : Answer (Option Delivered) → ℕ → Type 0
+Sure answer info = (mark : Mark) × (answer ≡ Ok (Some (record { info = info; mark = mark }))) × (mark ≢ Doubtful)
 
 abbrev pub Recovered : List Sent → List Taken → ℕ → ℕ → Type 0
 Recovered sent taken delay p = Sure (taken_at taken p).answer (sent_at sent (p - delay)).info
@@ -157,7 +157,7 @@ DoubtfulLaw =
     CoderFormed t coder → DecoderFormed t decoder → Running t coder decoder cs ds
     → RightFirst (2 * delay_of t) sent taken
     → (p info : ℕ) → 2 * delay_of t < p → p ≤ length taken
-    → (taken_at taken p).answer ≡ Delivery (record { info = info; mark = Doubtful })
+    → (taken_at taken p).answer ≡ Ok (Some (record { info = info; mark = Doubtful }))
     → BurstsWithin t.depth (delay_of t) sent taken → ⊥
 
 -- Two wrong places are fewer than `long` places from one another, or more than `gap`. Bursts so chosen give it; here

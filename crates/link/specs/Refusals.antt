@@ -6,14 +6,21 @@
 --   some_above bound s from i   whether one of i words of s, from `from` on, is the bound or more
 --   coder_malformed, decoder_malformed   the condition of 14
 --   coder_fault t s b, decoder_fault t s r   the first of 12 to 15, of a coder's step and of a decoder's
---   answered fault x refused   the answer of a call that has this fault: x, or a refusal with its number
+--   refusal_number e         the number of a refusal
+--   refusal_of k             the refusal of a number from 12 to 15
+--   Answer X                 what a call answers that may be refused: an X, or why not
+--   refused k                what a call that is refused answers
+--   answered fault x refused   the answer of a call that has this fault: x, or its refusal
+--   settled fault            whether a call is refused, and why
 --   leaves fault next before   the memory after it
 --   call_numbers fault values   the numbers of its answer
 use Rattle.std.specs.Prelude.{Bool, false, cond, not, ◌||◌, List, [], ◌∷◌, ℕ, zero, suc, ◌+◌, ◌-◌, ◌^◌, leb, ltb, eqb}
-use Rattle.std.specs.Prelude.{length, get_or}
+use Rattle.std.specs.Prelude.{length, get_or, Result, Ok, Err, ⊤}
 use Rattle.tables.specs.declared.table.Table.{Table}
 use Rattle.tables.specs.Table.{fit}
 use Rattle.tables.specs.Refusal.{first_of}
+use Rattle.link.specs.declared.refusal.Refusal.{Refusal}
+use Rattle.link.specs.declared.refusal.Refusal.TheVariants.{UnfitTable, WrongLength, MalformedMemory, BlockTooLarge}
 use Rattle.link.specs.Memory.{coder_words, decoder_words, turn_of, fill_of, delay_of, stream_at, pending_at, pending_of}
 use Rattle.link.specs.Memory.{syndrome_of, delayed_bound}
 
@@ -49,9 +56,28 @@ coder_fault t s b = step_fault t (coder_words t) (coder_malformed t s) (2 ^ (t.s
 unfoldable pub decoder_fault : Table → List ℕ → ℕ → ℕ
 decoder_fault t s r = step_fault t (decoder_words t) (decoder_malformed t s) (2 ^ t.symbols) s r
 
+abbrev pub refusal_number : Refusal → ℕ
+refusal_number UnfitTable = 12
+refusal_number WrongLength = 13
+refusal_number MalformedMemory = 14
+refusal_number BlockTooLarge = 15
+
+abbrev pub refusal_of : ℕ → Refusal
+refusal_of k =
+    cond (eqb k 12) UnfitTable (cond (eqb k 13) WrongLength (cond (eqb k 14) MalformedMemory BlockTooLarge))
+
+abbrev pub Answer : Type 0 → Type 0
+Answer X = Result X Refusal
+
+abbrev pub refused : {X : Type 0} → ℕ → Answer X
+refused k = Err (refusal_of k)
+
 -- "A refusal returns its number .. It writes no lent word, so a sequence goes on as if the call had not come."
 unfoldable pub answered : {X : Type 0} → ℕ → X → (ℕ → X) → X
 answered fault x refused = cond (eqb fault 0) x (refused fault)
+
+abbrev pub settled : ℕ → Answer ⊤
+settled fault = answered fault (Ok tt) refused
 
 unfoldable pub leaves : ℕ → List ℕ → List ℕ → List ℕ
 leaves fault next before = cond (eqb fault 0) next before

@@ -13,14 +13,12 @@
 --   RefusedSkipped         a run with a refused call in it is the run without it
 --   RunAppend              a run over two lists is one over the first, and then one over the second from the memory
 --                          after it
-use Rattle.std.specs.Prelude.{◌≡◌, cond, ◌≢◌, List, [], ◌∷◌, ◌++◌, ℕ, ◌-◌, ◌≤◌, eqb, length, get_or}
+use Rattle.link.specs.declared.decode.Delivered.{Delivered}
+use Rattle.std.specs.Prelude.{Option, ◌≡◌, cond, ◌≢◌, List, [], ◌∷◌, ◌++◌, ℕ, ◌-◌, ◌≤◌, eqb, length, get_or, Some, None, Ok}
+use Rattle.std.specs.Prelude.{Err}
 use Rattle.tables.specs.declared.table.Table.{Table}
 use Rattle.tables.specs.Table.{zero_table, SameTable}
-use Rattle.link.specs.declared.code.CodeAnswer.{CodeAnswer}
-use Rattle.link.specs.declared.code.CodeAnswer.TheVariants.{Coded, Refused as CodeRefused}
-use Rattle.link.specs.declared.decode.DecodeAnswer.{DecodeAnswer}
-use Rattle.link.specs.declared.decode.DecodeAnswer.TheVariants.{Delivery, NothingYet, Refused as DecodeRefused}
-use Rattle.link.specs.Refusals.{coder_fault, decoder_fault}
+use Rattle.link.specs.Refusals.{Answer, coder_fault, decoder_fault}
 use Rattle.link.specs.Coder.{code_answer, code_memory}
 use Rattle.link.specs.Decoder.{decode_answer, decode_memory}
 
@@ -39,20 +37,20 @@ pub record Sent : Type 0 where
   pub info : ℕ
   pub block : ℕ
 
-abbrev pub sent_of : Table → ℕ → CodeAnswer → List Sent
-sent_of t b (Coded c) = record { table = t; info = b; block = c } ∷ []
-sent_of t b (CodeRefused k) = []
+abbrev pub sent_of : Table → ℕ → Answer ℕ → List Sent
+sent_of t b (Ok c) = record { table = t; info = b; block = c } ∷ []
+sent_of t b (Err e) = []
 
 -- "Taken block p is what the p-th decoder step that is not refused was handed."
 pub record Taken : Type 0 where
   pub table : Table
   pub block : ℕ
-  pub answer : DecodeAnswer
+  pub answer : Answer (Option Delivered)
 
-abbrev pub taken_of : Table → ℕ → DecodeAnswer → List Taken
-taken_of t r (Delivery d) = record { table = t; block = r; answer = Delivery d } ∷ []
-taken_of t r NothingYet = record { table = t; block = r; answer = NothingYet } ∷ []
-taken_of t r (DecodeRefused k) = []
+abbrev pub taken_of : Table → ℕ → Answer (Option Delivered) → List Taken
+taken_of t r (Ok (Some d)) = record { table = t; block = r; answer = Ok (Some d) } ∷ []
+taken_of t r (Ok None) = record { table = t; block = r; answer = Ok None } ∷ []
+taken_of t r (Err e) = []
 
 -- "Each step gets the memory as the last left it, nothing else writes it". "A refused step may stand anywhere in either
 -- list, whatever it is refused for. It has no place in the count."
@@ -87,7 +85,7 @@ abbrev pub none_sent : Sent
 none_sent = record { table = zero_table; info = 0; block = 0 }
 
 abbrev pub none_taken : Taken
-none_taken = record { table = zero_table; block = 0; answer = NothingYet }
+none_taken = record { table = zero_table; block = 0; answer = Ok None }
 
 -- "Both lists count from 1"
 abbrev pub sent_at : List Sent → ℕ → Sent

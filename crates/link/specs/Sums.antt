@@ -12,7 +12,8 @@
 --   CodedFormsAdd, RawTermsAdd   the law of coded forms and of raw terms
 --   DeliveriesNeedNotAdd   its failure of deliveries
 --   CodedFormsDiffer, RawTermsDiffer   the law of two messages on any well-formed memory
-use Rattle.std.specs.Prelude.{◌≡◌, Bool, true, ◌↔◌, ℕ, ◌-◌, length, replicate}
+use Rattle.link.specs.declared.decode.Delivered.{Delivered}
+use Rattle.std.specs.Prelude.{Option, ◌≡◌, Bool, true, ◌↔◌, ℕ, ◌-◌, length, replicate, Some, None, Ok, Err}
 use Rattle.std.specs.Bool.{xor}
 use mathlib.Core.List.{List, [], ◌∷◌, zip_with, flat_map}
 use Rattle.span.specs.Word.{◌⊕◌}
@@ -20,10 +21,8 @@ use Rattle.span.specs.Combination.{Below}
 use Rattle.tables.specs.declared.table.Table.{Table}
 use Rattle.tables.specs.Table.{fit}
 use Rattle.link.specs.declared.decode.Mark.TheVariants.{Corrected, Doubtful}
-use Rattle.link.specs.declared.decode.DecodeAnswer.{DecodeAnswer}
-use Rattle.link.specs.declared.decode.DecodeAnswer.TheVariants.{Delivery, NothingYet, Refused}
 use Rattle.link.specs.Memory.{started, coder_words, decoder_words}
-use Rattle.link.specs.Refusals.{coder_fault, decoder_fault}
+use Rattle.link.specs.Refusals.{Answer, coder_fault, decoder_fault}
 use Rattle.link.specs.Coder.{code_memory}
 use Rattle.link.specs.Decoder.{decode_answer, decode_memory}
 use Rattle.link.specs.Runs.{Call, run, sent_by, placed}
@@ -46,13 +45,13 @@ coded_form t bs = coded_from t (started (coder_words t)) bs
 abbrev pub raw_terms : Table → List ℕ → List Bool
 raw_terms t rs = raw_from t (started (decoder_words t)) rs
 
-abbrev pub answers_to : Table → List ℕ → List DecodeAnswer
+abbrev pub answers_to : Table → List ℕ → List (Answer (Option Delivered))
 answers_to t rs = answers_by decode_answer decode_memory (started (decoder_words t)) (calls t rs)
 
-abbrev pub info_of : DecodeAnswer → List ℕ
-info_of (Delivery d) = d.info ∷ []
-info_of NothingYet = []
-info_of (Refused k) = []
+abbrev pub info_of : Answer (Option Delivered) → List ℕ
+info_of (Ok (Some d)) = d.info ∷ []
+info_of (Ok None) = []
+info_of (Err e) = []
 
 abbrev pub delivered_by : Table → List ℕ → List ℕ
 delivered_by t rs = flat_map info_of (answers_to t rs)
@@ -97,10 +96,10 @@ RawTermsAdd = (t : Table) → fit t ≡ true → Adds t.symbols xor (raw_terms t
 -- delivers 1. Its blocks are 0, 2, 0, 2, with the raw terms 0, 1, 0, 1 of a first block whose symbol 1 is wrong.
 abbrev pub DeliveriesNeedNotAdd : Type 0
 DeliveriesNeedNotAdd =
-    (answers_to (Z 1) (2 ∷ 2 ∷ 0 ∷ 0 ∷ []) ≡ NothingYet ∷ NothingYet ∷ NothingYet ∷ delivers 0 Doubtful ∷ [])
-    × (answers_to (Z 1) (2 ∷ 0 ∷ 0 ∷ 2 ∷ []) ≡ NothingYet ∷ NothingYet ∷ NothingYet ∷ delivers 0 Doubtful ∷ [])
+    (answers_to (Z 1) (2 ∷ 2 ∷ 0 ∷ 0 ∷ []) ≡ Ok None ∷ (Ok None) ∷ (Ok None) ∷ delivers 0 Doubtful ∷ [])
+    × (answers_to (Z 1) (2 ∷ 0 ∷ 0 ∷ 2 ∷ []) ≡ Ok None ∷ (Ok None) ∷ (Ok None) ∷ delivers 0 Doubtful ∷ [])
     × (answers_to (Z 1) (zip_with ◌⊕◌ (2 ∷ 2 ∷ 0 ∷ 0 ∷ []) (2 ∷ 0 ∷ 0 ∷ 2 ∷ []))
-    ≡ NothingYet ∷ NothingYet ∷ NothingYet ∷ delivers 1 (Corrected 1) ∷ [])
+    ≡ Ok None ∷ (Ok None) ∷ (Ok None) ∷ delivers 1 (Corrected 1) ∷ [])
     × (Adds (Z 1).symbols ◌⊕◌ (delivered_by (Z 1)) (delivered_by (Z 1)) → ⊥)
 
 -- ---- two messages on one well-formed memory, started or not

@@ -4,21 +4,14 @@ ghost use Rattle.span.specs.Word.{◌⊕◌, odd, sel};
 ghost use Rattle.tables.specs.Lent.{lent};
 ghost use Rattle.tables.specs.Table.{table};
 ghost use Rattle.link.specs.Memory.{turn_of, pending_at, next_turn};
-ghost use Rattle.link.specs.Refusals.{coder_malformed, coder_fault};
+ghost use Rattle.link.specs.Refusals.{coder_malformed, coder_fault, settled};
 ghost use Rattle.link.specs.Coder.{Codes};
 
+use crate::refusal::Refusal;
 use crate::stream::next_turn;
 use span::bits::{mask, one_at, select};
 use span::combine::combination;
 use tables::table::{Table, lent_fits};
-
-#[derive(Clone, Copy)]
-pub enum CodeAnswer {
-    // The coded block: information and parity.
-    Coded(u16),
-    // Refusals 12 to 15.
-    Refused(u64),
-}
 
 // The condition of 14, of N and m: the turn is tested before it is an index.
 pub(crate) fn malformed(span: usize, depth: usize, state: &[u64]) -> bool
@@ -32,23 +25,23 @@ pub(crate) fn malformed(span: usize, depth: usize, state: &[u64]) -> bool
     mask(span - 1) < state[1 + (turn as usize)]
 }
 
-// The first of refusals 12 to 15 that applies, or 0.
-fn fault(t: Table, rows: &[u64], state: &[u64], block: u64) -> u64
-    ensures { result ≡ coder_fault (lent t rows.now) state.now block }
+// Whether one of refusals 12 to 15 applies: the first of them.
+fn fault(t: Table, rows: &[u64], state: &[u64], block: u64) -> Result<(), Refusal>
+    ensures { result ≡ settled (coder_fault (lent t rows.now) state.now block) }
 {
     if !lent_fits(t, rows) {
-        return 12;
+        return Err(Refusal::UnfitTable);
     }
     if state.len() != 1 + t.depth {
-        return 13;
+        return Err(Refusal::WrongLength);
     }
     if malformed(t.span, t.depth, state) {
-        return 14;
+        return Err(Refusal::MalformedMemory);
     }
     if mask(t.symbols - 1) < block {
-        return 15;
+        return Err(Refusal::BlockTooLarge);
     }
-    0
+    Ok(())
 }
 
 // The turn's stream, whose part is its pending word: w is that word and the image of the information, and w halved
@@ -82,21 +75,18 @@ pub(crate) fn taken(depth: u64, weight: u64, state: &mut [u64], info: u64, image
 }
 
 // A step on a table whose rows are lent beside it, so that a caller need not copy them into one. With another count
-// than fifteen, 12 applies.
-pub fn code_lent(t: Table, rows: &[u64], state: &mut [u64], info: u16) -> CodeAnswer
+// than fifteen, 12 applies. The coded block is information and parity.
+pub fn code_lent(t: Table, rows: &[u64], state: &mut [u64], info: u16) -> Result<u16, Refusal>
     ensures { Codes (lent t rows.now) state.old info result state.new }
 {
     let block = info as u64;
-    let number = fault(t, rows, state, block);
-    if number != 0 {
-        return CodeAnswer::Refused(number);
-    }
+    fault(t, rows, state, block)?;
     let width = t.symbols - 1;
     let image = combination(rows, width, block);
-    CodeAnswer::Coded(taken(t.depth as u64, one_at(width), state, block, image) as u16)
+    Ok(taken(t.depth as u64, one_at(width), state, block, image) as u16)
 }
 
-pub fn code(t: Table, state: &mut [u64], info: u16) -> CodeAnswer
+pub fn code(t: Table, state: &mut [u64], info: u16) -> Result<u16, Refusal>
     ensures { Codes t state.old info result state.new }
 {
     code_lent(t, &t.rows, state, info)

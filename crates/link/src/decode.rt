@@ -1,15 +1,16 @@
 // The decoder: one step on lent memory, in 01's four lines.
 ghost use Rattle.std.specs.Prelude.{◌≡◌, cond, ◌||◌, [], ◌∷◌, ◌++◌, ◌+◌, ◌-◌, ◌/◌, ◌^◌, ◌≤◌, ◌<◌, leb, ltb, length};
-ghost use Rattle.std.specs.Prelude.{get_or, take, drop};
+ghost use Rattle.std.specs.Prelude.{get_or, take, drop, Ok};
 ghost use Rattle.span.specs.Word.{◌⊕◌, odd, sel};
 ghost use Rattle.span.specs.Combination.{combination};
 ghost use Rattle.tables.specs.Lent.{with_rows, lent};
 ghost use Rattle.tables.specs.Table.{table, code_rows};
 ghost use Rattle.link.specs.Memory.{turn_of, stream_at, delayed_of, decoder_words};
 ghost use Rattle.link.specs.Step.{information, found, error_of, kept_of, mark_found, mark_of};
-ghost use Rattle.link.specs.Refusals.{some_above, decoder_malformed, decoder_fault};
+ghost use Rattle.link.specs.Refusals.{some_above, decoder_malformed, decoder_fault, settled};
 ghost use Rattle.link.specs.Decoder.{advanced, decoder_next, delivery, Decodes};
 
+use crate::refusal::Refusal;
 use crate::stream::{next_turn, push};
 use span::bits::{mask, one_at, select};
 use span::combine::combination;
@@ -31,14 +32,6 @@ pub enum Mark {
 pub struct Delivered {
     pub info: u16,
     pub mark: Mark,
-}
-
-#[derive(Clone, Copy)]
-pub enum DecodeAnswer {
-    Delivery(Delivered),
-    NothingYet,
-    // Refusals 12 to 15.
-    Refused(u64),
 }
 
 // The word w of a step, with the received parity added to its bit 0, and the register.
@@ -101,23 +94,23 @@ pub(crate) fn malformed(n: usize, span: usize, depth: usize, state: &[u64]) -> b
     stream_malformed(state, 2 + (turn as usize) * (span + 1), n, span)
 }
 
-// The first of refusals 12 to 15 that applies, or 0.
-fn fault(t: Table, rows: &[u64], state: &[u64], block: u64) -> u64
-    ensures { result ≡ decoder_fault (lent t rows.now) state.now block }
+// Whether one of refusals 12 to 15 applies: the first of them.
+fn fault(t: Table, rows: &[u64], state: &[u64], block: u64) -> Result<(), Refusal>
+    ensures { result ≡ settled (decoder_fault (lent t rows.now) state.now block) }
 {
     if !lent_fits(t, rows) {
-        return 12;
+        return Err(Refusal::UnfitTable);
     }
     if state.len() != 2 + t.depth * (t.span + 1) {
-        return 13;
+        return Err(Refusal::WrongLength);
     }
     if malformed(t.symbols, t.span, t.depth, state) {
-        return 14;
+        return Err(Refusal::MalformedMemory);
     }
     if mask(t.symbols) < block {
-        return 15;
+        return Err(Refusal::BlockTooLarge);
     }
-    0
+    Ok(())
 }
 
 // ---- the four lines
@@ -285,9 +278,9 @@ pub(crate) fn keep(
 }
 
 // A step that no refusal applies to.
-fn taken(t: Table, rows: &[u64], state: &mut [u64], received: u64) -> DecodeAnswer
+fn taken(t: Table, rows: &[u64], state: &mut [u64], received: u64) -> Option<Delivered>
     requires { (decoder_fault (with_rows t rows.now) state.old received ≡ 0) × (length rows.now ≡ 15) }
-    ensures answer { result ≡ delivery (with_rows t rows.now) state.old received }
+    ensures answer { Ok result ≡ delivery (with_rows t rows.now) state.old received }
     ensures memory { state.new ≡ decoder_next (with_rows t rows.now) state.old received }
 {
     let n = t.symbols;
@@ -305,28 +298,30 @@ fn taken(t: Table, rows: &[u64], state: &mut [u64], received: u64) -> DecodeAnsw
         information(n, received),
     );
     if fill < (t.depth * (t.span - 1)) as u64 {
-        return DecodeAnswer::NothingYet;
+        return None;
     }
-    DecodeAnswer::Delivery(Delivered {
+    Some(Delivered {
         info: (oldest ^ information(n, error)) as u16,
         mark,
     })
 }
 
 // A step on a table whose rows are lent beside it, so that a caller need not copy them into one. With another count
-// than fifteen, 12 applies.
-pub fn decode_lent(t: Table, rows: &[u64], state: &mut [u64], received: u16) -> DecodeAnswer
+// than fifteen, 12 applies. None is "nothing yet".
+pub fn decode_lent(
+    t: Table,
+    rows: &[u64],
+    state: &mut [u64],
+    received: u16,
+) -> Result<Option<Delivered>, Refusal>
     ensures { Decodes (lent t rows.now) state.old received result state.new }
 {
     let block = received as u64;
-    let number = fault(t, rows, state, block);
-    if number != 0 {
-        return DecodeAnswer::Refused(number);
-    }
-    taken(t, rows, state, block)
+    fault(t, rows, state, block)?;
+    Ok(taken(t, rows, state, block))
 }
 
-pub fn decode(t: Table, state: &mut [u64], received: u16) -> DecodeAnswer
+pub fn decode(t: Table, state: &mut [u64], received: u16) -> Result<Option<Delivered>, Refusal>
     ensures { Decodes t state.old received result state.new }
 {
     decode_lent(t, &t.rows, state, received)

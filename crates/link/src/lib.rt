@@ -5,5 +5,6 @@ pub mod code;
 pub mod code_batch;
 pub mod decode;
 pub mod decode_batch;
+pub mod refusal;
 pub mod start;
 pub mod stream;

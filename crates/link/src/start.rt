@@ -4,14 +4,8 @@ ghost use Rattle.tables.specs.Table.{fit};
 ghost use Rattle.link.specs.Memory.{coder_words, decoder_words};
 ghost use Rattle.link.specs.Start.{StartsWords, Starts};
 
+use crate::refusal::Refusal;
 use tables::table::{Table, is_fit};
-
-#[derive(Clone, Copy)]
-pub enum StartAnswer {
-    Started,
-    // Refusals 12 and 13.
-    Refused(u64),
-}
 
 fn clear(state: &mut [u64])
     ensures { state.new ≡ replicate (length state.old) 0 }
@@ -26,32 +20,32 @@ fn fits(t: Table) -> bool
 }
 
 // A memory that is to have so many words, whatever the code: 13 alone is looked at.
-pub fn start(state: &mut [u64], words: usize) -> StartAnswer
+pub fn start(state: &mut [u64], words: usize) -> Result<(), Refusal>
     ensures { StartsWords words state.old result state.new }
 {
     if state.len() != words {
-        return StartAnswer::Refused(13);
+        return Err(Refusal::WrongLength);
     }
     clear(state);
-    StartAnswer::Started
+    Ok(())
 }
 
-pub fn start_coder(t: Table, state: &mut [u64]) -> StartAnswer
+pub fn start_coder(t: Table, state: &mut [u64]) -> Result<(), Refusal>
     ensures { Starts t (coder_words t) state.old result state.new }
 {
     if fits(t) {
         start(state, 1 + t.depth)
     } else {
-        StartAnswer::Refused(12)
+        Err(Refusal::UnfitTable)
     }
 }
 
-pub fn start_decoder(t: Table, state: &mut [u64]) -> StartAnswer
+pub fn start_decoder(t: Table, state: &mut [u64]) -> Result<(), Refusal>
     ensures { Starts t (decoder_words t) state.old result state.new }
 {
     if fits(t) {
         start(state, 2 + t.depth * (t.span + 1))
     } else {
-        StartAnswer::Refused(12)
+        Err(Refusal::UnfitTable)
     }
 }

@@ -9,13 +9,12 @@
 --   disturbed t seed infos   the coded form of a message as received, with the errors of a load
 --   LoadReceived             zeros are coded as zeros, and a load is the coded form of zeros as received
 --   DisturbedMessage         a message so disturbed is delivered, as far as its blocks are
-use Rattle.std.specs.Prelude.{◌≡◌, true, ℕ, ◌-◌, ◌≤◌, ◌<◌, length, get_or, replicate}
+use Rattle.std.specs.Prelude.{◌≡◌, true, ℕ, ◌-◌, ◌≤◌, ◌<◌, length, get_or, replicate, None, Ok}
 use mathlib.Core.List.{List, zip_with}
 use Rattle.span.specs.Word.{◌⊕◌}
 use Rattle.span.specs.Combination.{Below}
 use Rattle.tables.specs.declared.table.Table.{Table}
 use Rattle.tables.specs.Table.{fit}
-use Rattle.link.specs.declared.decode.DecodeAnswer.TheVariants.{NothingYet}
 use Rattle.link.specs.Memory.{started, decoder_words, delay_of}
 use Rattle.link.specs.Refusals.{decoder_fault}
 use Rattle.link.specs.Decoder.{decode_memory}
@@ -33,7 +32,7 @@ taken_from t rs = taken_by (started (decoder_words t)) (calls t rs)
 pub record CorrectedTo (t : Table) (rs : List ℕ) (info error : ℕ → ℕ) : Type 0 where
   pub none_refused : NoneRefused decoder_fault decode_memory (started (decoder_words t)) (calls t rs)
   pub all_taken_lem : length (taken_from t rs) ≡ length rs
-  pub waits : (p : ℕ) → 1 ≤ p → p ≤ length rs → p ≤ delay_of t → (taken_at (taken_from t rs) p).answer ≡ NothingYet
+  pub waits : (p : ℕ) → 1 ≤ p → p ≤ length rs → p ≤ delay_of t → (taken_at (taken_from t rs) p).answer ≡ Ok None
   pub deliveries : (p : ℕ) → p ≤ length rs → delay_of t < p
       → Tells (taken_at (taken_from t rs) p).answer (info (p - delay_of t)) (error (p - delay_of t))
 

@@ -4,12 +4,12 @@
 --   small_table                   the made table for n = 2 and m = 3
 --   first_blocks, FirstBlocks     the first 53 blocks of its load of that table
 --   first_answers, FirstAnswers   what a started decoder answers to the first 31 of them
-use Rattle.std.specs.Prelude.{◌≡◌, List, [], ◌∷◌, ◌++◌, ℕ, replicate}
+use Rattle.link.specs.Refusals.{Answer}
+use Rattle.link.specs.declared.decode.Delivered.{Delivered}
+use Rattle.std.specs.Prelude.{Option, ◌≡◌, List, [], ◌∷◌, ◌++◌, ℕ, replicate, None, Ok}
 use Rattle.tables.specs.declared.table.Table.{Table}
 use Rattle.tables.specs.Made.{making}
 use Rattle.link.specs.declared.decode.Mark.TheVariants.{Clean, Held, Corrected, Parity}
-use Rattle.link.specs.declared.decode.DecodeAnswer.{DecodeAnswer}
-use Rattle.link.specs.declared.decode.DecodeAnswer.TheVariants.{NothingYet}
 use Rattle.link.specs.Computed.{delivers}
 use Rattle.link.specs.Sums.{answers_to}
 use Rattle.load.specs.Draws.{drawn}
@@ -55,9 +55,9 @@ FirstBlocks = load_of small_table 1 53 ≡ first_blocks
 -- blocks 15, 18, 21 and 24, and while they move down blocks 9 and 12 of that stream are delivered, held. Of block 17,
 -- with its parity wrong, they are 1, 0, 0, 0; blocks 8, 11 and 14 are held before it. Of block 30 only the first term,
 -- 1, has come, and it holds block 21.
-abbrev pub first_answers : List DecodeAnswer
+abbrev pub first_answers : List (Answer (Option Delivered))
 first_answers =
-    replicate 9 NothingYet ++ (delivers 0 (Corrected 1) ∷ (replicate 7 (delivers 0 Clean)
+    replicate 9 (Ok None) ++ (delivers 0 (Corrected 1) ∷ (replicate 7 (delivers 0 Clean)
     ++ (delivers 0 Held ∷ delivers 0 Held ∷ delivers 0 Clean ∷ delivers 0 Held ∷ delivers 0 Held ∷ delivers 0 Clean
     ∷ delivers 0 Held ∷ delivers 0 (Corrected 1) ∷ delivers 0 Clean ∷ delivers 0 (Parity 2) ∷ delivers 0 Clean
     ∷ delivers 0 Clean ∷ delivers 0 Clean ∷ delivers 0 Held ∷ [])))

@@ -4,7 +4,7 @@
 
 use link::code_batch::code_batch;
 use link::decode_batch::decode_batch;
-use link::start::{StartAnswer, start_coder, start_decoder};
+use link::start::{start_coder, start_decoder};
 use std::{array, fmt, io};
 use tables::make::{MakeAnswer, make};
 use tables::table::Table;
@@ -136,11 +136,11 @@ fn relay(rt: &impl Print, t: Table, coder: &mut [u64], decoder: &mut [u64]) -> i
 fn start(rt: &impl Print, t: Table) -> io::Result<()> {
     let mut coder = [0u64; 1 + DEPTH];
     let mut decoder = [0u64; 2 + DEPTH * (SPAN + 1)];
-    if let StartAnswer::Refused(k) = start_coder(t, &mut coder) {
-        return println!(rt; "refused {k}");
+    if let Err(refusal) = start_coder(t, &mut coder) {
+        return println!(rt; "refused {}", u64::from(refusal));
     }
-    if let StartAnswer::Refused(k) = start_decoder(t, &mut decoder) {
-        return println!(rt; "refused {k}");
+    if let Err(refusal) = start_decoder(t, &mut decoder) {
+        return println!(rt; "refused {}", u64::from(refusal));
     }
     relay(rt, t, &mut coder, &mut decoder)
 }

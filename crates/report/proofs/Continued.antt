@@ -4,9 +4,10 @@ use mathlib.Core.Bool.{Bool, true, false}
 use mathlib.Core.List.{List, [], ◌∷◌, ◌++◌, append_assoc}
 use Prim.Native.Nat.{ℕ, ◌+◌}
 use native.Mathlib.Omega.{arith}
+use Rattle.link.specs.Refusals.{Answer}
+use Rattle.link.specs.declared.decode.Delivered.{Delivered}
 use Rattle.tables.specs.declared.table.Table.{Table}
-use Rattle.link.specs.declared.decode.DecodeAnswer.{DecodeAnswer}
-use Rattle.link.specs.declared.decode.DecodeAnswer.TheVariants.{Delivery, NothingYet, Refused}
+use Rattle.std.specs.Prelude.{Option, Some, None, Ok, Err}
 use Rattle.link.specs.Decoder.{decode_answer, decode_memory}
 use Rattle.report.specs.Text.{line_of}
 use Rattle.report.specs.Listing.{Listed, prefixed, block_of, listed_after, listed, continued, PartsLaw}
@@ -17,14 +18,14 @@ pub continued-prefixed : (t : Table) (ps : List ℕ) (l : Listed) (b : Bool) (bs
 continued-prefixed t ps l true bs e = rw e
 continued-prefixed t ps l false bs e = rw (e, append_assoc)
 
-continued-after : (t : Table) (a : DecodeAnswer) (s : List ℕ) (k : ℕ) (xs bs : List ℕ)
+continued-after : (t : Table) (a : Answer (Option Delivered)) (s : List ℕ) (k : ℕ) (xs bs : List ℕ)
     → ((next : ℕ) → listed t s next (xs ++ bs) ≡ continued t (listed t s next xs) bs)
     → listed_after a s k (λ next. listed t s next (xs ++ bs))
     ≡ continued t (listed_after a s k (λ next. listed t s next xs)) bs
-continued-after t (Delivery d) s k xs bs h =
+continued-after t (Ok (Some d)) s k xs bs h =
     ap (prefixed (line_of k d)) (h (k + 1)) ∙ sym (continued-prefixed t (line_of k d) (listed t s (k + 1) xs) _ bs refl)
-continued-after t NothingYet s k xs bs h = h k ∙ sym (continued-prefixed t [] (listed t s k xs) _ bs refl)
-continued-after t (Refused f) s k xs bs h = refl
+continued-after t (Ok None) s k xs bs h = h k ∙ sym (continued-prefixed t [] (listed t s k xs) _ bs refl)
+continued-after t (Err e) s k xs bs h = refl
 
 pub parts : PartsLaw
 unfolding listed

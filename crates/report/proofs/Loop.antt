@@ -8,10 +8,11 @@ use native.Mathlib.Omega.{arith}
 use native.Mathlib.Numerals.{add-one}
 use lib.ListN.{length, get_or, drop, drop_of_length-le}
 use lib.Seq.{drop-cons}
+use Rattle.link.specs.Refusals.{Answer}
+use Rattle.link.specs.declared.decode.Delivered.{Delivered}
 use Rattle.tables.specs.declared.table.Table.{Table}
-use Rattle.link.specs.declared.decode.DecodeAnswer.{DecodeAnswer}
 use Rattle.link.specs.Decoder.{decode_answer, decode_memory}
-use Rattle.link.specs.declared.decode.DecodeAnswer.TheVariants.{Delivery, NothingYet, Refused}
+use Rattle.std.specs.Prelude.{Option, Some, None, Ok, Err}
 use Rattle.report.specs.Text.{odd_line}
 use Rattle.report.specs.Writing.{Wrote, longest}
 use Rattle.report.specs.Listing.{Listed, prefixed, block_of, answer_text, answer_number, answer_stops, Printed}
@@ -43,11 +44,11 @@ from_block : (t : Table) (s : List ℕ) (k : ℕ) (bs : List ℕ) (i : ℕ) → 
 unfolding listed
 from_block t s k bs i h = ap (listed t s k) (drop_block bs i h)
 
-after-goes : (a : DecodeAnswer) (s : List ℕ) (k : ℕ) (rest : ℕ → Listed) → answer_stops a ≡ false
+after-goes : (a : Answer (Option Delivered)) (s : List ℕ) (k : ℕ) (rest : ℕ → Listed) → answer_stops a ≡ false
     → listed_after a s k rest ≡ prefixed (answer_text k a) (rest (answer_number k a))
 after-goes a s k rest e = rw (e, listed_after)
 
-after-stops : (a : DecodeAnswer) (s : List ℕ) (k : ℕ) (rest : ℕ → Listed) → answer_stops a ≡ true
+after-stops : (a : Answer (Option Delivered)) (s : List ℕ) (k : ℕ) (rest : ℕ → Listed) → answer_stops a ≡ true
     → listed_after a s k rest ≡ record { text = answer_text k a; memory = s; number = answer_number k a; stopped = true }
 after-stops a s k rest e = rw (e, listed_after)
 
@@ -116,10 +117,10 @@ pub record Going (t : Table) (s₀ : List ℕ) (k₀ : ℕ) (bs out₀ s out : L
   pub wrote : Wrote out₀ 0 text out end
   pub whole : prefixed text (listed t s k (drop (2 * i) bs)) ≡ listed t s₀ k₀ bs
 
-number-next : (k : ℕ) (a : DecodeAnswer) → answer_number k a ≤ k + 1
-number-next k (Delivery d) = omega arith
-number-next k NothingYet = omega arith
-number-next k (Refused f) = omega arith
+number-next : (k : ℕ) (a : Answer (Option Delivered)) → answer_number k a ≤ k + 1
+number-next k (Ok (Some d)) = omega arith
+number-next k (Ok None) = omega arith
+number-next k (Err e) = omega arith
 
 pub going_start : (t : Table) (s : List ℕ) (k : ℕ) (bs out : List ℕ) → Going t s k bs out s out 0 k 0
 going_start t s k bs out = record {

@@ -15,14 +15,14 @@
 --   part_room k bytes room      whether the lines of a part of so many bytes have room, and the numbers from k on
 --   part_listed t s k bs room   what a call that lists a part does, with `room` bytes for the lines
 --   Lists l out r memory end number stopped   what such a call leaves and answers
-use Rattle.std.specs.Prelude.{◌≡◌, Bool, true, false, ◌&&◌, cond, List, [], ◌∷◌, ◌++◌, ℕ, ◌+◌, ◌*◌, ◌/◌, ◌%◌, ◌^◌, ◌≤◌}
-use Rattle.std.specs.Prelude.{leb, length, get_or}
+use Rattle.link.specs.declared.decode.Delivered.{Delivered}
+use Rattle.std.specs.Prelude.{Option, ◌≡◌, Bool, true, false, ◌&&◌, cond, List, [], ◌∷◌, ◌++◌, ℕ, ◌+◌, ◌*◌, ◌/◌, ◌%◌, ◌^◌}
+use Rattle.std.specs.Prelude.{◌≤◌, leb, length, get_or, Some, None, Ok, Err}
 use Rattle.tables.specs.declared.table.Table.{Table}
 use Rattle.tables.specs.declared.make.MakeAnswer.{MakeAnswer}
 use Rattle.tables.specs.declared.make.MakeAnswer.TheVariants.{Made, OutOfRange}
 use Rattle.tables.specs.Made.{making, made_numbers}
-use Rattle.link.specs.declared.decode.DecodeAnswer.{DecodeAnswer}
-use Rattle.link.specs.declared.decode.DecodeAnswer.TheVariants.{Delivery, NothingYet, Refused}
+use Rattle.link.specs.Refusals.{Answer, refusal_number}
 use Rattle.link.specs.Memory.{started, decoder_words}
 use Rattle.link.specs.Decoder.{decode_answer, decode_memory}
 use Rattle.report.specs.Text.{header_line, line_of, refused_line, odd_line}
@@ -44,23 +44,23 @@ block_of low high = low + 256 * high
 -- What an answer prints where the next delivery has the number k, the number of the delivery after it, and whether the
 -- program stops: "one line a delivery: number from 0"; "nothing yet" prints nothing and has no number; "A refusal
 -- prints one line .. and stops".
-abbrev pub answer_text : ℕ → DecodeAnswer → List ℕ
-answer_text k (Delivery d) = line_of k d
-answer_text k NothingYet = []
-answer_text k (Refused f) = refused_line f
+abbrev pub answer_text : ℕ → Answer (Option Delivered) → List ℕ
+answer_text k (Ok (Some d)) = line_of k d
+answer_text k (Ok None) = []
+answer_text k (Err e) = refused_line (refusal_number e)
 
-abbrev pub answer_number : ℕ → DecodeAnswer → ℕ
-answer_number k (Delivery d) = k + 1
-answer_number k NothingYet = k
-answer_number k (Refused f) = k
+abbrev pub answer_number : ℕ → Answer (Option Delivered) → ℕ
+answer_number k (Ok (Some d)) = k + 1
+answer_number k (Ok None) = k
+answer_number k (Err e) = k
 
-abbrev pub answer_stops : DecodeAnswer → Bool
-answer_stops (Delivery d) = false
-answer_stops NothingYet = false
-answer_stops (Refused f) = true
+abbrev pub answer_stops : Answer (Option Delivered) → Bool
+answer_stops (Ok (Some d)) = false
+answer_stops (Ok None) = false
+answer_stops (Err e) = true
 
 -- the answer's bytes are written, from the position `at` on, and no more than a line
-pub record Printed (out : List ℕ) (at k : ℕ) (a : DecodeAnswer) (r : List ℕ) (end number : ℕ) (stopped : Bool)
+pub record Printed (out : List ℕ) (at k : ℕ) (a : Answer (Option Delivered)) (r : List ℕ) (end number : ℕ) (stopped : Bool)
     : Type 0 where
   pub wrote : Wrote out at (answer_text k a) r end
   pub counted : number ≡ answer_number k a
@@ -69,7 +69,7 @@ pub record Printed (out : List ℕ) (at k : ℕ) (a : DecodeAnswer) (r : List �
 
 -- an answer listed: s is the memory after its step, and `rest k` is what is listed after it if the next delivery has
 -- the number k
-abbrev pub listed_after : DecodeAnswer → List ℕ → ℕ → (ℕ → Listed) → Listed
+abbrev pub listed_after : Answer (Option Delivered) → List ℕ → ℕ → (ℕ → Listed) → Listed
 listed_after a s k rest =
     cond (answer_stops a) (record { text = answer_text k a; memory = s; number = answer_number k a; stopped = true })
     (prefixed (answer_text k a) (rest (answer_number k a)))

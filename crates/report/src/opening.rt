@@ -49,7 +49,7 @@ fn started(t: Table, memory: &mut [u64], end: usize) -> Opened
     ensures memory { memory.new ≡ started_in t memory.old }
 {
     let words = 2 + t.depth * (t.span + 1);
-    start_decoder(t, &mut memory[0..words]);
+    let _ = start_decoder(t, &mut memory[0..words]);
     Opened {
         table: t,
         words,

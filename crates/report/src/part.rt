@@ -4,7 +4,8 @@ ghost use Rattle.report.specs.Writing.{longest};
 ghost use Rattle.report.specs.Listing.{block_of, Printed, listed, part_room, part_listed, Lists};
 
 use crate::text::{line, odd_byte, refusal};
-use link::decode::{DecodeAnswer, decode};
+use link::decode::{Delivered, decode};
+use link::refusal::Refusal;
 use tables::table::Table;
 
 // How far a listing came: the count of bytes written, the number of the next delivery, and whether it stopped.
@@ -24,23 +25,28 @@ fn block(bytes: &[u8], at: usize) -> u16
 }
 
 // What one answer prints.
-fn answer_line(answer: DecodeAnswer, number: u64, out: &mut [u8], at: usize) -> Progress
+fn answer_line(
+    answer: Result<Option<Delivered>, Refusal>,
+    number: u64,
+    out: &mut [u8],
+    at: usize,
+) -> Progress
     requires { (at + longest ≤ length out.old) × (number + 1 < 2 ^ 64) }
     ensures { Printed out.old at number answer out.new result.end result.number result.stopped }
 {
     match answer {
-        DecodeAnswer::Delivery(d) => Progress {
+        Ok(Some(d)) => Progress {
             end: line(out, at, number, d),
             number: number + 1,
             stopped: false,
         },
-        DecodeAnswer::NothingYet => Progress {
+        Ok(None) => Progress {
             end: at,
             number,
             stopped: false,
         },
-        DecodeAnswer::Refused(k) => Progress {
-            end: refusal(out, at, k),
+        Err(refused) => Progress {
+            end: refusal(out, at, u64::from(refused)),
             number,
             stopped: true,
         },

@@ -1,9 +1,10 @@
 -- `iwadare::decode::fault`: the tests of 13 to 15 in their order. Assumes nothing.
-use mathlib.Core.Path.{◌≡◌, refl, sym, ◌∙◌}
+use mathlib.Core.Path.{◌≡◌, refl, sym, ap, ◌∙◌}
 use mathlib.Core.Bool.{Bool, true, false, cond}
 use borrow.Author.Tests.{ne_eqb, le-leb, lt-leb}
 use lib.Dec.{leb}
 use Rattle.iwadare.specs.Memory.{decoder_words, received_bound}
+use Rattle.link.specs.Refusals.{answered, settled}
 use Rattle.iwadare.specs.Refusals.{decoder_malformed, decoder_fault}
 use Rattle.iwadare.proofs.Refusals.{step_settled}
 use Rattle.iwadare.proofs.Decoder.{decoder-fault}
@@ -11,28 +12,32 @@ use Rattle.iwadare.proofs.decode.fault.Goals as goal
 use Rattle.iwadare.proofs.decode.fault.Goals.{After-malformed}
 
 pub returns-then-state-ne21 : goal.returns-then-state-ne21
+unfolding answered
 returns-then-state-ne21 c =
     let a = c.args in
-    sym (decoder-fault a.state.now a.received ∙ simp (ne_eqb _ _ c.if-state-ne21.true))
+    ap settled {x = 13} (sym (decoder-fault a.state.now a.received ∙ simp (ne_eqb _ _ c.if-state-ne21.true)))
 
--- once 13 is settled
-settled : (c : goal.After-malformed) (p q : Bool)
+-- past 13
+last : (c : goal.After-malformed) (p q : Bool)
     → let a = c.args in
     c.malformed.result ≡ p → leb received_bound a.received ≡ q
     → cond p 14 (cond q 15 0) ≡ decoder_fault a.state.now a.received
 unfolding decoder_fault
-settled c p q e g =
+last c p q e g =
     let a = c.args in
     sym (step_settled decoder_words (decoder_malformed a.state.now) received_bound a.state.now a.received
     c.if-state-ne21.false p q (sym c.malformed.ensures ∙ e) g)
 
 pub returns-then-malformed : goal.returns-then-malformed
-returns-then-malformed c = settled (goal.at.returns-then-malformed c).After-malformed true _ c.if-malformed.true refl
+unfolding answered
+returns-then-malformed c = ap settled (last (goal.at.returns-then-malformed c).After-malformed true _ c.if-malformed.true refl)
 
 pub returns-then-received-ge8 : goal.returns-then-received-ge8
+unfolding answered
 returns-then-received-ge8 c =
-    settled (goal.at.returns-then-received-ge8 c).After-malformed false true c.if-malformed.false
-    (le-leb _ _ c.if-received-ge8.true)
+    ap settled (last (goal.at.returns-then-received-ge8 c).After-malformed false true c.if-malformed.false
+    (le-leb _ _ c.if-received-ge8.true))
 
 pub returns : goal.returns
-returns c = settled (goal.at.returns c).After-malformed false false c.if-malformed.false (lt-leb _ _ c.if-received-ge8.false)
+unfolding answered
+returns c = ap settled (last (goal.at.returns c).After-malformed false false c.if-malformed.false (lt-leb _ _ c.if-received-ge8.false))

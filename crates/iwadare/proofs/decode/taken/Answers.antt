@@ -14,7 +14,7 @@ use Rattle.span.proofs.Word.{xor-code, odd-xor, bit-odd}
 use Rattle.span.proofs.Combination.{combination-low}
 use Rattle.link.proofs.Refusals.{picked, passed}
 use Rattle.link.proofs.Coder.{sel-digit}
-use Rattle.iwadare.specs.declared.decode.DecodeAnswer.TheVariants.{Delivery, NothingYet}
+use Rattle.std.specs.Prelude.{Some, None, Ok}
 use Rattle.iwadare.specs.Memory.{generators, delay, fill_of, pending_of, terms_of, fill_next}
 use Rattle.iwadare.specs.Decoder.{decoder_joining, raw_of, register_of, flips_symbol1, flips_symbol0, terms_next}
 use Rattle.iwadare.specs.Decoder.{decoder_next, delivered, delivery}
@@ -105,7 +105,7 @@ returns-then-fill-lt-DELAY c =
     let s = a.state.now in
     record {
       answer =
-          picked (ltb (fill_of s) delay) NothingYet (Delivery (delivered s a.received))
+          picked (ltb (fill_of s) delay) (Ok None) (Ok (Some (delivered s a.received)))
           (lt-ltb (fill_of s) delay c.if-fill-lt-DELAY.true);
       memory = kept (goal.at.returns-then-fill-lt-DELAY c).After-keep;
     }
@@ -134,8 +134,8 @@ returns c =
     let s = a.state.now in
     record {
       answer =
-          ap Delivery (flipped (goal.at.returns c).After-keep)
-          ∙ passed (ltb (fill_of s) delay) NothingYet (Delivery (delivered s a.received))
+          ap (λ d. Ok (Some d)) (flipped (goal.at.returns c).After-keep)
+          ∙ passed (ltb (fill_of s) delay) (Ok None) (Ok (Some (delivered s a.received)))
           (le-ltb (fill_of s) delay c.if-fill-lt-DELAY.false);
       memory = kept (goal.at.returns c).After-keep;
     }

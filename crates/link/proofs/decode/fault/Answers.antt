@@ -1,5 +1,5 @@
 -- `link::decode::fault`: the tests of 12 to 15 in their order. Assumes nothing.
-use mathlib.Core.Path.{◌≡◌, sym, ◌∙◌}
+use mathlib.Core.Path.{◌≡◌, sym, ap, ◌∙◌}
 use mathlib.Core.Bool.{Bool, true, false, cond}
 use Prim.Native.Nat.{◌^◌}
 use native.Mathlib.Omega.{arith}
@@ -10,18 +10,19 @@ use Rattle.tables.specs.Table.{fit}
 use Rattle.tables.specs.Lent.{with_rows, lent}
 use Rattle.tables.proofs.Lent.{LentFits, lent-facts}
 use Rattle.link.specs.Memory.{decoder_words}
-use Rattle.link.specs.Refusals.{decoder_malformed, decoder_fault}
+use Rattle.link.specs.Refusals.{decoder_malformed, decoder_fault, answered, settled}
 use Rattle.link.proofs.Refusals.{number_12, number_13, number_14, number_15}
 use Rattle.link.proofs.Room.{fit-room}
 use Rattle.link.proofs.decode.fault.Goals as goal
 use Rattle.link.proofs.decode.fault.Goals.{After-mask, Else-not-lent_fits}
 
 pub returns-then-not-lent_fits : goal.returns-then-not-lent_fits
-unfolding decoder_fault
+unfolding decoder_fault answered
 returns-then-not-lent_fits c =
     let a = c.args in
-    number_12 decoder_words (λ u. 2 ^ u.symbols) decoder_malformed a.t a.rows.now a.state.now a.block
-    (sym c.lent_fits.ensures ∙ c.if-not-lent_fits.true)
+    ap settled
+    (number_12 decoder_words (λ u. 2 ^ u.symbols) decoder_malformed a.t a.rows.now a.state.now a.block
+    (sym c.lent_fits.ensures ∙ c.if-not-lent_fits.true))
 
 fitted : (c : goal.Else-not-lent_fits) → let a = c.args in fit (lent a.t a.rows.now) ≡ true
 fitted c = sym c.lent_fits.ensures ∙ c.if-not-lent_fits.false
@@ -47,11 +48,12 @@ overflow_add-t-2 c =
     record { fits = omega arith }
 
 pub returns-then-state-t : goal.returns-then-state-t
-unfolding decoder_fault
+unfolding decoder_fault answered
 returns-then-state-t c =
     let a = c.args in
-    number_13 decoder_words (λ u. 2 ^ u.symbols) decoder_malformed a.t a.rows.now a.state.now a.block
-    (fitted (goal.at.returns-then-state-t c).Else-not-lent_fits) c.if-state-t.true
+    ap settled
+    (number_13 decoder_words (λ u. 2 ^ u.symbols) decoder_malformed a.t a.rows.now a.state.now a.block
+    (fitted (goal.at.returns-then-state-t c).Else-not-lent_fits) c.if-state-t.true)
 
 pub malformed-requires : goal.malformed-requires
 malformed-requires c =
@@ -59,20 +61,21 @@ malformed-requires c =
     (z.n_from, z.n_to, z.N_from, z.N_to, z.m_from, z.m_to, c.if-state-t.false)
 
 pub returns-then-malformed : goal.returns-then-malformed
-unfolding decoder_fault
+unfolding decoder_fault answered
 returns-then-malformed c =
     let a = c.args in
-    number_14 decoder_words (λ u. 2 ^ u.symbols) decoder_malformed a.t a.rows.now a.state.now a.block
+    ap settled
+    (number_14 decoder_words (λ u. 2 ^ u.symbols) decoder_malformed a.t a.rows.now a.state.now a.block
     (fitted (goal.at.returns-then-malformed c).Else-not-lent_fits) c.if-state-t.false
-    (sym c.malformed.ensures ∙ c.if-malformed.true)
+    (sym c.malformed.ensures ∙ c.if-malformed.true))
 
--- once 12 to 14 are settled, 15 is left
-settled : (c : goal.After-mask) (q : Bool)
+-- past 12 to 14, 15 is left
+last : (c : goal.After-mask) (q : Bool)
     → let a = c.args in
     fit (lent a.t a.rows.now) ≡ true → ltb c.mask.result a.block ≡ q
     → cond q 15 0 ≡ decoder_fault (lent a.t a.rows.now) a.state.now a.block
-unfolding decoder_fault
-settled c q fits out =
+unfolding decoder_fault answered
+last c q fits out =
     let a = c.args in
     let z = lent-facts _ _ fits in
     number_15 decoder_words (λ u. 2 ^ u.symbols) decoder_malformed a.t a.rows.now a.state.now a.block
@@ -81,9 +84,11 @@ settled c q fits out =
     (sym (above-mask a.t.symbols c.mask.result a.block (omega arith) c.mask.ensures) ∙ out)
 
 pub returns-then-mask-block : goal.returns-then-mask-block
-returns-then-mask-block c = settled (goal.at.returns-then-mask-block c).After-mask true
-    (fitted (goal.at.returns-then-mask-block c).Else-not-lent_fits) (lt-ltb _ _ c.if-mask-block.true)
+unfolding answered
+returns-then-mask-block c = ap settled (last (goal.at.returns-then-mask-block c).After-mask true
+    (fitted (goal.at.returns-then-mask-block c).Else-not-lent_fits) (lt-ltb _ _ c.if-mask-block.true))
 
 pub returns : goal.returns
-returns c = settled (goal.at.returns c).After-mask false
-    (fitted (goal.at.returns c).Else-not-lent_fits) (le-ltb _ _ c.if-mask-block.false)
+unfolding answered
+returns c = ap settled (last (goal.at.returns c).After-mask false
+    (fitted (goal.at.returns c).Else-not-lent_fits) (le-ltb _ _ c.if-mask-block.false))

@@ -6,7 +6,7 @@ use borrow.Author.Tests.{lt-ltb, le-ltb}
 use lib.Bits.{bit_xor}
 use lib.Dec.{ltb}
 use lib.ListN.{length}
-use Rattle.std.specs.Prelude.{Option}
+use Rattle.std.specs.Prelude.{Option, Some, None, Ok}
 use Rattle.span.specs.Word.{◌⊕◌}
 use Rattle.span.specs.Combination.{combination}
 use Rattle.span.proofs.Masks.{weight_fits}
@@ -15,7 +15,6 @@ use Rattle.tables.specs.Table.{rows_of}
 use Rattle.tables.specs.Lent.{with_rows}
 use Rattle.tables.proofs.Fit.{code-length}
 use Rattle.link.specs.declared.decode.Mark.{Mark}
-use Rattle.link.specs.declared.decode.DecodeAnswer.TheVariants.{Delivery, NothingYet}
 use Rattle.link.specs.Memory.{turn_of, fill_of, delay_of, pending_of, syndrome_of}
 use Rattle.link.specs.Step.{information, error_of, mark_of}
 use Rattle.link.specs.Decoder.{advanced, decoder_register, decoder_next, delivered, delivery}
@@ -161,7 +160,7 @@ returns-then-fill-t c =
     let u = with_rows c.args.t c.args.rows.now in
     let a = c.args in
     let s = a.state.now in record {
-      answer = picked (ltb (fill_of s) (delay_of u)) NothingYet (Delivery (delivered u s a.received))
+      answer = picked (ltb (fill_of s) (delay_of u)) (Ok None) (Ok (Some (delivered u s a.received)))
           (lt-ltb (fill_of s) (delay_of u) c.if-fill-t.true);
       memory = kept at.After-keep-oldest (width at.Start);
     }
@@ -211,8 +210,8 @@ returns c =
     ∙ mark_is u s a.received _ (width at.Start) (joined at.After-keep-oldest) c.terms-x.result.register
     (registered at.After-keep-oldest (width at.Start)) e.result
     e.ensures in record {
-      answer = ap₂ (λ (i : ℕ) (m : Mark). Delivery (record { info = i; mark = m })) (corrected c) mark
-          ∙ passed (ltb (fill_of s) (delay_of u)) NothingYet (Delivery (delivered u s a.received))
+      answer = ap₂ (λ (i : ℕ) (m : Mark). Ok (Some (record { info = i; mark = m }))) (corrected c) mark
+          ∙ passed (ltb (fill_of s) (delay_of u)) (Ok None) (Ok (Some (delivered u s a.received)))
           (le-ltb (fill_of s) (delay_of u) c.if-fill-t.false);
       memory = kept at.After-keep-oldest (width at.Start);
     }

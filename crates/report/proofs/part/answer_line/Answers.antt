@@ -1,23 +1,34 @@
 -- `report::part::answer_line`: answer by answer. Assumes nothing.
+use Rattle.link.specs.Refusals.{Answer}
+use Rattle.std.proofs.Common.{refl}
+use Rattle.std.specs.Prelude.{◌≡◌, Option, Some, None, Ok}
+use Rattle.link.specs.declared.decode.Delivered.{Delivered}
 use native.Mathlib.Omega.{arith}
 use Rattle.report.proofs.Longest.{longest-line}
 use Rattle.report.proofs.Answer.{printed-delivery, printed-nothing, printed-refusal}
 use Rattle.report.proofs.part.answer_line.Goals as goal
 
-pub returns-in-Delivery : goal.returns-in-Delivery
-returns-in-Delivery c =
+-- the answer, once what it holds is known
+told : (a : Answer (Option Delivered)) (o o' : Option Delivered) → a ≡ Ok o → o ≡ o' → a ≡ Ok o'
+told a o o' e f = rw (e, f) refl
+
+pub returns-in-Ok-Some : goal.returns-in-Ok-Some
+returns-in-Ok-Some c =
     let a = c.args in
     let w = c.line.ensures in
-    printed-delivery a.number a.answer c.in-Delivery.d c.in-Delivery.is (omega arith) w.position w.bytes w.short
+    let k = c.in-Ok-Some in
+    printed-delivery a.number a.answer k.d (told a.answer k.field-0 (Some k.d) k.is (rw k.is at k.field-0-is))
+    (omega arith) w.position w.bytes w.short
 
-pub returns-in-NothingYet : goal.returns-in-NothingYet
-returns-in-NothingYet c =
+pub returns-in-Ok-None : goal.returns-in-Ok-None
+returns-in-Ok-None c =
     let a = c.args in
-    printed-nothing a.out.now a.at a.number a.answer c.in-NothingYet.is
+    let k = c.in-Ok-None in
+    printed-nothing a.out.now a.at a.number a.answer (told a.answer k.field-0 None k.is (rw k.is at k.field-0-is))
 
-pub returns-in-Refused : goal.returns-in-Refused
-returns-in-Refused c =
+pub returns-in-Err : goal.returns-in-Err
+returns-in-Err c =
     let a = c.args in
-    let w = c.refusal.ensures in
-    printed-refusal a.number a.answer c.in-Refused.k c.in-Refused.is (omega arith) w.position w.bytes
-    (longest-line.refusal c.in-Refused.k (omega arith))
+    let w = rw c.from.ensures at c.refusal.ensures in
+    printed-refusal a.number a.answer c.in-Err.refused c.in-Err.is (omega arith) w.position w.bytes
+    (longest-line.refusal _ (omega arith))

@@ -2,7 +2,9 @@ use mathlib.Core.Path.{◌≡◌, sym, ap, subst, ◌∙◌}
 use Prim.Native.Nat.{ℕ, ◌+◌, ◌*◌, ◌/◌, ◌^◌, ◌≤◌, ◌<◌}
 use native.Mathlib.Omega.{arith}
 use lib.ListN.{length, get_or}
-use Rattle.link.specs.declared.decode.DecodeAnswer.{DecodeAnswer}
+use Rattle.link.specs.Refusals.{Answer}
+use Rattle.std.specs.Prelude.{Option}
+use Rattle.link.specs.declared.decode.Delivered.{Delivered}
 use Rattle.link.specs.Decoder.{decode_answer, decode_memory}
 use Rattle.report.specs.Text.{odd_line}
 use Rattle.report.specs.Writing.{longest}
@@ -36,7 +38,7 @@ printed : (c : goal.After-answer_line-p)
 printed c =
     let l = c.loop-i in
     let p = c.answer_line-p in
-    subst (λ (x : DecodeAnswer).
+    subst (λ (x : Answer (Option Delivered)).
     Printed l.out l.end l.next x p.new.out p.result.end p.result.number p.result.stopped)
     (c.decode-answer.ensures.answer
     ∙ ap (decode_answer c.args.t l.state)
