@@ -14,12 +14,11 @@
 --   decode_values             the values of a step that is taken
 --   Decodes                   what `decode` promises
 use Rattle.std.specs.Prelude.{◌≡◌, Bool, cond, not, ◌&&◌, List, [], ◌∷◌, ◌++◌, ℕ, ◌+◌, ◌/◌, ◌^◌, ltb, set, drop}
-use Rattle.std.specs.Prelude.{Option, Some, None, Result, Ok, Err}
+use Rattle.std.specs.Prelude.{Option, Some, None, Ok, Err}
 use Rattle.span.specs.Word.{◌⊕◌, bit, sel}
 use Rattle.link.specs.Memory.{joining, next_pending}
 use Rattle.link.specs.Step.{information, raw_term, register}
 use Rattle.link.specs.Refusals.{Answer, answered, leaves, call_numbers, refused, refusal_number}
-use Rattle.link.specs.declared.refusal.Refusal.{Refusal}
 use Rattle.iwadare.specs.Memory.{generators, delay, fill_of, pending_of, terms_of, word_back, delayed_back, fill_next}
 use Rattle.iwadare.specs.Refusals.{decoder_fault}
 

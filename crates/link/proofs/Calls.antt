@@ -1,12 +1,11 @@
 -- Demand 1, from the promises: a call that is refused, and one that is not. Assumes nothing.
-use mathlib.Core.Path.{◌≡◌, refl, sym, ap, ◌∙◌}
+use mathlib.Core.Path.{◌≡◌, sym, ap, ◌∙◌}
 use mathlib.Core.Bool.{Bool, true, false, cond}
 use mathlib.Core.List.{List}
 use Prim.Native.Nat.{ℕ, ◌+◌, ◌≤◌}
 use native.Mathlib.Nat.{mul-le-mul_right}
 use native.Mathlib.Omega.{arith}
-use borrow.Author.Tests.{eqb-false}
-use lib.Dec.{ltb, eqb}
+use lib.Dec.{ltb}
 use Rattle.link.specs.declared.decode.Delivered.{Delivered}
 use Rattle.tables.specs.declared.table.Table.{Table}
 use Rattle.tables.proofs.Fit.{fit-facts}

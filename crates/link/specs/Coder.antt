@@ -6,11 +6,10 @@
 --   code_numbers              the numbers of an answer
 --   Codes                     what `code` promises
 --   CodedBelow                a coded block is below 2^n
-use Rattle.std.specs.Prelude.{◌≡◌, List, [], ◌∷◌, ℕ, ◌+◌, ◌-◌, ◌*◌, ◌^◌, ◌<◌, set, Result, Ok, Err}
+use Rattle.std.specs.Prelude.{◌≡◌, List, [], ◌∷◌, ℕ, ◌+◌, ◌-◌, ◌*◌, ◌^◌, ◌<◌, set, Ok, Err}
 use Rattle.span.specs.Word.{odd, digit}
 use Rattle.tables.specs.declared.table.Table.{Table}
 use Rattle.tables.specs.Table.{info_rows}
-use Rattle.link.specs.declared.refusal.Refusal.{Refusal}
 use Rattle.link.specs.Memory.{turn_of, pending_at, joining, next_pending, next_turn}
 use Rattle.link.specs.Refusals.{Answer, coder_fault, answered, leaves, call_numbers, refused, refusal_number}
 

@@ -10,14 +10,13 @@
 --   record_numbers, decode_numbers   the numbers of a record, and of an answer
 --   decode_values t s r   the values of a step that is taken
 --   Decodes               what `decode` promises
-use Rattle.std.specs.Prelude.{◌≡◌, cond, List, [], ◌∷◌, ◌++◌, ℕ, ◌+◌, ltb, set, take, drop, Option, Some, None}
-use Rattle.std.specs.Prelude.{Result, Ok, Err}
+use Rattle.std.specs.Prelude.{◌≡◌, cond, List, [], ◌∷◌, ◌++◌, ℕ, ◌+◌, ltb, set, take, drop, Option, Some, None, Ok}
+use Rattle.std.specs.Prelude.{Err}
 use Rattle.tables.specs.declared.table.Table.{Table}
 use Rattle.tables.specs.Table.{table}
 use Rattle.link.specs.declared.decode.Mark.{Mark}
 use Rattle.link.specs.declared.decode.Mark.TheVariants.{Clean, Held, Corrected, Doubtful, Parity}
 use Rattle.link.specs.declared.decode.Delivered.{Delivered}
-use Rattle.link.specs.declared.refusal.Refusal.{Refusal}
 use Rattle.link.specs.Memory.{turn_of, fill_of, delay_of, stream_at, pending_of, syndrome_of, delayed_of, next_turn}
 use Rattle.link.specs.Memory.{fill_next}
 use Rattle.link.specs.Refusals.{Answer, decoder_fault, answered, leaves, call_numbers, refused, refusal_number}

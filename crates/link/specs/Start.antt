@@ -6,11 +6,10 @@
 --   start_numbers                the numbers of an answer
 --   Starts                       what `start_coder` and `start_decoder` promise
 --   StartedLaw                   what is not refused
-use Rattle.std.specs.Prelude.{◌≡◌, true, not, List, [], ◌∷◌, ℕ, eqb, length, Result, Ok, Err, ⊤}
+use Rattle.std.specs.Prelude.{◌≡◌, true, not, List, [], ◌∷◌, ℕ, eqb, length, Ok, Err, ⊤}
 use Rattle.tables.specs.declared.table.Table.{Table}
 use Rattle.tables.specs.Table.{fit}
 use Rattle.tables.specs.Refusal.{first_of}
-use Rattle.link.specs.declared.refusal.Refusal.{Refusal}
 use Rattle.link.specs.Memory.{started}
 use Rattle.link.specs.Refusals.{Answer, start_fault, answered, leaves, call_numbers, refused, refusal_number}
 

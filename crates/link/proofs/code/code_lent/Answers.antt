@@ -3,10 +3,9 @@ use mathlib.Core.Path.{◌≡◌, refl, sym, ap, subst, ◌∙◌}
 use Prim.Native.Nat.{ℕ, ◌-◌, ◌≤◌, ◌<◌}
 use native.Mathlib.Omega.{arith}
 use lib.Pow.{pow_mono}
-use Rattle.link.specs.declared.decode.Delivered.{Delivered}
 use Rattle.tables.specs.declared.table.Table.{Table}
 use Rattle.tables.specs.Lent.{with_rows, lent}
-use Rattle.link.specs.Refusals.{Answer, coder_fault, refused}
+use Rattle.link.specs.Refusals.{coder_fault, refused}
 use Rattle.link.specs.Coder.{coded_block, code_answer, code_memory}
 use Rattle.std.specs.Prelude.{Ok}
 use Rattle.std.proofs.lemmas.Result.{err_from_is_err_and}
