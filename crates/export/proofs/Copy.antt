@@ -1,18 +1,14 @@
--- Words copied one after the other, in two laws: one more word, and all of them. Assumes nothing.
-use mathlib.Core.Path.{◌≡◌, sym, ap, ◌∙◌}
-use mathlib.Core.List.{List, [], ◌∷◌, ◌++◌}
-use Prim.Native.Nat.{ℕ, ◌+◌, ◌<◌}
-use native.Mathlib.Numerals.{add-one}
-use native.Mathlib.Omega.{arith}
-use lib.ListN.{length, get_or, set, take}
-use lib.Seq.{take-suc, take-suc-set, take_all}
+-- Three numbers, and words copied after them. Assumes nothing.
+use Rattle.std.proofs.Common.{◌≡◌, List, [], ◌∷◌, ◌++◌, ℕ, length, set, ap, ◌∙◌, arith}
+use Rattle.std.proofs.lemmas.List.{drop_all}
+use borrow.Rule.Slice.PartMut.{put_mid}
+use Rattle.std.proofs.lemmas.List.{append-nil}
 
-pub one_more : (to from : List ℕ) (i : ℕ) → i < length to → i < length from → take i to ≡ take i from
-    → take (i + 1) (set to i (get_or from i 0)) ≡ take (i + 1) from
-one_more to from i h k e =
-    ap (λ (j : ℕ). take j (set to i (get_or from i 0))) (add-one i) ∙ take-suc-set to i (get_or from i 0) h
-    ∙ ap (λ (l : List ℕ). l ++ (get_or from i 0 ∷ [])) e
-    ∙ sym (ap (λ (j : ℕ). take j from) (add-one i) ∙ take-suc from i 0 k)
-
-pub all_of : (to from : List ℕ) (n : ℕ) → length to ≡ n → length from ≡ n → take n to ≡ take n from → to ≡ from
-all_of to from n h k e = sym (take_all n to (omega arith)) ∙ e ∙ take_all n from (omega arith)
+pub numbers_put : (ns rows : List ℕ) (a b d : ℕ) → length ns ≡ 18
+    → put_mid 3 15 (set (set (set ns 0 a) 1 b) 2 d) rows ≡ a ∷ b ∷ d ∷ rows
+numbers_put [] rows a b d e = absurd (omega arith)
+numbers_put (x ∷ []) rows a b d e = absurd (omega arith)
+numbers_put (x ∷ y ∷ []) rows a b d e = absurd (omega arith)
+numbers_put (x ∷ y ∷ z ∷ rest) rows a b d e =
+    ap (λ (l : List ℕ). a ∷ b ∷ d ∷ (rows ++ l)) (drop_all 15 rest (omega arith))
+    ∙ ap (λ (l : List ℕ). a ∷ b ∷ d ∷ l) (append-nil rows)

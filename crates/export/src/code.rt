@@ -5,7 +5,7 @@ ghost use Rattle.export.specs.Numbers.{table_of};
 ghost use Rattle.link.specs.Coder.{Codes};
 ghost use Rattle.export.specs.Promises.{CodesBy};
 
-use crate::coded::{BurstCoded, coded};
+use crate::coded::BurstCoded;
 use crate::table::sizes_of;
 use link::code::code_lent;
 use link::refusal::Refusal;
@@ -23,5 +23,5 @@ fn step(t: Table, numbers: &[u64], words: &mut [u64], info: u16) -> Result<u16, 
 pub extern "C" fn burst_code(table: &[u64; 18], words: &mut [u64], info: u16) -> BurstCoded
     ensures { CodesBy (table_of table.now) words.old info result words.new }
 {
-    coded(step(sizes_of(table), table, words, info))
+    step(sizes_of(table), table, words, info).into()
 }

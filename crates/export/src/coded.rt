@@ -12,17 +12,19 @@ pub struct BurstCoded {
     pub block: u64,
 }
 
-pub(crate) fn coded(answer: Result<u16, Refusal>) -> BurstCoded
-    ensures { result ≡ coded_of (code_numbers answer) }
-{
-    match answer {
-        Ok(block) => BurstCoded {
-            refused: 0,
-            block: u64::from(block),
-        },
-        Err(refusal) => BurstCoded {
-            refused: u64::from(refusal),
-            block: 0,
-        },
+impl From<Result<u16, Refusal>> for BurstCoded {
+    ghost from_gives = { λ answer told. told ≡ coded_of (code_numbers answer) };
+
+    fn from(answer: Result<u16, Refusal>) -> BurstCoded {
+        match answer {
+            Ok(block) => BurstCoded {
+                refused: 0,
+                block: block.into(),
+            },
+            Err(refusal) => BurstCoded {
+                refused: refusal.into(),
+                block: 0,
+            },
+        }
     }
 }

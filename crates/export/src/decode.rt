@@ -5,7 +5,7 @@ ghost use Rattle.export.specs.Numbers.{table_of};
 ghost use Rattle.link.specs.Decoder.{Decodes};
 ghost use Rattle.export.specs.Promises.{DecodesBy};
 
-use crate::decoded::{BurstDecoded, decoded};
+use crate::decoded::BurstDecoded;
 use crate::table::sizes_of;
 use link::decode::{Delivered, decode_lent};
 use link::refusal::Refusal;
@@ -28,5 +28,5 @@ fn step(
 pub extern "C" fn burst_decode(table: &[u64; 18], words: &mut [u64], received: u16) -> BurstDecoded
     ensures { DecodesBy (table_of table.now) words.old received result words.new }
 {
-    decoded(step(sizes_of(table), table, words, received))
+    step(sizes_of(table), table, words, received).into()
 }

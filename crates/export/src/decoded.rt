@@ -16,61 +16,44 @@ pub struct BurstDecoded {
 }
 
 // A record of information, mark and error.
-fn delivered(d: Delivered) -> BurstDecoded
-    ensures { result ≡ decoded_of (0 ∷ record_numbers d) }
-{
-    let info = d.info as u64;
-    let mark = d.mark;
-    match mark {
-        Mark::Clean => BurstDecoded {
+impl From<Delivered> for BurstDecoded {
+    ghost from_gives = { λ delivered told. told ≡ decoded_of (0 ∷ record_numbers delivered) };
+
+    fn from(delivered: Delivered) -> BurstDecoded {
+        let (mark, error) = match delivered.mark {
+            Mark::Clean => (1, 0),
+            Mark::Held => (2, 0),
+            Mark::Corrected(e) => (3, e),
+            Mark::Doubtful => (4, 0),
+            Mark::Parity(e) => (5, e),
+        };
+        BurstDecoded {
             refused: 0,
-            info,
-            mark: 1,
-            error: 0,
-        },
-        Mark::Corrected(e) => BurstDecoded {
-            refused: 0,
-            info,
-            mark: 3,
-            error: e as u64,
-        },
-        Mark::Parity(e) => BurstDecoded {
-            refused: 0,
-            info,
-            mark: 5,
-            error: e as u64,
-        },
-        Mark::Doubtful => BurstDecoded {
-            refused: 0,
-            info,
-            mark: 4,
-            error: 0,
-        },
-        Mark::Held => BurstDecoded {
-            refused: 0,
-            info,
-            mark: 2,
-            error: 0,
-        },
+            info: delivered.info.into(),
+            mark,
+            error: error.into(),
+        }
     }
 }
 
-pub(crate) fn decoded(answer: Result<Option<Delivered>, Refusal>) -> BurstDecoded
-    ensures { result ≡ decoded_of (decode_numbers answer) }
-{
-    match answer {
-        Ok(Some(d)) => delivered(d),
-        Ok(None) => BurstDecoded {
-            refused: 0,
-            info: 0,
-            mark: 0,
-            error: 0,
-        },
-        Err(refusal) => BurstDecoded {
-            refused: u64::from(refusal),
-            info: 0,
-            mark: 0,
-            error: 0,
-        },
+impl From<Result<Option<Delivered>, Refusal>> for BurstDecoded {
+    ghost from_gives = { λ answer told. told ≡ decoded_of (decode_numbers answer) };
+
+    fn from(answer: Result<Option<Delivered>, Refusal>) -> BurstDecoded {
+        match answer {
+            Ok(Some(delivered)) => delivered.into(),
+            Ok(None) => BurstDecoded {
+                refused: 0,
+                info: 0,
+                mark: 0,
+                error: 0,
+            },
+            Err(refusal) => BurstDecoded {
+                refused: refusal.into(),
+                info: 0,
+                mark: 0,
+                error: 0,
+            },
+        }
     }
 }

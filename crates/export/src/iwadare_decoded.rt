@@ -13,24 +13,26 @@ pub struct BurstIwadareDecoded {
     pub info: u64,
 }
 
-pub(crate) fn decoded(answer: Result<Option<u16>, Refusal>) -> BurstIwadareDecoded
-    ensures { result ≡ iwadare_decoded_of (decode_numbers answer) }
-{
-    match answer {
-        Ok(Some(info)) => BurstIwadareDecoded {
-            refused: 0,
-            delivered: 1,
-            info: info as u64,
-        },
-        Ok(None) => BurstIwadareDecoded {
-            refused: 0,
-            delivered: 0,
-            info: 0,
-        },
-        Err(refusal) => BurstIwadareDecoded {
-            refused: u64::from(refusal),
-            delivered: 0,
-            info: 0,
-        },
+impl From<Result<Option<u16>, Refusal>> for BurstIwadareDecoded {
+    ghost from_gives = { λ answer told. told ≡ iwadare_decoded_of (decode_numbers answer) };
+
+    fn from(answer: Result<Option<u16>, Refusal>) -> BurstIwadareDecoded {
+        match answer {
+            Ok(Some(info)) => BurstIwadareDecoded {
+                refused: 0,
+                delivered: 1,
+                info: info.into(),
+            },
+            Ok(None) => BurstIwadareDecoded {
+                refused: 0,
+                delivered: 0,
+                info: 0,
+            },
+            Err(refusal) => BurstIwadareDecoded {
+                refused: refusal.into(),
+                delivered: 0,
+                info: 0,
+            },
+        }
     }
 }

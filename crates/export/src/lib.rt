@@ -1,12 +1,12 @@
 // What C may call (include/burst.h): numbers in, numbers out, over the layers below. Nothing is decided here.
 #![tactic(auto)]
 
+mod answer;
 pub mod batch;
 pub mod code;
 mod coded;
 pub mod decode;
 mod decoded;
-mod filling;
 mod iwadare_decoded;
 pub mod iwadare_stations;
 pub mod make;
@@ -14,7 +14,6 @@ mod making;
 pub mod read;
 mod reading;
 pub mod start;
-mod starting;
 mod table;
 pub mod test_load;
 pub mod write;

@@ -3,7 +3,7 @@ ghost use Rattle.link.specs.Memory.{coder_words, decoder_words};
 ghost use Rattle.export.specs.Numbers.{table_of};
 ghost use Rattle.export.specs.Promises.{StartsBy};
 
-use crate::starting::started;
+use crate::answer::refused;
 use crate::table::table_of;
 use link::start::{start_coder, start_decoder};
 
@@ -12,7 +12,7 @@ pub extern "C" fn burst_start_coder(table: &[u64; 18], words: &mut [u64]) -> u64
     ensures { StartsBy (table_of table.now) (coder_words (table_of table.now)) words.old result
         words.new }
 {
-    started(start_coder(table_of(table), words))
+    refused(start_coder(table_of(table), words))
 }
 
 #[unsafe(no_mangle)]
@@ -20,5 +20,5 @@ pub extern "C" fn burst_start_decoder(table: &[u64; 18], words: &mut [u64]) -> u
     ensures { StartsBy (table_of table.now) (decoder_words (table_of table.now)) words.old result
         words.new }
 {
-    started(start_decoder(table_of(table), words))
+    refused(start_decoder(table_of(table), words))
 }

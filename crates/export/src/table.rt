@@ -4,19 +4,6 @@ ghost use Rattle.export.specs.Numbers.{table_of, sizes_of, numbers_of, given_bac
 
 use tables::table::Table;
 
-fn rows_of(numbers: &[u64]) -> [u64; 15]
-    requires { length numbers.now ≡ 18 }
-    ensures { result ≡ drop 3 numbers.now }
-{
-    let mut rows = [0u64; 15];
-    let mut i = 0;
-    while i < 15 {
-        rows[i] = numbers[3 + i];
-        i += 1;
-    }
-    rows
-}
-
 // The table of the sizes alone, for a step that is lent the rows.
 pub(crate) fn sizes_of(numbers: &[u64; 18]) -> Table
     ensures { result ≡ sizes_of numbers.now }
@@ -29,32 +16,26 @@ pub(crate) fn sizes_of(numbers: &[u64; 18]) -> Table
     }
 }
 
+#[tactic(auto, unfolding(crate::specs::Numbers::table_of, crate::specs::Numbers::sizes_of))]
 pub(crate) fn table_of(numbers: &[u64; 18]) -> Table
     ensures { result ≡ table_of numbers.now }
 {
-    let rows = rows_of(numbers);
-    let t = sizes_of(numbers);
+    let mut rows = [0u64; 15];
+    rows.copy_from_slice(&numbers[3..18]);
     Table {
-        symbols: t.symbols,
-        span: t.span,
-        depth: t.depth,
         rows,
+        ..sizes_of(numbers)
     }
 }
 
+#[tactic(auto, unfolding(crate::specs::Numbers::numbers_of))]
 fn put_table(t: Table, numbers: &mut [u64; 18])
     ensures { numbers.new ≡ numbers_of t }
 {
-    let mut all = [0u64; 18];
-    all[0] = t.symbols as u64;
-    all[1] = t.span as u64;
-    all[2] = t.depth as u64;
-    let mut i = 0;
-    while i < 15 {
-        all[3 + i] = t.rows[i];
-        i += 1;
-    }
-    *numbers = all;
+    numbers[0] = t.symbols as u64;
+    numbers[1] = t.span as u64;
+    numbers[2] = t.depth as u64;
+    numbers[3..].copy_from_slice(&t.rows);
 }
 
 // A refusal leaves the lent numbers as they were.

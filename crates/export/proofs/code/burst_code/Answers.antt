@@ -17,4 +17,4 @@ returns c =
     let step : Codes (table_of a.table.now) a.words.now a.info c.step.result
     c.step.new.words =
     rw whole at c.step.ensures in
-    record { answer = c.coded.ensures ∙ ap coded_of step.numbers; memory = step.memory }
+    record { answer = c.into.ensures ∙ ap coded_of step.numbers; memory = step.memory }

@@ -17,4 +17,4 @@ returns c =
     let step : Decodes (table_of a.table.now) a.words.now a.received c.step.result
     c.step.new.words =
     rw whole at c.step.ensures in
-    record { answer = c.decoded.ensures ∙ ap decoded_of step.numbers; memory = step.memory }
+    record { answer = c.into.ensures ∙ ap decoded_of step.numbers; memory = step.memory }

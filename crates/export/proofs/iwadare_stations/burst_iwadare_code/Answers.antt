@@ -6,4 +6,4 @@ use Rattle.export.proofs.iwadare_stations.burst_iwadare_code.Goals as goal
 pub returns : goal.returns
 returns c =
     let step = c.code.ensures in
-    record { answer = c.coded.ensures ∙ ap coded_of step.numbers; memory = step.memory }
+    record { answer = c.into.ensures ∙ ap coded_of step.numbers; memory = step.memory }

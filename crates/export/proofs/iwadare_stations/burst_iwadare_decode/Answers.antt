@@ -6,4 +6,4 @@ use Rattle.export.proofs.iwadare_stations.burst_iwadare_decode.Goals as goal
 pub returns : goal.returns
 returns c =
     let step = c.decode.ensures in
-    record { answer = c.decoded.ensures ∙ ap iwadare_decoded_of step.numbers; memory = step.memory }
+    record { answer = c.into.ensures ∙ ap iwadare_decoded_of step.numbers; memory = step.memory }
