@@ -144,7 +144,7 @@ least_by_lem ws room bound b e x =
     go false false h k = refl
 
 -- the stores of the code
-pub dual-stored : (b b' : Basis) (ds : List ℕ) → b ≡ b' → ds ≡ dual_to b.vectors b.checks (min b.size 32)
+pub dual-stored : (b b' : Basis) (ds : List ℕ) → b ≡ b' → ds ≡ dual_checks b
     → basis b.size b.vectors ds b.coefficients ≡ dual b'
-unfolding dual dual_checks
+unfolding dual
 dual-stored b b' ds e d = ap (λ (hs : List ℕ). basis b.size b.vectors hs b.coefficients) d ∙ ap dual e

@@ -2,13 +2,11 @@
 ghost use Rattle.std.specs.Prelude.{◌≡◌, ◌-◌, ◌%◌, ◌^◌, min};
 ghost use Rattle.span.specs.Word.{sel, digit, odd, common_parity, shifted};
 
-use std::num::wrapping_sub_u64;
-
 // 1 where the count of common ones is odd, else 0: no branch.
 pub(crate) fn parity(a: u64, b: u64) -> u64
     ensures { result ≡ digit (common_parity 64 a b) }
 {
-    (u64::count_ones(a & b) % 2) as u64
+    ((a & b).count_ones() % 2) as u64
 }
 
 // The same where most words have no common ones, as in the steps of an elimination: there nothing is counted.
@@ -25,7 +23,7 @@ pub(crate) fn common_parity(a: u64, b: u64) -> u64
 pub fn select(word: u64, on: u64) -> u64
     ensures { result ≡ sel (odd on) word }
 {
-    word & wrapping_sub_u64(0, on % 2)
+    word & (on % 2).wrapping_neg()
 }
 
 // The lowest `bits` places all ones. A word has 64: more bits than that are 64.

@@ -2,36 +2,30 @@
 ghost use Rattle.std.specs.Prelude.{◌≡◌, ◌≤◌, length, min};
 ghost use Rattle.span.specs.Combination.{counted};
 ghost use Rattle.span.specs.Elimination.{basis_of};
-ghost use Rattle.span.specs.Dual.{crossed, dual_to, dual, together, at_once, least_by};
+ghost use Rattle.span.specs.Dual.{crossed, dual_checks, dual, together, at_once, least_by};
 
 use crate::bits::{common_parity, parity, select};
 use crate::eliminate::{Basis, Reduced, basis_of};
 
 // A check word, with each of the first `end` new ones added whose vector has an odd count of common ones with it.
-fn dual_check<'a>(vectors: &'a [u64; 32], duals: &'a [u64; 32], check: u64, end: usize) -> u64
+fn dual_check(vectors: &[u64; 32], duals: &[u64; 32], check: u64, end: usize) -> u64
     requires { end ≤ 32 }
     ensures { result ≡ crossed vectors.now duals.now check end }
 {
     let mut sum = check;
-    let mut i = 0;
-    while i < end {
+    for i in 0..end {
         sum ^= select(duals[i], common_parity(vectors[i], check));
-        i += 1;
     }
     sum
 }
 
 // The new check words, in the order of the triples: each is made of those before.
-fn dual_checks<'a>(size: usize, vectors: &'a [u64; 32], checks: &'a [u64; 32]) -> [u64; 32]
-    ensures { result ≡ dual_to vectors.now checks.now (min size 32) }
+fn dual_checks(b: &Basis) -> [u64; 32]
+    ensures { result ≡ dual_checks b.now }
 {
-    let end = size.min(32);
-    let mut duals: [u64; 32] = [0; 32];
-    let mut i = 0;
-    while i < end {
-        let word = dual_check(vectors, &duals, checks[i], i);
-        duals[i] = word;
-        i += 1;
+    let mut duals = [0; 32];
+    for i in 0..b.size.min(32) {
+        duals[i] = dual_check(&b.vectors, &duals, b.checks[i], i);
     }
     duals
 }
@@ -42,8 +36,7 @@ pub fn dual_basis(words: &[u64], count: usize) -> Basis
     ensures { result ≡ dual (basis_of (counted count words.now)) }
 {
     let mut b = basis_of(words, count);
-    let duals = dual_checks(b.size, &b.vectors, &b.checks);
-    b.checks = duals;
+    b.checks = dual_checks(&b);
     b
 }
 
@@ -52,20 +45,14 @@ pub fn dual_basis(words: &[u64], count: usize) -> Basis
 fn reduce_at_once(b: &Basis, x: u64) -> Reduced
     ensures { result ≡ at_once b.now x }
 {
-    let end = b.size.min(32);
     let mut rest = x;
-    let mut removed: u64 = 0;
-    let mut i = 0;
-    while i < end {
+    let mut coefficients = 0;
+    for i in 0..b.size.min(32) {
         let on = parity(x, b.checks[i]);
         rest ^= select(b.vectors[i], on);
-        removed ^= select(b.coefficients[i], on);
-        i += 1;
+        coefficients ^= select(b.coefficients[i], on);
     }
-    Reduced {
-        rest,
-        coefficients: removed,
-    }
+    Reduced { rest, coefficients }
 }
 
 // The ones of the words together.

@@ -1,5 +1,6 @@
 // Elimination over GF(2): a basis by value, and the least relation among words.
-ghost use Rattle.std.specs.Prelude.{◌≡◌, ◌^◌, ◌<◌, ◌≤◌, None, length, take};
+ghost use Rattle.std.specs.Prelude.{◌≡◌, ◌^◌, ◌<◌, ◌≤◌, length, IfOk};
+ghost use Rattle.std.specs.Result.{result_err};
 ghost use Rattle.span.specs.Relation.{least_relation};
 ghost use Rattle.span.specs.Basis.{reduction};
 ghost use Rattle.span.specs.Elimination.{pivot, basis_of};
@@ -8,7 +9,8 @@ ghost use Rattle.span.specs.Combination.{counted};
 use crate::bits::{common_parity, one_at, select};
 
 // `size` triples: what was left of a word that joined, a check word that has an odd count of common ones with it, and
-// the coefficients that make it from the words.
+// the coefficients that make it from the words. Arrays with a size and no `Vec`, since nothing here is on a heap. Three
+// of them, and not one of triples: the check words are a slice, which `together` takes and `dual_basis` replaces whole.
 #[derive(Clone, Copy)]
 pub struct Basis {
     pub size: usize,
@@ -24,31 +26,18 @@ pub struct Reduced {
     pub coefficients: u64,
 }
 
-// Where an elimination stopped: the basis of the words taken up, and the relation that the next word gave.
-#[derive(Clone, Copy)]
-struct Eliminated {
-    basis: Basis,
-    found: Option<u64>,
-}
-
 // A word reduced by the triples in their order. Any basis has an answer: a size above 32 counts as 32.
 pub(crate) fn reduce_by(b: &Basis, x: u64) -> Reduced
     ensures { result ≡ reduction b.now x }
 {
-    let end = b.size.min(32);
     let mut rest = x;
-    let mut removed: u64 = 0;
-    let mut i = 0;
-    while i < end {
+    let mut coefficients = 0;
+    for i in 0..b.size.min(32) {
         let on = common_parity(rest, b.checks[i]);
         rest ^= select(b.vectors[i], on);
-        removed ^= select(b.coefficients[i], on);
-        i += 1;
+        coefficients ^= select(b.coefficients[i], on);
     }
-    Reduced {
-        rest,
-        coefficients: removed,
-    }
+    Reduced { rest, coefficients }
 }
 
 // The place of the one of v that is nearest an end of the word: any of its ones would do.
@@ -56,8 +45,8 @@ fn pivot(v: u64) -> usize
     requires { 0 < v }
     ensures { (result ≡ pivot v) × (result < 64) }
 {
-    let low = u64::trailing_zeros(v) as usize;
-    let high = u64::leading_zeros(v) as usize;
+    let low = v.trailing_zeros() as usize;
+    let high = v.leading_zeros() as usize;
     if low <= high {
         return low;
     }
@@ -71,12 +60,20 @@ fn check_word(v: u64) -> u64
     one_at(pivot(v))
 }
 
-// The first `end` words taken up one by one, up to the first from `f` on that gives a relation. What is left of a word
-// joins the basis; a word below f of which nothing is left is passed over.
-fn eliminate(words: &[u64], end: usize, f: usize) -> Eliminated
-    requires { (end ≤ length words.now) × (end ≤ 32) }
-    ensures relation { result.found ≡ least_relation (take end words.now) f }
-    ensures basis { result.found ≡ None → result.basis ≡ basis_of (take end words.now) }
+// The words that count where `count` are asked for: no more than there are, and no more than a basis has room for. A
+// count past the slice's end has its answer here, so the public functions take a slice and a count.
+fn counted(words: &[u64], count: usize) -> &[u64]
+    ensures { result.now ≡ counted count words.now }
+{
+    &words[..count.min(words.len()).min(32)]
+}
+
+// The basis of the words, taken up one by one, or as `Err` the relation of the first word from `f` on of which nothing is
+// left. What is left of a word joins the basis; a word below f of which nothing is left is passed over.
+fn eliminate(words: &[u64], f: usize) -> Result<Basis, u64>
+    requires { length words.now ≤ 32 }
+    ensures relation { result_err result ≡ least_relation words.now f }
+    ensures basis { IfOk result (λ b. b ≡ basis_of words.now) }
 {
     let mut b = Basis {
         size: 0,
@@ -84,17 +81,13 @@ fn eliminate(words: &[u64], end: usize, f: usize) -> Eliminated
         checks: [0; 32],
         coefficients: [0; 32],
     };
-    let mut i = 0;
-    while i < end {
-        let r = reduce_by(&b, words[i]);
+    for (i, word) in words.iter().enumerate() {
+        let r = reduce_by(&b, *word);
         let rest = r.rest;
         let coefficients = r.coefficients ^ one_at(i);
         if rest == 0 {
             if f <= i {
-                return Eliminated {
-                    basis: b,
-                    found: Some(coefficients),
-                };
+                return Err(coefficients);
             }
         } else {
             let at = b.size;
@@ -103,27 +96,21 @@ fn eliminate(words: &[u64], end: usize, f: usize) -> Eliminated
             b.coefficients[at] = coefficients;
             b.size = at + 1;
         }
-        i += 1;
     }
-    Eliminated {
-        basis: b,
-        found: None,
-    }
+    Ok(b)
 }
 
-// The basis of the first `count` words. A count past the slice's end is its length, and words past the 32nd do not
-// count.
+// The basis of the words that count: from the end on there is no word to stop at.
 pub(crate) fn basis_of(words: &[u64], count: usize) -> Basis
     ensures { result ≡ basis_of (counted count words.now) }
 {
-    let end = count.min(words.len()).min(32);
-    eliminate(words, end, end).basis
+    let words = counted(words, count);
+    eliminate(words, words.len()).unwrap()
 }
 
-// The least relation from `f` among the first `count` words, counted as for a basis. There is none where f is the count
-// or above.
+// The least relation from `f` among the words that count. There is none where f is their number or above.
 pub fn least_relation(words: &[u64], count: usize, f: usize) -> Option<u64>
     ensures { result ≡ least_relation (counted count words.now) f }
 {
-    eliminate(words, count.min(words.len()).min(32), f).found
+    eliminate(counted(words, count), f).err()
 }

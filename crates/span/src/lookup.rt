@@ -9,14 +9,11 @@ fn low_four(x: u64) -> usize
     (x & 15) as usize
 }
 
-// Word j of the first `count`, or 0 where there is none.
-fn word_or_zero(words: &[u64], count: usize, j: usize) -> u64
-    ensures { result ≡ slice_index (take count words.now) j }
+// Word j, or 0 where there is none.
+fn word_or_zero(words: &[u64], j: usize) -> u64
+    ensures { result ≡ slice_index words.now j }
 {
-    if j < count.min(words.len()) {
-        return words[j];
-    }
-    0
+    words.get(j).copied().unwrap_or(0)
 }
 
 // One more word taken up: the `width` entries from `at` on, with the word added, follow them.
@@ -25,36 +22,33 @@ fn double(tables: &mut [u64; 64], at: usize, width: usize, row: u64)
     ensures { Doubled at width width row tables.old tables.new }
 {
     let next = at + width;
-    let mut v = 0;
-    while v < width {
+    for v in 0..width {
         tables[next + v] = tables[at + v] ^ row;
-        v += 1;
     }
 }
 
 // The table of words 4 g to 4 g + 3, in place: its entry 0 stays, and each word doubles what is there.
-fn group(tables: &mut [u64; 64], words: &[u64], count: usize, g: usize)
+fn group(tables: &mut [u64; 64], words: &[u64], g: usize)
     requires { (length tables.old ≡ 64) × (g < 4) }
-    ensures { Grouped (take 16 (take count words.now)) g tables.old tables.new }
+    ensures { Grouped (take 16 words.now) g tables.old tables.new }
 {
     let at = 16 * g;
     let first = 4 * g;
-    double(tables, at, 1, word_or_zero(words, count, first));
-    double(tables, at, 2, word_or_zero(words, count, first + 1));
-    double(tables, at, 4, word_or_zero(words, count, first + 2));
-    double(tables, at, 8, word_or_zero(words, count, first + 3));
+    double(tables, at, 1, word_or_zero(words, first));
+    double(tables, at, 2, word_or_zero(words, first + 1));
+    double(tables, at, 4, word_or_zero(words, first + 2));
+    double(tables, at, 8, word_or_zero(words, first + 3));
 }
 
-// The tables of the first `count` words, at most 16: a count past the slice's end is its length. Each word is fetched
-// once.
+// The tables of the first `count` words, at most 16: a count past the slice's end is its length, so that it is no
+// caller's to cut. Each word is fetched once.
 pub fn lookup_of(words: &[u64], count: usize) -> [u64; 64]
     ensures { result ≡ lookup_of (take 16 (take count words.now)) }
 {
-    let mut tables: [u64; 64] = [0; 64];
-    let mut g = 0;
-    while g < 4 {
-        group(&mut tables, words, count, g);
-        g += 1;
+    let words = &words[..count.min(words.len())];
+    let mut tables = [0; 64];
+    for g in 0..4 {
+        group(&mut tables, words, g);
     }
     tables
 }

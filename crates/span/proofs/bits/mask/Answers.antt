@@ -9,12 +9,6 @@ same i j e = ap (λ (k : ℕ). 2 ^ k - 1) e
 shifted_down : (j k : ℕ) → (2 ^ (j + k) - 1) / 2 ^ k ≡ 2 ^ j - 1
 shifted_down j k = ap (λ (x : ℕ). x / 2 ^ k) (ones_split j k) ∙ high (2 ^ j - 1) k (ones_lt k)
 
-pub returns-then-bits-lt1 : goal.returns-then-bits-lt1
-returns-then-bits-lt1 c = same 0 (min c.args.bits 64) (omega arith)
-
-pub returns-then-bits-gt64 : goal.returns-then-bits-gt64
-returns-then-bits-gt64 c = same 64 (min c.args.bits 64) (omega arith)
-
 pub returns : goal.returns
 returns c =
     let bits = c.args.bits in

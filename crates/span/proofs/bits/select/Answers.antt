@@ -14,6 +14,6 @@ masked word mask false hw hm e = ap (bit_and word) (omega arith) ∙ and_zero_r 
 pub returns : goal.returns
 returns c =
     let on = c.args.on in
-    let mask = c.wrapping_sub_u64.result in
+    let mask = c.wrapping_neg.result in
     masked c.args.word mask (odd on) c.ranges.word.fits (omega arith)
-    (ap (λ (x : ℕ). (mask + x) % 2 ^ 64) (sym (odd-mod on)) ∙ c.wrapping_sub_u64.ensures.value)
+    (ap (λ (x : ℕ). (mask + x) % 2 ^ 64) (sym (odd-mod on)) ∙ c.wrapping_neg.ensures)

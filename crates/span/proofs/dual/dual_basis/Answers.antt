@@ -7,5 +7,5 @@ use Rattle.span.proofs.dual.dual_basis.Goals as goal
 pub returns : goal.returns
 returns c =
     let a = c.args in
-    dual-stored c.basis_of-b.result (basis_of (counted a.count a.words.now)) c.dual_checks-duals.result
-    c.basis_of-b.ensures c.dual_checks-duals.ensures
+    dual-stored c.basis_of-b.result (basis_of (counted a.count a.words.now)) c.dual_checks-b.result
+    c.basis_of-b.ensures c.dual_checks-b.ensures

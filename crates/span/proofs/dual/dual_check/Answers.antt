@@ -1,4 +1,4 @@
-use Rattle.std.proofs.Common.{◌≡◌, ℕ, ◌+◌, List, get_or, refl, ap, ◌∙◌, add-one, arith, rules}
+use Rattle.std.proofs.Common.{◌≡◌, ℕ, ◌+◌, List, get_or, refl, ap, ◌∙◌, add-one}
 use Rattle.span.specs.Word.{◌⊕◌, odd, sel, digit, common_parity}
 use Rattle.span.specs.Dual.{crossed}
 use Rattle.span.proofs.Word.{odd-digit}
@@ -15,19 +15,11 @@ one_more vs ds h i sum on d e on-is d-is =
 
 pub loop-i-init : goal.loop-i-init
 unfolding crossed
-loop-i-init c = (search rules, refl)
+loop-i-init c = refl
 
 pub loop-i-preserved : goal.loop-i-preserved
 unfolding ◌⊕◌
 loop-i-preserved c =
-    let a = c.args in (
-      omega arith,
-      one_more a.vectors.now a.duals.now a.check c.loop-i.i c.loop-i.sum
-          c.common_parity.result c.select-sum.result c.loop-i.invariant.1 c.common_parity.ensures
-          c.select-sum.ensures,
-    )
-
-pub returns : goal.returns
-returns c =
     let a = c.args in
-    c.loop-i.invariant.1 ∙ ap (crossed a.vectors.now a.duals.now a.check) (omega arith)
+    one_more a.vectors.now a.duals.now a.check c.loop-i.i c.loop-i.sum c.common_parity.result c.select-sum.result
+    c.loop-i.invariant c.common_parity.ensures c.select-sum.ensures

@@ -1,12 +1,8 @@
 -- `span::dual::reduce_at_once`: after i turns the word is reduced by the first i triples. Assumes nothing.
-use Rattle.std.proofs.Common.{◌≡◌, ◌-◌, ◌≤◌}
+use Rattle.std.proofs.Common.{◌≡◌}
 use Rattle.span.specs.declared.eliminate.Reduced.{Reduced}
 use Rattle.span.specs.Dual.{at_once_to}
 use Rattle.span.proofs.dual.reduce_at_once.Given as goal
 
 abbrev pub invariant-loop-i : goal.invariant-loop-i
-invariant-loop-i l = (l.i ≤ l.end) × (◌≡◌ {A = Reduced} (record { rest = l.rest; coefficients = l.removed })
-    (at_once_to l.b l.i l.x))
-
-abbrev pub decreases-loop-i : goal.decreases-loop-i
-decreases-loop-i l = l.end - l.i
+invariant-loop-i l = ◌≡◌ {A = Reduced} (record { rest = l.rest; coefficients = l.coefficients }) (at_once_to l.b l.i l.x)

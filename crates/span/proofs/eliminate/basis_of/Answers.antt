@@ -1,18 +1,23 @@
--- `span::eliminate::basis_of`: from the end on there is no word to stop at, so the basis is whole. Assumes nothing.
-use Rattle.std.proofs.Common.{◌≡◌, ℕ, ◌≤◌, min, length, take, sym, ap, ◌∙◌, arith, length-take-le}
-use Rattle.span.specs.Elimination.{basis_of}
+-- `span::eliminate::basis_of`: from the end on there is no word to stop at, so there is a basis. Assumes nothing.
+use Rattle.std.proofs.Common.{◌≡◌, ℕ, length, sym, refl, ◌∙◌, le_refl, arith}
+use Rattle.std.specs.Prelude.{None, Result, Ok, Err}
+use Rattle.std.specs.Result.{IsOk, result_err}
+use Rattle.std.proofs.lemmas.Option.{none-some}
+use Rattle.span.specs.declared.eliminate.Basis.{Basis}
+use Rattle.span.proofs.Combination.{counted-length}
 use Rattle.span.proofs.Relation.{relation-missing}
-use Rattle.span.proofs.Combination.{counted-take}
 use Rattle.span.proofs.eliminate.basis_of.Goals as goal
 
-pub returns : goal.returns
-returns c =
-    let a = c.args in
-    let end = c.min-end.result in
-    let end_is : end ≡ min (min a.count (length a.words.now)) 32 = omega arith in
-    let ws = take end a.words.now in
-    let fits : end ≤ length a.words.now = omega arith in
-    let size : length ws ≤ end = rw (length-take-le end a.words.now fits) (omega arith) in
-    c.eliminate.ensures.basis
-    (c.eliminate.ensures.relation ∙ sym (relation-missing ws end end size (λ d l u e. omega arith)))
-    ∙ ap basis_of (ap (λ (e : ℕ). take e a.words.now) end_is ∙ counted-take a.count a.words.now)
+pub eliminate-requires : goal.eliminate-requires
+eliminate-requires c = rw c.counted-words.ensures (omega (arith, counted-length c.args.count c.args.words.now))
+
+no_error : (r : Result Basis ℕ) → result_err r ≡ None → IsOk r
+no_error (Ok b) e = refl
+no_error (Err c) e = absurd (none-some c (sym e))
+
+pub unwrap-requires : goal.unwrap-requires
+unwrap-requires c =
+    let ws = c.counted-words.result.now in
+    no_error c.eliminate.result
+    (c.eliminate.ensures.relation
+    ∙ sym (relation-missing ws (length ws) (length ws) (le_refl _) (λ d l u e. omega arith)))

@@ -20,21 +20,10 @@ high-pivot : (v : ℕ) → count_leading_zeros 64 v < count_trailing_zeros 64 v 
 unfolding pivot
 high-pivot v h = rw (lt-leb (count_trailing_zeros 64 v) (count_leading_zeros 64 v) h)
 
-pub overflow_cast-low : goal.overflow_cast-low
-overflow_cast-low c = let t = low-lt c.args.v c.requires c.ranges.v.fits in omega arith
-
-pub overflow_cast-high : goal.overflow_cast-high
-overflow_cast-high c = let t = high_lt c.args.v c.requires c.ranges.v.fits in omega arith
-
 pub returns-then-low-high : goal.returns-then-low-high
 returns-then-low-high c =
     let t = low-lt c.args.v c.requires c.ranges.v.fits in
     (low-pivot c.args.v (omega arith), omega arith)
-
-pub overflow_sub-result : goal.overflow_sub-result
-overflow_sub-result c =
-    let t = high_lt c.args.v c.requires c.ranges.v.fits in
-    omega arith
 
 pub returns : goal.returns
 returns c =

@@ -1,4 +1,4 @@
-use Rattle.std.proofs.Common.{◌≡◌, ℕ, ◌+◌, get_or, ap, ◌∙◌, add-one, arith, rules}
+use Rattle.std.proofs.Common.{◌≡◌, ℕ, ◌+◌, get_or, refl, ap, ◌∙◌, add-one, arith}
 use Rattle.span.specs.declared.eliminate.Basis.{Basis}
 use Rattle.span.specs.declared.eliminate.Reduced.{Reduced}
 use Rattle.span.specs.Word.{◌⊕◌, odd, sel, digit, common_parity}
@@ -20,25 +20,19 @@ one_more b i x rest coefficients on v q e on-is v-is q-is =
 
 pub loop-i-init : goal.loop-i-init
 unfolding reduced_to
-loop-i-init c = search rules
+loop-i-init c = refl
 
 pub loop-i-preserved : goal.loop-i-preserved
 unfolding ◌⊕◌
 loop-i-preserved c =
-    let a = c.args in (
-      omega arith,
-      one_more a.b.now c.loop-i.i
-          a.x c.loop-i.rest
-          c.loop-i.removed c.common_parity-on.result
-          c.select-rest.result c.select-removed.result
-          c.loop-i.invariant.1 c.common_parity-on.ensures
-          c.select-rest.ensures c.select-removed.ensures,
-    )
+    one_more c.args.b.now c.loop-i.i c.args.x c.loop-i.rest c.loop-i.coefficients c.common_parity-on.result
+    c.select-rest.result c.select-coefficients.result c.loop-i.invariant c.common_parity-on.ensures c.select-rest.ensures
+    c.select-coefficients.ensures
 
 pub returns : goal.returns
 unfolding reduction
 returns c =
     let a = c.args in
-    c.loop-i.invariant.1
+    c.loop-i.invariant
     ∙ ap (λ (i : ℕ). reduced_to a.b.now i a.x)
     (omega arith)

@@ -6,7 +6,7 @@ use Rattle.span.proofs.lookup.group.Goals as goal
 pub returns : goal.returns
 returns c =
     let a = c.args in
-    let ws = take a.count a.words.now in
+    let ws = a.words.now in
     let same : (j : ℕ) → j < 16 → get_or ws j 0 ≡ get_or (take 16 ws) j 0 = λ j h. sym (get_or-take 16 ws j 0 h) in
     grouped (take 16 ws) a.g a.tables.now c.double.new.tables c.double-2.new.tables c.double-3.new.tables
     c.double-4.new.tables c.word_or_zero.result c.word_or_zero-2.result c.word_or_zero-3.result
