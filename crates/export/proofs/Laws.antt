@@ -10,19 +10,20 @@ use borrow.Author.Tests.{ltb-true, ltb-false, le-ltb}
 use lib.Dec.{ltb}
 use lib.ListN.{length, get_or, take, length-drop}
 use Rattle.tables.specs.declared.table.Table.{Table}
-use Rattle.tables.specs.declared.make.MakeAnswer.{MakeAnswer}
-use Rattle.tables.specs.declared.read.ReadAnswer.{ReadAnswer}
-use Rattle.tables.specs.declared.read.ReadAnswer.TheVariants.{Accepted, Refused, Unsuitable}
-use Rattle.tables.specs.declared.judge.Judgement.{Judgement}
-use Rattle.tables.specs.declared.judge.Judgement.TheVariants.{Unfit, Clash, Sound}
-use Rattle.tables.specs.declared.write.WriteAnswer.{WriteAnswer}
-use Rattle.tables.specs.declared.write.WriteAnswer.TheVariants as write
+use Rattle.std.specs.Prelude.{Result, Ok, Err}
+use Rattle.tables.specs.declared.make.MakeError.{MakeError}
+use Rattle.tables.specs.declared.read.ReadError.{ReadError}
+use Rattle.tables.specs.declared.read.ReadError.TheVariants.{Refused, Unsuitable}
+use Rattle.tables.specs.declared.judge.Unsound.TheVariants.{NotFit, Clashing}
+use Rattle.tables.specs.declared.write.WriteError.{WriteError}
+use Rattle.tables.specs.declared.write.WriteError.TheVariants.{NoRoom}
 use Rattle.tables.specs.Code.{Suitable}
 use Rattle.tables.specs.Table.{rows_of, sizes_fit, fit, Whole, SameTable}
 use Rattle.tables.specs.Reading.{read_numbers, reading}
-use Rattle.tables.specs.Judging.{judging, Judges}
+use Rattle.tables.specs.Judging.{Judgement, judging, Judges}
 use Rattle.tables.specs.Writing.{written_length, write_numbers, write_by, write_answer, write_buffer, Writes}
-use Rattle.tables.specs.Made.{columns, triangle_rows, making, made_numbers}
+use Rattle.tables.specs.Made.{columns, triangle_rows, made_table, making, made_numbers}
+use Rattle.tables.specs.Format.{fault_number}
 use Rattle.tables.proofs.Judging.{judged}
 use Rattle.tables.proofs.Reading.{accepted-suitable, refused-range, refused-parse, refused-unsuitable}
 use Rattle.tables.proofs.Written.{parses-exactly}
@@ -47,55 +48,52 @@ use Rattle.iwadare.proofs.Runs as stations
 use Rattle.export.specs.declared.reading.BurstReading.{BurstReading}
 use Rattle.export.specs.declared.written.BurstWritten.{BurstWritten}
 use Rattle.export.specs.Numbers.{table_of, numbers_of, given_back}
-use Rattle.export.proofs.Numbers.{given_back_lem, table-back}
+use Rattle.export.proofs.Numbers.{table-back}
 use Rattle.export.specs.Answers.{number_of, reading_of, written_of, coded_of, decoded_of, iwadare_decoded_of}
 use Rattle.export.specs.Promises.{Reads}
 use Rattle.export.specs.Laws.{ReadTold, ReadToldLaw, WriteTold, WriteToldLaw, StoredBack, MadeTold}
 use Rattle.export.specs.Laws.{StartTold, CodeTold, DecodeTold, LoadTold, IwadareStartTold}
 use Rattle.export.specs.Laws.{IwadareCodeTold, IwadareDecodeTold}
 
-read-so : (bytes : List ℕ) → ((i : ℕ) → get_or bytes i 0 < 256) → (a : ReadAnswer) (before : List ℕ)
-    → (reading bytes).answer ≡ a →
-    let r = reading_of (read_numbers a) in
-    ReadTold bytes r before (given_back r.refused (reading bytes).table before)
-read-so bytes low Accepted before e =
-    let t = (reading bytes).table in
-    let s = accepted-suitable bytes e in
+read-so : (bytes : List ℕ) → ((i : ℕ) → get_or bytes i 0 < 256) → (a : Result Table ReadError) (before : List ℕ)
+    → reading bytes ≡ a → ReadTold bytes (reading_of (read_numbers a)) before (given_back a before)
+read-so bytes low (Ok t) before e =
+    let s = accepted-suitable bytes t e in
     record {
-      accepted = λ z. (t, s.0, s.2, ((parses-exactly bytes t low).0 s.0).whole, (given_back_lem 0 t before).0 refl, refl);
+      accepted = λ z. (t, s.0, s.2, ((parses-exactly bytes t low).0 s.0).whole, refl, refl);
       left = λ n. absurd (n refl);
       placed = λ n. absurd (n refl);
       clashes = λ e. absurd (omega arith);
     }
-read-so bytes low (Refused k p) before e =
-    let at = refused-parse bytes k p e in
-    let range = refused-range bytes k p at in
+read-so bytes low (Err (Refused f p)) before e =
+    let at = refused-parse bytes f p e in
+    let range = refused-range bytes (fault_number f) p at in
     record {
       accepted = λ z. absurd (omega arith);
-      left = λ n. (given_back_lem k (reading bytes).table before).1 n;
+      left = λ n. refl;
       placed = λ n o. (at, refl);
       clashes = λ e. absurd (omega arith);
     }
-read-so bytes low (Unsuitable l e0 e1) before e =
-    let s = refused-unsuitable bytes l e0 e1 e in
+read-so bytes low (Err (Unsuitable c)) before e =
+    let s = refused-unsuitable bytes c.l c.e0 c.e1 e in
     record {
       accepted = λ z. absurd (omega arith);
-      left = λ n. (given_back_lem 10 (reading bytes).table before).1 n;
+      left = λ n. refl;
       placed = λ n o. absurd (o refl);
       clashes = λ e. (s.0, s.1, s.2, refl);
     }
 
 pub read_told : ReadToldLaw
 read_told bytes r before after low reads =
-    rw (reads.table, reads.answer) (read-so bytes low (reading bytes).answer before refl)
+    rw (reads.table, reads.answer) (read-so bytes low (reading bytes) before refl)
 
 -- the answer that the judgement and the length of the bytes decide
 module _ (t : Table) (before : List ℕ) where
-  abbrev Told : WriteAnswer → Type 0
+  abbrev Told : Result ℕ WriteError → Type 0
   Told a = (after : List ℕ) → after ≡ write_buffer a t before → WriteTold t before (written_of (write_numbers a)) after
 
   sound-told : fit t ≡ true → Suitable t.span (rows_of t) → (b : Bool) → ltb (length before) (written_length t) ≡ b
-      → Told (cond b (write.Refused 16) (write.Written (written_length t)))
+      → Told (cond b (Err NoRoom) (Ok (written_length t)))
   sound-told f s true q =
       let short = ltb-true (length before) (written_length t) q in
       λ after m. record {
@@ -116,21 +114,21 @@ module _ (t : Table) (before : List ℕ) where
       }
 
   write-so : (j : Judgement) → Judges t j → Told (write_by t (length before) j)
-  write-so Unfit s = λ after m. record {
+  write-so (Err NotFit) s = λ after m. record {
     done = λ z. absurd (omega arith);
     left = λ z. m;
     unfit = λ z. (s, refl);
     clashes = λ z. absurd (omega arith);
     short = λ x y z. absurd (y refl);
   }
-  write-so (Clash l e0 e1) s = λ after m. record {
+  write-so (Err (Clashing c)) s = λ after m. record {
     done = λ z. absurd (omega arith);
     left = λ z. m;
     unfit = λ z. absurd (omega arith);
     clashes = λ z. (s.0, s.1, refl);
     short = λ x y z. absurd (z refl);
   }
-  write-so Sound s = sound-told s.0 s.1 (ltb (length before) (written_length t)) refl
+  write-so (Ok sound) s = sound-told s.0 s.1 (ltb (length before) (written_length t)) refl
 
 pub write-told : WriteToldLaw
 unfolding write_answer
@@ -143,48 +141,54 @@ stored_back ns before after old new w r many h z reads =
     let t = table_of ns in
     let n = written_length t in
     let told = (write-told t before w after h).done z in
-    let done : Writes t before (write.Written n) after =
-    writes-by t before Sound (write.Written n) after (sym ((judged t Sound).1 (told.0, told.1)))
+    let done : Writes t before (Ok n) after =
+    writes-by t before (Ok tt) (Ok n) after (sym ((judged t (Ok tt)).1 (told.0, told.1)))
     (rw (le-ltb (length before) n told.2)) told.3 in
-    let read = reading (take n after) in
     let count : w.length ≡ n = ap (λ (x : BurstWritten). x.length) told.4 in
     let right : Reads (take n after) r old new = subst (λ (k : ℕ). Reads (take k after) r old new) count reads in
     let fifteen : length t.rows ≡ 15 = let e = length-drop 3 ns in omega arith in
-    let back = reads-back t before after n fifteen done in
+    let (u, read, whole, same, _) = reads-back t before after n fifteen done in
     let number : r.refused ≡ 0 =
     ap (λ (x : BurstReading). x.refused) right.answer
-    ∙ ap (λ (a : ReadAnswer). (reading_of (read_numbers a)).refused) back.0 in
-    let came : table_of new ≡ read.table =
-    ap table_of (right.table ∙ (given_back_lem r.refused read.table old).0 number) ∙ table-back read.table in
-    (number, subst (λ (u : Table). SameTable u t) (sym came) back.2, subst Whole (sym came) back.1)
+    ∙ ap (λ (a : Result Table ReadError). (reading_of (read_numbers a)).refused) read in
+    let came : table_of new ≡ u =
+    ap table_of (right.table ∙ ap (λ (a : Result Table ReadError). given_back a old) read) ∙ table-back u in
+    (number, subst (λ (v : Table). SameTable v t) (sym came) same, subst Whole (sym came) whole)
 
 pub made_told : MadeTold
 made_told n m before r after told = go (sizes_fit n 2 m) refl
   where
-    left : (r ≡ 0 → after ≡ numbers_of (making n m).table) × (r ≢ 0 → after ≡ before)
-    left = (
-      λ z. told.table ∙ (given_back_lem r (making n m).table before).0 z,
-      λ z. told.table ∙ (given_back_lem r (making n m).table before).1 z,
-    )
-
     go : (b : Bool) → sizes_fit n 2 m ≡ b
-        → let t = (making n m).table in
-        (r ≡ cond b 0 11)
+        → (r ≡ cond b 0 11)
         × (r ≡ 0
-        → (t.symbols ≡ n) × (t.span ≡ 2 * n) × (t.depth ≡ m) × Suitable t.span (rows_of t)
+        → (t : Table) × (making n m ≡ Ok t) × (t.symbols ≡ n) × (t.span ≡ 2 * n) × (t.depth ≡ m)
+        × Suitable t.span (rows_of t)
         × (rows_of t ≡ triangle_rows (take (n - 1) columns) n)
         × Whole t × (after ≡ numbers_of t))
         × (r ≢ 0 → after ≡ before)
     go true q =
+        let t = made_table n m in
         let yes = is_made n m q in
-        let l = made n m yes in (
-          told.number ∙ ap (λ (a : MakeAnswer). number_of (made_numbers a)) yes,
-          λ z. (l.0, l.1, l.2, l.4, l.5, made-whole n m yes, left.0 z),
-          left.1,
+        let l = made n m t yes in
+        let zero : r ≡ 0 = told.number ∙ ap (λ (a : Result Table MakeError). number_of (made_numbers a)) yes in (
+          zero,
+          λ z. (
+            t,
+            yes,
+            l.0,
+            l.1,
+            l.2,
+            l.4,
+            l.5,
+            made-whole n m t yes,
+            told.table ∙ ap (λ (a : Result Table MakeError). given_back a before) yes,
+          ),
+          λ z. absurd (z zero),
         )
     go false q =
-        let e = told.number ∙ ap (λ (a : MakeAnswer). number_of (made_numbers a)) (not_made n m q).0 in
-        (e, λ z. absurd (omega arith), left.1)
+        let no = not_made n m q in
+        let e = told.number ∙ ap (λ (a : Result Table MakeError). number_of (made_numbers a)) no in
+        (e, λ z. absurd (omega arith), λ z. told.table ∙ ap (λ (a : Result Table MakeError). given_back a before) no)
 
 -- ---- starts, steps and loads
 

@@ -18,8 +18,3 @@ table-back t = refl
 pub table-parts : (ns : List ℕ) → with_rows (sizes_of ns) (drop 3 ns) ≡ table_of ns
 unfolding table_of sizes_of
 table-parts ns = refl
-
-pub given_back_lem : (k : ℕ) (t : Table) (before : List ℕ)
-    → (k ≡ 0 → given_back k t before ≡ numbers_of t) × (k ≢ 0 → given_back k t before ≡ before)
-unfolding given_back
-given_back_lem k t before = (λ none. rw (eq-eqb k 0 none, given_back), λ some. rw (ne_eqb k 0 some, given_back))

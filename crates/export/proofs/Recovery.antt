@@ -7,7 +7,7 @@
 --   info-at, many, answer_at_lem   the information and the struct of a place
 --   mark-sure              the number of a mark other than doubtful
 --   recovery-told, guard-end-told   the theorems
---   back, read-accepted, make-made, origin-told   a table that is given back
+--   read-back, made-back, origin-told   a table that is given back
 use mathlib.Core.Path.{◌≡◌, refl, sym, ap, ap₂, ◌∙◌, subst}
 use mathlib.Core.Bool.{Bool, true, false, cond}
 use mathlib.Core.Logic.{◌≢◌, ◌⊎◌, inl, inr}
@@ -18,10 +18,12 @@ use borrow.Author.Tests.{eqb-true}
 use lib.Dec.{eqb}
 use lib.ListN.{length, get_or, length-map, get_or-map}
 use Rattle.tables.specs.declared.table.Table.{Table}
-use Rattle.tables.specs.declared.read.ReadAnswer.{ReadAnswer}
-use Rattle.tables.specs.declared.read.ReadAnswer.TheVariants.{Accepted, Refused, Unsuitable}
-use Rattle.tables.specs.declared.make.MakeAnswer.{MakeAnswer}
-use Rattle.tables.specs.declared.make.MakeAnswer.TheVariants.{Made, OutOfRange}
+use Rattle.std.specs.Prelude.{Result, Ok, Err}
+use Rattle.tables.specs.declared.read.ReadError.{ReadError}
+use Rattle.tables.specs.declared.read.ReadError.TheVariants.{Refused, Unsuitable}
+use Rattle.tables.specs.declared.make.MakeError.{MakeError}
+use Rattle.tables.specs.declared.make.MakeError.TheVariants.{OutOfRange}
+use Rattle.tables.specs.Format.{fault_number}
 use Rattle.tables.specs.Reading.{read_numbers, reading}
 use Rattle.tables.specs.Made.{made_numbers, making}
 use Rattle.tables.proofs.Reading.{refused-range, refused-parse}
@@ -50,7 +52,7 @@ use Rattle.export.specs.Promises.{CodesBy, DecodesBy}
 use Rattle.export.specs.Recovery.{Called, CodeCall, DecodeCall, Chain, CodeCalls, DecodeCalls, handed, unrefused}
 use Rattle.export.specs.Recovery.{sent_calls, taken_calls, info_at, answer_at}
 use Rattle.export.specs.Recovery.{SentTold, TakenTold, RecoveryTold, GuardEndTold, Chained, OriginTold}
-use Rattle.export.proofs.Numbers.{given_back_lem, table-back}
+use Rattle.export.proofs.Numbers.{table-back}
 use Rattle.export.proofs.Laws.{code-told, decode-told}
 
 -- ---- a chain is a run
@@ -244,34 +246,25 @@ guard-end-told t coder decoder cs ds c d f p late early h =
 -- ---- tables
 
 -- a table that is given back with number 0
-back : (k : ℕ) (t : Table) (before after : List ℕ) → after ≡ given_back k t before → k ≡ 0 → t ≡ table_of after
-back k t before after e z = sym (ap table_of (e ∙ (given_back_lem k t before).0 z) ∙ table-back t)
+read-back : (bytes before after : List ℕ) (a : Result Table ReadError) → reading bytes ≡ a
+    → (reading_of (read_numbers a)).refused ≡ 0 → after ≡ given_back a before → reading bytes ≡ Ok (table_of after)
+read-back bytes before after (Ok t) e z b = e ∙ ap Ok (sym (ap table_of b ∙ table-back t))
+read-back bytes before after (Err (Refused f p)) e z b =
+    let range = refused-range bytes (fault_number f) p (refused-parse bytes f p e) in absurd (omega arith)
+read-back bytes before after (Err (Unsuitable c)) e z b = absurd (omega arith)
 
-read-accepted : (bytes : List ℕ) (a : ReadAnswer) → (reading bytes).answer ≡ a → (reading_of (read_numbers a)).refused ≡ 0
-    → (reading bytes).answer ≡ Accepted
-read-accepted bytes Accepted e z = e
-read-accepted bytes (Refused k p) e z =
-    let range = refused-range bytes k p (refused-parse bytes k p e) in absurd (omega arith)
-read-accepted bytes (Unsuitable l e0 e1) e z = absurd (omega arith)
-
-make-made : (n m : ℕ) (a : MakeAnswer) → (making n m).answer ≡ a → number_of (made_numbers a) ≡ 0
-    → (making n m).answer ≡ Made
-make-made n m Made e z = e
-make-made n m OutOfRange e z = absurd (omega arith)
+made-back : (n m : ℕ) (before after : List ℕ) (a : Result Table MakeError) → making n m ≡ a
+    → number_of (made_numbers a) ≡ 0 → after ≡ given_back a before → making n m ≡ Ok (table_of after)
+made-back n m before after (Ok t) e z b = e ∙ ap Ok (sym (ap table_of b ∙ table-back t))
+made-back n m before after (Err OutOfRange) e z b = absurd (omega arith)
 
 pub origin-told : OriginTold
 origin-told = (
   λ bytes r before after h z.
       inl (
         bytes,
-        read-accepted bytes (reading bytes).answer refl (sym (ap (λ (x : BurstReading). x.refused) h.answer) ∙ z),
-        back r.refused (reading bytes).table before after h.table z,
+        read-back bytes before after (reading bytes) refl (sym (ap (λ (x : BurstReading). x.refused) h.answer) ∙ z) h.table,
       ),
   λ n m before r after h z.
-      inr (
-        n,
-        m,
-        make-made n m (making n m).answer refl (sym h.number ∙ z),
-        back r (making n m).table before after h.table z,
-      ),
+      inr (n, m, made-back n m before after (making n m) refl (sym h.number ∙ z) h.table),
 )

@@ -18,7 +18,7 @@
 --   IwadareStartTold, IwadareCodeTold, IwadareDecodeTold   starts and steps of the Iwadare-Massey stations: the
 --                  same, where 13 is the first number
 use Rattle.std.specs.Prelude.{◌≡◌, true, false, cond, ◌≢◌, List, [], ◌∷◌, ◌++◌, ℕ, ◌-◌, ◌*◌, ◌≤◌, ◌<◌, length, get_or}
-use Rattle.std.specs.Prelude.{take, drop}
+use Rattle.std.specs.Prelude.{take, drop, Ok}
 use Rattle.tables.specs.declared.table.Table.{Table}
 use Rattle.tables.specs.Code.{Suitable}
 use Rattle.tables.specs.Clash.{First}
@@ -93,11 +93,10 @@ StoredBack =
 
 abbrev pub MadeTold : Type 0
 MadeTold =
-    (n m : ℕ) (before : List ℕ) (r : ℕ) (after : List ℕ) → MakesTable n m before r after →
-    let t = (making n m).table in
-    (r ≡ cond (sizes_fit n 2 m) 0 11)
+    (n m : ℕ) (before : List ℕ) (r : ℕ) (after : List ℕ) → MakesTable n m before r after
+    → (r ≡ cond (sizes_fit n 2 m) 0 11)
     × (r ≡ 0
-    → (t.symbols ≡ n) × (t.span ≡ 2 * n) × (t.depth ≡ m) × Suitable t.span (rows_of t)
+    → (t : Table) × (making n m ≡ Ok t) × (t.symbols ≡ n) × (t.span ≡ 2 * n) × (t.depth ≡ m) × Suitable t.span (rows_of t)
     × (rows_of t ≡ triangle_rows (take (n - 1) columns) n)
     × Whole t × (after ≡ numbers_of t))
     × (r ≢ 0 → after ≡ before)

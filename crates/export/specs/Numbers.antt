@@ -3,10 +3,10 @@
 --   table_of ns    the table of these numbers; numbers out of range are 12's matter
 --   sizes_of ns    the same with rows of 0
 --   numbers_of t   the numbers of a table
---   given_back k t before   what a call leaves of the numbers lent for a table: a refusal, k not 0, leaves them as they
---                          were
+--   given_back a before   what a call that answers a leaves of the numbers lent for a table: those of the table, or, of a
+--                          refusal, what stood there
 --   TableBack      a table that is given back, handed in again, is that table
-use Rattle.std.specs.Prelude.{◌≡◌, cond, List, ◌∷◌, ℕ, eqb, get_or, drop, replicate}
+use Rattle.std.specs.Prelude.{◌≡◌, List, ◌∷◌, ℕ, get_or, drop, replicate, Result, Ok, Err}
 use Rattle.tables.specs.declared.table.Table.{Table}
 use Rattle.tables.specs.Table.{table}
 
@@ -20,8 +20,9 @@ unfoldable pub numbers_of : Table → List ℕ
 numbers_of t = t.symbols ∷ t.span ∷ t.depth ∷ t.rows
 
 -- "It writes no lent word"
-unfoldable pub given_back : ℕ → Table → List ℕ → List ℕ
-given_back k t before = cond (eqb k 0) (numbers_of t) before
+abbrev pub given_back : {E : Type 0} → Result Table E → List ℕ → List ℕ
+given_back (Ok t) before = numbers_of t
+given_back (Err e) before = before
 
 abbrev pub TableBack : Type 0
 TableBack = (t : Table) → table_of (numbers_of t) ≡ t

@@ -39,16 +39,16 @@ use Rattle.export.specs.Numbers.{given_back}
 use Rattle.export.specs.Answers.{number_of, reading_of, written_of, coded_of, decoded_of, iwadare_decoded_of}
 
 pub record Reads (bytes : List ℕ) (r : BurstReading) (before after : List ℕ) : Type 0 where
-  pub answer : r ≡ reading_of (read_numbers (reading bytes).answer)
-  pub table : after ≡ given_back r.refused (reading bytes).table before
+  pub answer : r ≡ reading_of (read_numbers (reading bytes))
+  pub table : after ≡ given_back (reading bytes) before
 
 pub record WritesBy (t : Table) (before : List ℕ) (r : BurstWritten) (after : List ℕ) : Type 0 where
   pub answer : r ≡ written_of (write_numbers (write_answer t (length before)))
   pub buffer : after ≡ write_buffer (write_answer t (length before)) t before
 
 pub record MakesTable (n m : ℕ) (before : List ℕ) (r : ℕ) (after : List ℕ) : Type 0 where
-  pub number : r ≡ number_of (made_numbers (making n m).answer)
-  pub table : after ≡ given_back r (making n m).table before
+  pub number : r ≡ number_of (made_numbers (making n m))
+  pub table : after ≡ given_back (making n m) before
 
 pub record StartsBy (t : Table) (words : ℕ) (before : List ℕ) (r : ℕ) (after : List ℕ) : Type 0 where
   pub number : r ≡ number_of (call_numbers (start_fault t words before) [])

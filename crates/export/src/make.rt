@@ -9,10 +9,7 @@ use tables::make::make;
 pub extern "C" fn burst_make(n: u64, m: u64, table: &mut [u64; 18]) -> u64
     ensures { MakesTable n m table.old result table.new }
 {
-    let r = make(n as usize, m as usize);
-    let t = r.table;
-    let answer = r.answer;
-    let refused = made(answer);
-    give_back(refused, t, table);
-    refused
+    let answer = make(n as usize, m as usize);
+    give_back(answer, table);
+    made(answer)
 }

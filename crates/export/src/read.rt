@@ -9,10 +9,7 @@ use tables::read::read;
 pub extern "C" fn burst_read(bytes: &[u8], table: &mut [u64; 18]) -> BurstReading
     ensures { Reads bytes.now result table.old table.new }
 {
-    let r = read(bytes);
-    let t = r.table;
-    let answer = r.answer;
-    let told = reading(answer);
-    give_back(told.refused, t, table);
-    told
+    let answer = read(bytes);
+    give_back(answer, table);
+    reading(answer)
 }

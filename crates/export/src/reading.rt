@@ -3,7 +3,9 @@ ghost use Rattle.std.specs.Prelude.{◌≡◌};
 ghost use Rattle.tables.specs.Reading.{read_numbers};
 ghost use Rattle.export.specs.Answers.{reading_of};
 
-use tables::read::ReadAnswer;
+use tables::judge::Clash;
+use tables::read::ReadError;
+use tables::table::Table;
 
 #[repr(C)]
 #[derive(Clone, Copy)]
@@ -15,30 +17,39 @@ pub struct BurstReading {
     pub e1: u64,
 }
 
-pub(crate) fn reading(answer: ReadAnswer) -> BurstReading
+fn refusal(error: ReadError) -> BurstReading
+    ensures { result ≡ reading_of (read_numbers (Err error)) }
+{
+    let refused = error.number();
+    match error {
+        ReadError::Refused(_, place) => BurstReading {
+            refused,
+            place: place as u64,
+            l: 0,
+            e0: 0,
+            e1: 0,
+        },
+        ReadError::Unsuitable(Clash { l, e0, e1 }) => BurstReading {
+            refused,
+            place: 0,
+            l,
+            e0,
+            e1,
+        },
+    }
+}
+
+pub(crate) fn reading(answer: Result<Table, ReadError>) -> BurstReading
     ensures { result ≡ reading_of (read_numbers answer) }
 {
     match answer {
-        ReadAnswer::Accepted => BurstReading {
+        Ok(_) => BurstReading {
             refused: 0,
             place: 0,
             l: 0,
             e0: 0,
             e1: 0,
         },
-        ReadAnswer::Refused(k, p) => BurstReading {
-            refused: k,
-            place: p as u64,
-            l: 0,
-            e0: 0,
-            e1: 0,
-        },
-        ReadAnswer::Unsuitable(l, e0, e1) => BurstReading {
-            refused: 10,
-            place: 0,
-            l,
-            e0,
-            e1,
-        },
+        Err(error) => refusal(error),
     }
 }

@@ -39,10 +39,10 @@ fn put_table(t: Table, numbers: &mut [u64; 18])
 }
 
 // A refusal leaves the lent numbers as they were.
-pub(crate) fn give_back(refused: u64, t: Table, numbers: &mut [u64; 18])
-    ensures { numbers.new ≡ given_back refused t numbers.old }
+pub(crate) fn give_back<E: Drop>(answer: Result<Table, E>, numbers: &mut [u64; 18])
+    ensures { numbers.new ≡ given_back answer numbers.old }
 {
-    if refused == 0 {
+    if let Ok(t) = answer {
         put_table(t, numbers);
     }
 }

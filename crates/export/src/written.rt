@@ -3,7 +3,8 @@ ghost use Rattle.std.specs.Prelude.{◌≡◌};
 ghost use Rattle.tables.specs.Writing.{write_numbers};
 ghost use Rattle.export.specs.Answers.{written_of};
 
-use tables::write::WriteAnswer;
+use tables::judge::Clash;
+use tables::write::WriteError;
 
 #[repr(C)]
 #[derive(Clone, Copy)]
@@ -15,30 +16,39 @@ pub struct BurstWritten {
     pub e1: u64,
 }
 
-pub(crate) fn written(answer: WriteAnswer) -> BurstWritten
-    ensures { result ≡ written_of (write_numbers answer) }
+fn refusal(error: WriteError) -> BurstWritten
+    ensures { result ≡ written_of (write_numbers (Err error)) }
 {
-    match answer {
-        WriteAnswer::Written(c) => BurstWritten {
-            refused: 0,
-            length: c as u64,
-            l: 0,
-            e0: 0,
-            e1: 0,
-        },
-        WriteAnswer::Refused(k) => BurstWritten {
-            refused: k,
-            length: 0,
-            l: 0,
-            e0: 0,
-            e1: 0,
-        },
-        WriteAnswer::Unsuitable(l, e0, e1) => BurstWritten {
-            refused: 10,
+    let refused = error.number();
+    match error {
+        WriteError::Unsuitable(Clash { l, e0, e1 }) => BurstWritten {
+            refused,
             length: 0,
             l,
             e0,
             e1,
         },
+        WriteError::Unfit | WriteError::NoRoom => BurstWritten {
+            refused,
+            length: 0,
+            l: 0,
+            e0: 0,
+            e1: 0,
+        },
+    }
+}
+
+pub(crate) fn written(answer: Result<usize, WriteError>) -> BurstWritten
+    ensures { result ≡ written_of (write_numbers answer) }
+{
+    match answer {
+        Ok(length) => BurstWritten {
+            refused: 0,
+            length: length as u64,
+            l: 0,
+            e0: 0,
+            e1: 0,
+        },
+        Err(error) => refusal(error),
     }
 }

@@ -2,16 +2,15 @@
 use mathlib.Core.Path.{◌≡◌, refl}
 use mathlib.Core.Bool.{xor}
 use mathlib.Core.List.{[], ◌∷◌}
-use mathlib.Core.Option.{or_else}
 use lib.ListN.{replicate}
 use Rattle.span.specs.Word.{◌⊕◌, odd, bit, shifted}
 use Rattle.span.specs.Combination.{combination}
 use Rattle.span.specs.Relation.{least_from, least_coefficients}
-use Rattle.tables.specs.declared.read.ReadAnswer.TheVariants.{Accepted}
+use Rattle.std.specs.Prelude.{Ok}
 use Rattle.tables.specs.Code.{image, shifted_image}
 use Rattle.tables.specs.Table.{table, sizes_fit, rows_fit, fit}
 use Rattle.tables.specs.Refusal.{first_of}
-use Rattle.tables.specs.Format.{size, word, all_given, unavailable, fault, place, sized, rowed, after, parse_from}
+use Rattle.tables.specs.Format.{size, word, all_given, unavailable, fault, fault_of, place, sized, rowed, after, parse_from}
 use Rattle.tables.specs.Format.{parse}
 use Rattle.tables.specs.Clash.{first_from, clash_of, clash_at, first_clash}
 use Rattle.tables.specs.Reading.{reading}
@@ -26,21 +25,18 @@ use Rattle.link.specs.Computed.{Z, answers_by}
 use Rattle.link.specs.Examples.{ReadsAs, bytes_of_z, ExamplesLaw}
 
 -- T1
-z-reading : reading bytes_of_z ≡ record { answer = Accepted; table = Z 1 }
+pub z-accepted : reading bytes_of_z ≡ Ok (Z 1)
 unfolding parse parse_from fault first_of size word all_given unavailable place sized rowed after sizes_fit image
-    shifted_image combination shifted bit odd xor ◌⊕◌ reading first_clash clash_at clash_of first_from or_else
-z-reading = refl
+    shifted_image combination shifted bit odd xor ◌⊕◌ reading first_clash clash_at clash_of first_from
+z-accepted = refl
 
-pub z-accepted : ((reading bytes_of_z).answer ≡ Accepted) × ((reading bytes_of_z).table ≡ Z 1)
-z-accepted = rw z-reading (refl, refl)
-
-z-read : ReadsAs bytes_of_z (0 ∷ []) (Z 1)
-z-read = rw z-reading (refl, refl)
+z-read : ReadsAs bytes_of_z (Z 1)
+z-read = rw z-accepted (refl, refl)
 
 pub examples-hold : ExamplesLaw
-unfolding parse parse_from fault first_of size word all_given unavailable place sized rowed after sizes_fit columns upper
+unfolding parse parse_from fault fault_of first_of size word all_given unavailable place sized rowed after sizes_fit columns upper
     made_row made_rows made_table making image shifted_image combination shifted bit odd xor ◌⊕◌ clashing reading first_clash
-    clash_at clash_of first_from or_else answers_by code_answer code_memory answered leaves step_fault coder_fault coder_joining
+    clash_at clash_of first_from answers_by code_answer code_memory answered leaves step_fault coder_fault coder_joining
     coded_block coder_next decode_answer decode_memory decoder_fault decoder_joining decoder_register decoder_found part_next
     decoder_next delivered delivery some_above joining least_from least_coefficients rows_fit fit
 examples-hold = (

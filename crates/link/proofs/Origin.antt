@@ -28,12 +28,12 @@ pub record Known (t : Table) : Type 0 where
   suits : Suitable t.span (rows_of t)
 
 pub origin-known : (t : Table) → Origin t → Known t
-origin-known t (inl (bytes, accepted, same)) =
-    let a = accepted-suitable bytes accepted in
-    subst Known same (record { fits = a.1; room = parse-room bytes (reading bytes).table a.0; suits = a.2 })
-origin-known t (inr (n, m, answer, same)) =
-    let a = made n m answer in
-    subst Known same (record { fits = a.3; room = making-room n m; suits = a.4 })
+origin-known t (inl (bytes, accepted)) =
+    let a = accepted-suitable bytes t accepted in
+    record { fits = a.1; room = parse-room bytes t a.0; suits = a.2 }
+origin-known t (inr (n, m, answer)) =
+    let a = made n m t answer in
+    record { fits = a.3; room = making-room n m t answer; suits = a.4 }
 
 -- N = w + 1, and the information's rows, n − 1 of them, with the parity's after them
 pub record Coding (t : Table) : Type 0 where

@@ -133,7 +133,7 @@ sharp-runs = computed.0
 
 -- T1
 Z-origin : Origin (Z 1)
-Z-origin = inl (bytes_of_z, z-accepted.0, z-accepted.1)
+Z-origin = inl (bytes_of_z, z-accepted)
 
 Z-fits : fit (Z 1) ≡ true
 unfolding fit sizes_fit rows_fit

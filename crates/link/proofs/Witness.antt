@@ -66,7 +66,7 @@ computed = (
 
 made-origin : Origin made
 unfolding making made_table made_rows made_row upper columns sizes_fit bit odd
-made-origin = inr (2, 2, refl, refl)
+made-origin = inr (2, 2, refl)
 
 -- ---- the premises
 

@@ -1,7 +1,8 @@
 -- The examples T1 to T12 of 01, and the two of 02, CR 5, as data. The depth m is 1 throughout.
 --
 --   Example       what is asked and what is answered
---   ReadsAs bytes ns t    reading the bytes answers with the numbers ns, and the table t beside them
+--   ReadsAs bytes t       reading the bytes answers with the table t, and number 0
+--   RefusedAs bytes ns    reading them is refused with the numbers ns
 --   Holds x, AllHold xs   the definitions give that answer, and all of these
 --   row j a b     a row record
 --   bytes_of_z    the bytes of T1
@@ -10,13 +11,12 @@
 --   ExamplesLaw   all of them hold
 use Rattle.link.specs.Refusals.{Answer}
 use Rattle.link.specs.declared.decode.Delivered.{Delivered}
-use Rattle.std.specs.Prelude.{Option, ◌≡◌, List, [], ◌∷◌, ◌++◌, ℕ, ◌-◌, ◌*◌, get_or, replicate, None, Ok}
+use Rattle.std.specs.Prelude.{Option, ◌≡◌, List, [], ◌∷◌, ◌++◌, ℕ, ◌-◌, ◌*◌, get_or, replicate, None, Ok, IsErr}
 use Rattle.tables.specs.declared.table.Table.{Table}
 use Rattle.tables.specs.Code.{Clashes}
-use Rattle.tables.specs.Table.{table, zero_table, rows_of}
+use Rattle.tables.specs.Table.{table, rows_of}
 use Rattle.tables.specs.Format.{parsed, parse}
 use Rattle.tables.specs.Reading.{read_numbers, reading}
-use Rattle.tables.specs.declared.make.MakeAnswer.TheVariants.{Made}
 use Rattle.tables.specs.Made.{making}
 use Rattle.link.specs.Memory.{started}
 use Rattle.link.specs.Coder.{code_answer, code_memory}
@@ -35,24 +35,27 @@ pub data Example : Type 0 where
   codes : List ℕ → List ℕ → List ℕ → List (Answer ℕ) → Example
   decodes : List ℕ → List ℕ → List ℕ → List (Answer (Option Delivered)) → Example
 
-abbrev pub ReadsAs : List ℕ → List ℕ → Table → Type 0
-ReadsAs bytes ns t = (read_numbers (reading bytes).answer ≡ ns) × ((reading bytes).table ≡ t)
+abbrev pub ReadsAs : List ℕ → Table → Type 0
+ReadsAs bytes t = (read_numbers (reading bytes) ≡ 0 ∷ []) × (reading bytes ≡ Ok t)
+
+abbrev pub RefusedAs : List ℕ → List ℕ → Type 0
+RefusedAs bytes ns = (read_numbers (reading bytes) ≡ ns) × IsErr (reading bytes)
 
 -- the bytes are accepted as the table; refused with a number and a place; refused for 10, which the triple shows;
 -- refused for 10 with the triple, the first; n and m = 1 make these rows; the bytes are accepted, and with their table
 -- the calls so answer
 abbrev pub Holds : Example → Type 0
-Holds (accepts bytes t) = ReadsAs bytes (0 ∷ []) t
-Holds (refuses bytes k p) = ReadsAs bytes (k ∷ p ∷ []) zero_table
+Holds (accepts bytes t) = ReadsAs bytes t
+Holds (refuses bytes k p) = RefusedAs bytes (k ∷ p ∷ [])
 Holds (clashes bytes l e0 e1) =
     (t : Table) × (parse bytes ≡ parsed t) × Clashes t.span (rows_of t) l e0 e1
-    × (get_or (read_numbers (reading bytes).answer) 0 0 ≡ 10) × ((reading bytes).table ≡ zero_table)
-Holds (clashes_first bytes l e0 e1) = ReadsAs bytes (10 ∷ l ∷ e0 ∷ e1 ∷ []) zero_table
-Holds (makes n rows) = making n 1 ≡ record { answer = Made; table = table n (2 * n) 1 (rows ++ replicate (16 - n) 0) }
+    × (get_or (read_numbers (reading bytes)) 0 0 ≡ 10) × IsErr (reading bytes)
+Holds (clashes_first bytes l e0 e1) = RefusedAs bytes (10 ∷ l ∷ e0 ∷ e1 ∷ [])
+Holds (makes n rows) = making n 1 ≡ Ok (table n (2 * n) 1 (rows ++ replicate (16 - n) 0))
 Holds (codes bytes s bs cs) =
-    (t : Table) × ReadsAs bytes (0 ∷ []) t × (answers_by code_answer code_memory s (calls t bs) ≡ cs)
+    (t : Table) × ReadsAs bytes t × (answers_by code_answer code_memory s (calls t bs) ≡ cs)
 Holds (decodes bytes s rs ds) =
-    (t : Table) × ReadsAs bytes (0 ∷ []) t × (answers_by decode_answer decode_memory s (calls t rs) ≡ ds)
+    (t : Table) × ReadsAs bytes t × (answers_by decode_answer decode_memory s (calls t rs) ≡ ds)
 
 abbrev pub AllHold : List Example → Type 0
 AllHold [] = Unit {0}

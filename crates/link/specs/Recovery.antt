@@ -26,8 +26,6 @@ use Rattle.link.specs.Refusals.{Answer}
 use Rattle.link.specs.declared.decode.Delivered.{Delivered}
 use Rattle.std.specs.Prelude.{Option, ◌≡◌, ◌≢◌, ◌⊎◌, List, [], ◌∷◌, ℕ, ◌+◌, ◌-◌, ◌*◌, ◌≤◌, ◌<◌, length, Some, Ok}
 use Rattle.tables.specs.declared.table.Table.{Table}
-use Rattle.tables.specs.declared.read.ReadAnswer.TheVariants.{Accepted}
-use Rattle.tables.specs.declared.make.MakeAnswer.TheVariants.{Made}
 use Rattle.tables.specs.Reading.{reading}
 use Rattle.tables.specs.Made.{making}
 use Rattle.link.specs.declared.decode.Mark.{Mark}
@@ -41,8 +39,7 @@ use Rattle.link.specs.Runs.{coder_after, decoder_after}
 -- that making returned, with the n and m asked for and the rows given above."
 abbrev pub Origin : Table → Type 0
 Origin t =
-    ((bytes : List ℕ) × ((reading bytes).answer ≡ Accepted) × ((reading bytes).table ≡ t))
-    ⊎ ((n : ℕ) × (m : ℕ) × ((making n m).answer ≡ Made) × ((making n m).table ≡ t))
+    ((bytes : List ℕ) × (reading bytes ≡ Ok t)) ⊎ ((n : ℕ) × (m : ℕ) × (making n m ≡ Ok t))
 
 -- "Place p is right if taken block p equals sent block p, otherwise wrong."
 abbrev pub Right : List Sent → List Taken → ℕ → Type 0

@@ -8,7 +8,7 @@ use Rattle.link.specs.Refusals.{Answer}
 use Rattle.link.specs.declared.decode.Delivered.{Delivered}
 use Rattle.std.specs.Prelude.{Option, ◌≡◌, List, [], ◌∷◌, ◌++◌, ℕ, replicate, None, Ok}
 use Rattle.tables.specs.declared.table.Table.{Table}
-use Rattle.tables.specs.Made.{making}
+use Rattle.tables.specs.Made.{made_table}
 use Rattle.link.specs.declared.decode.Mark.TheVariants.{Clean, Held, Corrected, Parity}
 use Rattle.link.specs.Computed.{delivers}
 use Rattle.link.specs.Sums.{answers_to}
@@ -23,7 +23,7 @@ FirstDraw =
     drawn (record { state = 1 }) ≡ record { number = 270369; next = record { state = 270369 } }
 
 abbrev pub small_table : Table
-small_table = (making 2 3).table
+small_table = made_table 2 3
 
 -- n is 2, N is 4, m is 3, so that m × (N − 1) is 9. The draws, and what each is used for:
 --

@@ -8,10 +8,11 @@ use borrow.Author.Tests.{leb-true}
 use lib.Dec.{leb}
 use lib.ListN.{length, get_or}
 use Rattle.tables.specs.declared.table.Table.{Table}
-use Rattle.tables.specs.declared.make.MakeAnswer.{MakeAnswer}
-use Rattle.tables.specs.declared.make.MakeAnswer.TheVariants.{Made, OutOfRange}
+use Rattle.std.specs.Prelude.{Ok, Err}
+use Rattle.tables.specs.declared.make.MakeError.{MakeError}
+use Rattle.tables.specs.declared.make.MakeError.TheVariants.{OutOfRange}
 use Rattle.tables.specs.Table.{zero_table, fit}
-use Rattle.tables.specs.Made.{making}
+use Rattle.tables.specs.Made.{make_number, making}
 use Rattle.tables.proofs.Fit.{fit-facts}
 use Rattle.tables.proofs.Made.{made}
 use Rattle.link.specs.Memory.{decoder_words}
@@ -26,31 +27,35 @@ use Rattle.report.proofs.Answer.{put-wrote}
 
 -- after the header
 
-pub made-fits : (n m : ℕ) → (making n m).answer ≡ Made
-    → (fit (making n m).table ≡ true) × ((making n m).table.span ≤ 32)
-made-fits n m e =
-    let l = made n m e in
-    let f = fit-facts (making n m).table l.3 in
+pub made-fits : (n m : ℕ) (t : Table) → making n m ≡ Ok t → (fit t ≡ true) × (t.span ≤ 32)
+made-fits n m t e =
+    let l = made n m t e in
+    let f = fit-facts t l.3 in
     (l.3, omega (arith, l.0, l.1, f.n_to))
 
-pub opens-made : {s s' : List ℕ} (out : List ℕ) (at : ℕ) (a : MakeAnswer) (t : Table) (r : Opened) → a ≡ Made
+pub opens-made : {s s' : List ℕ} (out : List ℕ) (at : ℕ) (t : Table) (r : Opened)
     → r ≡ record { table = t; words = decoder_words t; end = at; number = 0; stopped = false } → s' ≡ started_in t s
-    → Opens (opened_made a t) at s s' out out r
-opens-made out at a t r told e m =
-    rw (
-      told,
-      e,
-    ) (record { wrote = wrote_nothing out at; table = refl; words = refl; memory = m; number = refl; stops = refl })
+    → Opens (opened_made (Ok t)) at s s' out out r
+opens-made out at t r e m =
+    rw e (record {
+      wrote = wrote_nothing out at;
+      table = refl;
+      words = refl;
+      memory = m;
+      number = refl;
+      stops = refl;
+    })
 
 abbrev none : ℕ → Opened
 none end = record { table = zero_table; words = 0; end = end; number = 0; stopped = true }
 
-pub opens-refused : {out out' : List ℕ} {at end : ℕ} (s : List ℕ) (a : MakeAnswer) (t : Table) (r : Opened)
-    → a ≡ OutOfRange → at + longest ≤ length out
-    → end ≡ put_end out at (refused_line 11) → out' ≡ put out at (refused_line 11) → r ≡ none end
-    → Opens (opened_made a t) at s s out out' r
-opens-refused s a t r told h p q e =
-    rw (told, e) (record {
+pub opens-refused : {out out' : List ℕ} {at end : ℕ} (s : List ℕ) (e : MakeError) (r : Opened)
+    → at + longest ≤ length out
+    → end ≡ put_end out at (refused_line (make_number e)) → out' ≡ put out at (refused_line (make_number e))
+    → r ≡ none end
+    → Opens (opened_made (Err e)) at s s out out' r
+opens-refused s OutOfRange r h p q e =
+    rw e (record {
       wrote = put-wrote (refused_line 11) h p q;
       table = refl;
       words = refl;
@@ -99,7 +104,7 @@ opens-short {out} s sizes r room h w e =
 
 opened-sizes : (sizes : List ℕ) → 2 ≤ length sizes
     → let made = making (get_or sizes 0 0) (get_or sizes 1 0) in
-    opened sizes ≡ headed (opened_made made.answer made.table)
+    opened sizes ≡ headed (opened_made made)
 unfolding opened
 opened-sizes [] h = absurd (omega arith)
 opened-sizes (n ∷ []) h = absurd (omega arith)
@@ -108,14 +113,14 @@ opened-sizes (n ∷ m ∷ bs) h = refl
 pub opens-sizes : {s s' out out₁ out₂ : List ℕ} {end : ℕ} {r : Opened} (sizes : List ℕ)
     → opening_room (length s) (length out) ≡ true → 2 ≤ length sizes
     → let made = making (get_or sizes 0 0) (get_or sizes 1 0) in
-    Wrote out 0 header_line out₁ end → Opens (opened_made made.answer made.table) end s s' out₁ out₂ r
+    Wrote out 0 header_line out₁ end → Opens (opened_made made) end s s' out₁ out₂ r
     → length header_line ≤ length out
     → Opens (opened_within (length s) (length out) sizes) 0 s s' out out₂ r
 opens-sizes {s} {s'} {out} sizes room h w o fits =
     let made = making (get_or sizes 0 0) (get_or sizes 1 0) in
     rw (opened-there (length s) (length out) sizes room ∙ opened-sizes sizes h)
     (record {
-      wrote = wrote_then header_line (opened_made made.answer made.table).text w o.wrote fits;
+      wrote = wrote_then header_line (opened_made made).text w o.wrote fits;
       table = o.table;
       words = o.words;
       memory = o.memory;

@@ -7,9 +7,9 @@ use Prim.Native.Nat.{ℕ, ◌%◌, ◌<◌}
 use native.Mathlib.Omega.{arith}
 use lib.ListN.{length}
 use Rattle.tables.specs.declared.table.Table.{Table}
-use Rattle.tables.specs.declared.make.MakeAnswer.{MakeAnswer}
-use Rattle.tables.specs.declared.make.MakeAnswer.TheVariants.{Made, OutOfRange}
-use Rattle.tables.specs.Made.{making}
+use Rattle.std.specs.Prelude.{Result, Ok, Err}
+use Rattle.tables.specs.declared.make.MakeError.{MakeError}
+use Rattle.tables.specs.Made.{make_number, making}
 use Rattle.report.specs.Text.{header_line, refused_line}
 use Rattle.report.specs.Listing.{Listed, prefixed, made_listing, listed, listing, continued}
 use Rattle.report.specs.Opening.{opened_made, headed, opened, joined, whole_blocks, parts_listed, nothing_listed}
@@ -38,12 +38,12 @@ parts-listed t l [] w = sym (continued-nothing t l _ refl)
 parts-listed t l (p ∷ ps) w =
     parts-listed t (continued t l p) ps w.1 ∙ continued-twice t l _ p (joined ps) refl w.0
 
-opened-listing : (a : MakeAnswer) (t : Table) (parts : List (List ℕ)) → whole_blocks parts
-    → let o = headed (opened_made a t) in
-    header_line ++ made_listing a t (joined parts) ≡ o.text ++ after_opening o parts
-opened-listing Made t ps w =
+opened-listing : (a : Result Table MakeError) (parts : List (List ℕ)) → whole_blocks parts
+    → let o = headed (opened_made a) in
+    header_line ++ made_listing a (joined parts) ≡ o.text ++ after_opening o parts
+opened-listing (Ok t) ps w =
     ap (λ (l : Listed). header_line ++ l.text) (sym (parts-listed t (nothing_listed t) ps w))
-opened-listing OutOfRange t ps w = sym (append-nil (header_line ++ refused_line 11))
+opened-listing (Err e) ps w = sym (append-nil (header_line ++ refused_line (make_number e)))
 
 -- under two bytes there is no part
 short-listing : (sizes rest : List ℕ) → length sizes < 2 → rest ≡ [] → listing (sizes ++ rest) ≡ header_line ++ []
@@ -58,7 +58,7 @@ whole-listing [] parts (inl e) w = absurd (omega arith)
 whole-listing [] parts (inr e) w = short-listing [] (joined parts) e.0 e.1
 whole-listing (n ∷ []) parts (inl e) w = absurd (omega arith)
 whole-listing (n ∷ []) parts (inr e) w = short-listing (n ∷ []) (joined parts) e.0 e.1
-whole-listing (n ∷ m ∷ []) parts h w = opened-listing (making n m).answer (making n m).table parts w
+whole-listing (n ∷ m ∷ []) parts h w = opened-listing (making n m) parts w
 whole-listing (n ∷ m ∷ a ∷ bs) parts (inl e) w = absurd (omega arith)
 whole-listing (n ∷ m ∷ a ∷ bs) parts (inr e) w = absurd (omega (arith, e.0))
 

@@ -8,7 +8,7 @@
 --   Printed out at k a r end number stopped   what writing its bytes does
 --   listed_after a s k rest   an answer listed, and then the rest
 --   listed t s k bs       the bytes bs listed, from the memory s and the number k on
---   made_listing a t bs   the bytes bs listed with the made table, or refusal 11
+--   made_listing a bs     the bytes bs listed with the made table, or refusal 11
 --   listing bs            all that the program prints of the input bs
 --   continued t l bs      the bytes bs listed after l
 --   PartsLaw              listing even parts one after the other is listing the whole
@@ -17,11 +17,10 @@
 --   Lists l out r memory end number stopped   what such a call leaves and answers
 use Rattle.link.specs.declared.decode.Delivered.{Delivered}
 use Rattle.std.specs.Prelude.{Option, ◌≡◌, Bool, true, false, ◌&&◌, cond, List, [], ◌∷◌, ◌++◌, ℕ, ◌+◌, ◌*◌, ◌/◌, ◌%◌, ◌^◌}
-use Rattle.std.specs.Prelude.{◌≤◌, leb, length, get_or, Some, None, Ok, Err}
+use Rattle.std.specs.Prelude.{◌≤◌, leb, length, Some, None, Result, Ok, Err}
 use Rattle.tables.specs.declared.table.Table.{Table}
-use Rattle.tables.specs.declared.make.MakeAnswer.{MakeAnswer}
-use Rattle.tables.specs.declared.make.MakeAnswer.TheVariants.{Made, OutOfRange}
-use Rattle.tables.specs.Made.{making, made_numbers}
+use Rattle.tables.specs.declared.make.MakeError.{MakeError}
+use Rattle.tables.specs.Made.{making, make_number}
 use Rattle.link.specs.Refusals.{Answer, refusal_number}
 use Rattle.link.specs.Memory.{started, decoder_words}
 use Rattle.link.specs.Decoder.{decode_answer, decode_memory}
@@ -84,15 +83,15 @@ listed t s k (low ∷ high ∷ bs) =
     listed_after (decode_answer t s r) after k (λ next. listed t after next bs)
 
 -- refusal 11 is one of making the table; a made table is fit, and its decoder starts with zeros
-abbrev pub made_listing : MakeAnswer → Table → List ℕ → List ℕ
-made_listing Made t bs = (listed t (started (decoder_words t)) 0 bs).text
-made_listing OutOfRange t bs = refused_line (get_or (made_numbers OutOfRange) 0 0)
+abbrev pub made_listing : Result Table MakeError → List ℕ → List ℕ
+made_listing (Ok t) bs = (listed t (started (decoder_words t)) 0 bs).text
+made_listing (Err e) bs = refused_line (make_number e)
 
 -- "The header comes first in any case"; "under two bytes, the header only"
 unfoldable pub listing : List ℕ → List ℕ
 listing [] = header_line
 listing (n ∷ []) = header_line
-listing (n ∷ m ∷ bs) = header_line ++ made_listing (making n m).answer (making n m).table bs
+listing (n ∷ m ∷ bs) = header_line ++ made_listing (making n m) bs
 
 -- what has stopped lists no more
 abbrev pub continued : Table → Listed → List ℕ → Listed

@@ -2,7 +2,7 @@
 -- With `listed`, which lists the blocks in parts, that is the whole listing.
 --
 --   Opening                 what is printed, the table, and whether the program stopped
---   opened_made a t         after the header: the made table t, or refusal 11
+--   opened_made a           after the header: the made table, or refusal 11
 --   headed o                the same after the header
 --   opened bs               the opening of an input whose first two bytes, or all that it has, are bs
 --   memory_words            the longest memory of a decoder of a made table
@@ -20,12 +20,11 @@
 --   ProgramRoom             with the program's buffers `opening` and `part` have the room that `ListingLaw` takes for
 --                           granted
 use Rattle.std.specs.Prelude.{◌≡◌, Bool, true, false, ◌&&◌, cond, ◌⊎◌, List, [], ◌∷◌, ◌++◌, ℕ, ◌+◌, ◌*◌, ◌%◌, ◌^◌, ◌≤◌}
-use Rattle.std.specs.Prelude.{◌<◌, leb, length, get_or, drop}
+use Rattle.std.specs.Prelude.{◌<◌, leb, length, drop, Result, Ok, Err}
 use Rattle.tables.specs.declared.table.Table.{Table}
-use Rattle.tables.specs.declared.make.MakeAnswer.{MakeAnswer}
-use Rattle.tables.specs.declared.make.MakeAnswer.TheVariants.{Made, OutOfRange}
+use Rattle.tables.specs.declared.make.MakeError.{MakeError}
 use Rattle.tables.specs.Table.{zero_table}
-use Rattle.tables.specs.Made.{making, made_numbers}
+use Rattle.tables.specs.Made.{making, make_number}
 use Rattle.link.specs.Memory.{started, decoder_words}
 use Rattle.report.specs.declared.opening.Opened.{Opened}
 use Rattle.report.specs.Text.{header_line, refused_line}
@@ -38,10 +37,9 @@ pub record Opening : Type 0 where
   pub stopped : Bool
 
 -- 11. "n or m is out of range", of making
-abbrev pub opened_made : MakeAnswer → Table → Opening
-opened_made Made t = record { text = []; table = t; stopped = false }
-opened_made OutOfRange t =
-    record { text = refused_line (get_or (made_numbers OutOfRange) 0 0); table = zero_table; stopped = true }
+abbrev pub opened_made : Result Table MakeError → Opening
+opened_made (Ok t) = record { text = []; table = t; stopped = false }
+opened_made (Err e) = record { text = refused_line (make_number e); table = zero_table; stopped = true }
 
 abbrev pub headed : Opening → Opening
 headed o = record { text = header_line ++ o.text; table = o.table; stopped = o.stopped }
@@ -50,7 +48,7 @@ headed o = record { text = header_line ++ o.text; table = o.table; stopped = o.s
 unfoldable pub opened : List ℕ → Opening
 opened [] = record { text = header_line; table = zero_table; stopped = true }
 opened (n ∷ []) = record { text = header_line; table = zero_table; stopped = true }
-opened (n ∷ m ∷ bs) = headed (opened_made (making n m).answer (making n m).table)
+opened (n ∷ m ∷ bs) = headed (opened_made (making n m))
 
 -- 2 + m × (N + 1), where m is at most 64, and N at most 2 × 16
 abbrev pub memory_words : ℕ

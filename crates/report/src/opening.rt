@@ -8,7 +8,7 @@ ghost use Rattle.report.specs.Opening.{opening_room, memory_words, started_in, o
 
 use crate::text::{header, refusal};
 use link::start::start_decoder;
-use tables::make::{MakeAnswer, make};
+use tables::make::make;
 use tables::table::{Table, zero_table};
 
 // The table, the words of its decoder, the count of bytes written, the number of the next delivery, and whether the
@@ -62,15 +62,11 @@ fn started(t: Table, memory: &mut [u64], end: usize) -> Opened
 // After the header: a table and its decoder, or refusal 11.
 fn after_header(n: usize, m: usize, memory: &mut [u64], out: &mut [u8], end: usize) -> Opened
     requires { (memory_words ≤ length memory.old) × (end + longest ≤ length out.old) }
-    ensures { Opens (opened_made (making n m).answer (making n m).table) end memory.old memory.new
-        out.old out.new result }
+    ensures { Opens (opened_made (making n m)) end memory.old memory.new out.old out.new result }
 {
-    let made = make(n, m);
-    let table = made.table;
-    let answer = made.answer;
-    match answer {
-        MakeAnswer::Made => started(table, memory, end),
-        MakeAnswer::OutOfRange => stopped(refusal(out, end, 11)),
+    match make(n, m) {
+        Ok(table) => started(table, memory, end),
+        Err(error) => stopped(refusal(out, end, error.number())),
     }
 }
 

@@ -8,7 +8,6 @@ use mathlib.Core.Path.{◌≡◌, refl, sym, ap, ap₂, ◌∙◌, subst}
 use mathlib.Core.Bool.{Bool, true, false, xor, ◌&&◌, true≢false, false≢true, cond}
 use mathlib.Core.Logic.{◌≢◌, ◌↔◌}
 use mathlib.Core.List.{List, [], ◌∷◌, ◌++◌}
-use mathlib.Core.Option.{or_else}
 use Prim.Native.Nat.{ℕ, zero, suc, ◌+◌, ◌-◌, ◌*◌, ◌^◌, ◌≤◌, ◌<◌}
 use native.Mathlib.Nat.{le_refl}
 use native.Mathlib.Omega.{arith}
@@ -20,12 +19,13 @@ use Rattle.span.specs.Word.{◌⊕◌, odd, bit, digit, common_parity, shifted}
 use Rattle.span.specs.Combination.{combination, Below}
 use Rattle.span.proofs.Combination.{below_left}
 use Rattle.tables.specs.declared.table.Table.{Table}
-use Rattle.tables.specs.declared.make.MakeAnswer.TheVariants.{Made, OutOfRange}
-use Rattle.tables.specs.declared.make.Making.{Making}
+use Rattle.std.specs.Prelude.{Result, Ok, Err}
+use Rattle.tables.specs.declared.make.MakeError.{MakeError}
+use Rattle.tables.specs.declared.make.MakeError.TheVariants.{OutOfRange}
 use Rattle.tables.specs.Code.{image, shifted_image, Suitable}
 use Rattle.tables.specs.Clash.{first_from, clash_of, clash_at, first_clash}
 use Rattle.tables.specs.Triangle.{Forced, Unique, another, NotUnique, OurTriangle, MadeLaw, MadeDepth}
-use Rattle.tables.specs.Table.{table, zero_table, rows_of, sizes_fit, rows_fit, fit}
+use Rattle.tables.specs.Table.{table, rows_of, sizes_fit, rows_fit, fit}
 use Rattle.tables.specs.Made.{columns, upper, made_row, made_rows, triangle_rows, Triangle, made_table, making}
 use Rattle.tables.proofs.Fit.{and_left, and_right, Fits, sizes-of, sizes-fit-of, rows-fit-of}
 use Rattle.tables.proofs.Triangle.{made-length, triangular}
@@ -289,24 +289,21 @@ unfolding made_table
 made_all n m z = (refl, refl, refl, made-fit n m z, made-suitable n m z.n_from z.n_to, made-rows n m)
 
 -- what making answers, by its test
-abbrev pub answered : Bool → ℕ → ℕ → Making
-answered s n m =
-    cond s (record { answer = Made; table = made_table n m }) (record { answer = OutOfRange; table = zero_table })
+abbrev pub answered : Bool → ℕ → ℕ → Result Table MakeError
+answered s n m = cond s (Ok (made_table n m)) (Err OutOfRange)
 
 -- what making answers where it made a table
-made_table_lem : (n m : ℕ) → (making n m).answer ≡ Made → (sizes_fit n 2 m ≡ true) × ((making n m).table ≡ made_table n m)
+pub made_table_lem : (n m : ℕ) (t : Table) → making n m ≡ Ok t → (sizes_fit n 2 m ≡ true) × (t ≡ made_table n m)
 unfolding making
-made_table_lem n m = go (sizes_fit n 2 m) refl
+made_table_lem n m t = go (sizes_fit n 2 m) refl
   where
-    go : (s : Bool) → sizes_fit n 2 m ≡ s
-        → (answered s n m).answer ≡ Made
-        → (sizes_fit n 2 m ≡ true) × ((answered s n m).table ≡ made_table n m)
-    go true e a = (e, refl)
+    go : (s : Bool) → sizes_fit n 2 m ≡ s → answered s n m ≡ Ok t → (sizes_fit n 2 m ≡ true) × (t ≡ made_table n m)
+    go true e a = (e, cc)
     go false e a = let z : ◌≡◌ {A = ℕ} 0 1 = cc in absurd (omega arith)
 
 pub made : MadeLaw
-made n m a =
-    let h = made_table_lem n m a in
+made n m t a =
+    let h = made_table_lem n m t a in
     let z = sizes-of n 2 m h.0 in
     subst (λ (t : Table). (t.symbols ≡ n) × (t.span ≡ 2 * n) × (t.depth ≡ m) × (fit t ≡ true)
     × Suitable t.span (rows_of t)
@@ -314,18 +311,18 @@ made n m a =
 
 pub made-depth : MadeDepth
 unfolding made_table
-made-depth n m m' a a' =
-    (made_table_lem n m' a').1
-    ∙ sym (ap (λ (t : Table). table t.symbols t.span m' t.rows) (made_table_lem n m a).1)
+made-depth n m m' t t' a a' =
+    (made_table_lem n m' t' a').1
+    ∙ sym (ap (λ (u : Table). table u.symbols u.span m' u.rows) (made_table_lem n m t a).1)
 
 -- sizes in range are never refused, and others are
-pub is_made : (n m : ℕ) → sizes_fit n 2 m ≡ true → (making n m).answer ≡ Made
+pub is_made : (n m : ℕ) → sizes_fit n 2 m ≡ true → making n m ≡ Ok (made_table n m)
 unfolding making
 is_made n m e = rw e refl
 
-pub not_made : (n m : ℕ) → sizes_fit n 2 m ≡ false → ((making n m).answer ≡ OutOfRange) × ((making n m).table ≡ zero_table)
+pub not_made : (n m : ℕ) → sizes_fit n 2 m ≡ false → making n m ≡ Err OutOfRange
 unfolding making
-not_made n m e = rw e (refl, refl)
+not_made n m e = rw e refl
 
 pub our-columns : OurTriangle
 our-columns = (columns-length, λ n to. our-triangle (n - 1) (omega arith))
@@ -333,7 +330,7 @@ our-columns = (columns-length, λ n to. our-triangle (n - 1) (omega arith))
 -- ---- another triangle
 
 another-suitable : Suitable 10 (triangle_rows another 5)
-unfolding first_clash clash_at clash_of first_from or_else image shifted_image combination shifted made_rows made_row upper bit
+unfolding first_clash clash_at clash_of first_from image shifted_image combination shifted made_rows made_row upper bit
     odd xor ◌⊕◌
 another-suitable = (no-clash 10 (triangle_rows another 5)).0 refl
 

@@ -3,26 +3,26 @@ use mathlib.Core.Path.{◌≡◌, refl, sym, ap, ◌∙◌, subst}
 use mathlib.Core.Bool.{Bool, true, false, false≢true, cond}
 use mathlib.Core.Logic.{◌≢◌}
 use mathlib.Core.List.{List, [], ◌∷◌}
-use mathlib.Core.Option.{Option, none, some}
+use Rattle.std.specs.Prelude.{Option, None, Some, Result, Ok, Err}
 use Prim.Native.Nat.{ℕ, zero, suc, ◌+◌, ◌≤◌, ◌<◌}
 use native.Mathlib.Omega.{arith}
 use borrow.Author.Tests.{eqb-true, eqb-false, ltb-true}
 use lib.Dec.{ltb, eqb}
 use lib.ListN.{length, drop, length-drop}
 use Rattle.tables.specs.declared.table.Table.{Table}
-use Rattle.tables.specs.declared.judge.Judgement.{Judgement}
-use Rattle.tables.specs.declared.judge.Judgement.TheVariants.{Unfit, Clash, Sound}
-use Rattle.tables.specs.declared.read.ReadAnswer.{ReadAnswer}
-use Rattle.tables.specs.declared.read.ReadAnswer.TheVariants.{Accepted, Refused, Unsuitable}
-use Rattle.tables.specs.declared.read.Reading.{Reading}
+use Rattle.tables.specs.declared.judge.Clash.{Clash}
+use Rattle.tables.specs.declared.judge.Unsound.TheVariants.{NotFit, Clashing}
+use Rattle.tables.specs.declared.read.ReadError.{ReadError}
+use Rattle.tables.specs.declared.read.ReadError.TheVariants.{Refused, Unsuitable}
 use Rattle.tables.specs.Code.{Suitable}
-use Rattle.tables.specs.Clash.{Triple, first_clash, First}
-use Rattle.tables.specs.Table.{rows_of, zero_table, fit}
-use Rattle.tables.specs.Judging.{judging}
+use Rattle.tables.specs.Clash.{triple, first_clash, First}
+use Rattle.tables.specs.Table.{rows_of, fit}
+use Rattle.tables.specs.Judging.{Judgement, judging}
 use Rattle.tables.specs.declared.read.Progress.{Progress}
 use Rattle.tables.specs.Format.{kind, size, ended, unknown, cut, misplaced, sizes_out, misnumbered, too_long}
 use Rattle.tables.specs.Format.{missing, followed, fault, place, after, begun, Parse, refused, parsed, parse_from}
-use Rattle.tables.specs.Format.{parse}
+use Rattle.tables.specs.Format.{parse, fault_of, fault_number}
+use Rattle.tables.specs.declared.read.Fault.{Fault}
 use Rattle.tables.specs.Reading.{read_numbers, read_table, read_parse, reading, clash_result, read_result, Read}
 use Rattle.tables.specs.Reading.{AcceptedSuitable, SuitableAccepted, RefusedRange, RefusedPlace}
 use Rattle.tables.specs.Reading.{RefusedNumbers, RefusedUnsuitable, UnsuitableNumbers}
@@ -33,106 +33,9 @@ use Rattle.tables.proofs.Fit.{and_right}
 use Rattle.tables.proofs.Format.{fault-sound, fault-ended, size-some, sound-whole}
 use Rattle.tables.proofs.Refusal.{first_range, first-applies}
 
--- ---- by the parse
+-- ---- the number of a parse that is refused
 
-reading-by : (bytes : List ℕ) (p : Parse) → parse bytes ≡ p → reading bytes ≡ read_parse p
-unfolding reading
-reading-by bytes p e = ap read_parse e
-
--- the answer that is given, and its numbers
-pub read_by : (bytes : List ℕ) (p : Parse) (r : Reading) → parse bytes ≡ p → r ≡ read_parse p → Read bytes r
-read_by bytes p r q e = record {
-  answer = e ∙ sym (reading-by bytes p q);
-  numbers = ap (λ (x : Reading). read_numbers x.answer) e ∙ numbers-due p ∙ ap read_result (sym q);
-}
-  where
-    clash-due : (t : Table) (o : Option Triple) → read_numbers (read_table t o).answer ≡ clash_result o
-    clash-due t none = refl
-    clash-due t (some c) = refl
-
-    numbers-due : (p : Parse) → read_numbers (read_parse p).answer ≡ read_result p
-    numbers-due (refused k p) = refl
-    numbers-due (parsed t) = clash-due t (first_clash t.span (rows_of t))
-
--- ---- by the judgement
-
-pub clash_read : (t : Table) (l e0 e1 : ℕ) → judging t ≡ Clash l e0 e1
-    → read_parse (parsed t) ≡ record { answer = Unsuitable l e0 e1; table = zero_table }
-clash_read t l e0 e1 e =
-    ap (read_table t) ((first-clash t.span (rows_of t) l e0 e1).1 ((judged t (Clash l e0 e1)).0 e).1)
-
--- a fit table that has no clash
-pub sound-read : (t : Table) (j : Judgement) → fit t ≡ true → judging t ≡ j
-    → ((l e0 e1 : ℕ) → j ≡ Clash l e0 e1 → ⊥)
-    → read_parse (parsed t) ≡ record { answer = Accepted; table = t }
-sound-read t Unfit f e n = absurd (false≢true (sym ((judged t Unfit).0 e) ∙ f))
-sound-read t (Clash l e0 e1) f e n = absurd (n l e0 e1 refl)
-sound-read t Sound f e n = ap (read_table t) ((no-clash t.span (rows_of t)).1 ((judged t Sound).0 e).1)
-
--- ---- by the answer
-
--- what an answer, with the table u beside it, says of the bytes
-abbrev Told : List ℕ → ReadAnswer → Table → Type 0
-Told bytes Accepted u = (parse bytes ≡ parsed u) × Suitable u.span (rows_of u)
-Told bytes (Refused k p) u = parse bytes ≡ refused k p
-Told bytes (Unsuitable l e0 e1) u = (t : Table) × (parse bytes ≡ parsed t) × First t.span (rows_of t) l e0 e1
-
-told : (bytes : List ℕ) → Told bytes (reading bytes).answer (reading bytes).table
-unfolding reading
-told bytes = go (parse bytes) refl
-  where
-    table : (t : Table) → parse bytes ≡ parsed t → (o : Option Triple) → first_clash t.span (rows_of t) ≡ o
-        → Told bytes (read_table t o).answer (read_table t o).table
-    table t q none e = (q, (no-clash t.span (rows_of t)).0 e)
-    table t q (some c) e = (t, q, (first-clash t.span (rows_of t) c.l c.e0 c.e1).0 e)
-
-    go : (p : Parse) → parse bytes ≡ p → Told bytes (read_parse p).answer (read_parse p).table
-    go (refused k p) q = q
-    go (parsed t) q = table t q (first_clash t.span (rows_of t)) refl
-
-told-by : (bytes : List ℕ) (a : ReadAnswer) → (reading bytes).answer ≡ a → Told bytes a (reading bytes).table
-told-by bytes a e = subst (λ (x : ReadAnswer). Told bytes x (reading bytes).table) e (told bytes)
-
-pub accepted-suitable : AcceptedSuitable
-accepted-suitable bytes a =
-    let s = told-by bytes Accepted a in
-    (s.0, parse-fit bytes (reading bytes).table s.0, s.1)
-
--- a place is answered of a parse that is refused only
-pub refused-parse : (bytes : List ℕ) (k p : ℕ) → (reading bytes).answer ≡ Refused k p → parse bytes ≡ refused k p
-refused-parse bytes k p a = told-by bytes (Refused k p) a
-
-pub refused-unsuitable : RefusedUnsuitable
-refused-unsuitable bytes l e0 e1 a =
-    let (t, q, first) = told-by bytes (Unsuitable l e0 e1) a in
-    (t, q, first, (l, e0, e1, first.clashes))
-
--- ---- a table that was parsed
-
-pub suitable-accepted : SuitableAccepted
-suitable-accepted bytes t e suits =
-    reading-by bytes (parsed t) e ∙ ap (read_table t) ((no-clash t.span (rows_of t)).1 suits)
-
-pub unsuitable-numbers : UnsuitableNumbers
-unsuitable-numbers bytes t q f = go (first_clash t.span (rows_of t)) refl
-  where
-    go : (o : Option Triple) → first_clash t.span (rows_of t) ≡ o
-        → (l : ℕ) × (e0 : ℕ) × (e1 : ℕ) × (read_numbers (reading bytes).answer ≡ 10 ∷ l ∷ e0 ∷ e1 ∷ [])
-        × First t.span (rows_of t) l e0 e1 × ((reading bytes).table ≡ zero_table)
-    go none e = absurd (f ((no-clash t.span (rows_of t)).0 e))
-    go (some c) e =
-        let r = reading-by bytes (parsed t) q ∙ ap (read_table t) e in (
-          c.l,
-          c.e0,
-          c.e1,
-          ap (λ (x : Reading). read_numbers x.answer) r,
-          (first-clash t.span (rows_of t) c.l c.e0 c.e1).0 e,
-          ap (λ (x : Reading). x.table) r,
-        )
-
--- ---- the numbers of a parse that is refused
-
-fault-range : (g : Progress) (s : List ℕ) → fault g s ≢ 0 → (1 ≤ fault g s) × (fault g s < 10)
+pub fault-range : (g : Progress) (s : List ℕ) → fault g s ≢ 0 → (1 ≤ fault g s) × (fault g s < 10)
 unfolding fault
 fault-range g s =
     first_range 1 (ended s ∷ unknown s ∷ cut s ∷ misplaced g s ∷ sizes_out s ∷ misnumbered g s ∷ too_long g s
@@ -163,6 +66,124 @@ range-from (suc left) p g s i q e =
 pub refused-range : RefusedRange
 unfolding parse
 refused-range bytes k p e = range-from (length bytes) 0 begun bytes k p e
+
+-- the fault of a number has that number
+number-of : (k : ℕ) → 1 ≤ k → k ≤ 9 → fault_number (fault_of k) ≡ k
+unfolding fault_of
+number-of zero from to = absurd (omega arith)
+number-of (suc zero) from to = refl
+number-of (suc (suc zero)) from to = refl
+number-of (suc (suc (suc zero))) from to = refl
+number-of (suc (suc (suc (suc zero)))) from to = refl
+number-of (suc (suc (suc (suc (suc zero))))) from to = refl
+number-of (suc (suc (suc (suc (suc (suc zero)))))) from to = refl
+number-of (suc (suc (suc (suc (suc (suc (suc zero))))))) from to = refl
+number-of (suc (suc (suc (suc (suc (suc (suc (suc zero)))))))) from to = refl
+number-of (suc (suc (suc (suc (suc (suc (suc (suc (suc k))))))))) from to =
+    let none : k ≡ 0 = omega arith in rw none
+
+-- ---- by the parse
+
+reading-by : (bytes : List ℕ) (p : Parse) → parse bytes ≡ p → reading bytes ≡ read_parse p
+unfolding reading
+reading-by bytes p e = ap read_parse e
+
+-- the answer that is given, and its numbers
+pub read_by : (bytes : List ℕ) (p : Parse) (r : Result Table ReadError) → parse bytes ≡ p → r ≡ read_parse p → Read bytes r
+read_by bytes p r q e = record {
+  answer = e ∙ sym (reading-by bytes p q);
+  numbers = ap read_numbers e ∙ numbers-due p q ∙ ap read_result (sym q);
+}
+  where
+    clash-due : (t : Table) (o : Option Clash) → read_numbers (read_table t o) ≡ clash_result o
+    clash-due t None = refl
+    clash-due t (Some c) = refl
+
+    numbers-due : (p : Parse) → parse bytes ≡ p → read_numbers (read_parse p) ≡ read_result p
+    numbers-due (refused k p) q =
+        let range = refused-range bytes k p q in
+        ap (λ (i : ℕ). i ∷ p ∷ []) (number-of k range.0 range.1)
+    numbers-due (parsed t) q = clash-due t (first_clash t.span (rows_of t))
+
+-- ---- by the judgement
+
+pub clash_read : (t : Table) (c : Clash) → judging t ≡ Err (Clashing c)
+    → read_parse (parsed t) ≡ Err (Unsuitable c)
+clash_read t c e =
+    ap (read_table t) ((first-clash t.span (rows_of t) c.l c.e0 c.e1).1 ((judged t (Err (Clashing c))).0 e).1)
+
+-- a fit table that has no clash
+pub sound-read : (t : Table) (j : Judgement) → fit t ≡ true → judging t ≡ j
+    → ((c : Clash) → j ≡ Err (Clashing c) → ⊥)
+    → read_parse (parsed t) ≡ Ok t
+sound-read t (Err NotFit) f e n = absurd (false≢true (sym ((judged t (Err NotFit)).0 e) ∙ f))
+sound-read t (Err (Clashing c)) f e n = absurd (n c refl)
+sound-read t (Ok sound) f e n = ap (read_table t) ((no-clash t.span (rows_of t)).1 ((judged t (Ok sound)).0 e).1)
+
+-- ---- by the answer
+
+-- what an answer says of the bytes
+abbrev Told : List ℕ → Result Table ReadError → Type 0
+Told bytes (Ok u) = (parse bytes ≡ parsed u) × Suitable u.span (rows_of u)
+Told bytes (Err (Refused f p)) = (k : ℕ) × (f ≡ fault_of k) × (parse bytes ≡ refused k p)
+Told bytes (Err (Unsuitable c)) = (t : Table) × (parse bytes ≡ parsed t) × First t.span (rows_of t) c.l c.e0 c.e1
+
+told : (bytes : List ℕ) → Told bytes (reading bytes)
+unfolding reading
+told bytes = go (parse bytes) refl
+  where
+    table : (t : Table) → parse bytes ≡ parsed t → (o : Option Clash) → first_clash t.span (rows_of t) ≡ o
+        → Told bytes (read_table t o)
+    table t q None e = (q, (no-clash t.span (rows_of t)).0 e)
+    table t q (Some c) e = (t, q, (first-clash t.span (rows_of t) c.l c.e0 c.e1).0 e)
+
+    go : (p : Parse) → parse bytes ≡ p → Told bytes (read_parse p)
+    go (refused k p) q = (k, refl, q)
+    go (parsed t) q = table t q (first_clash t.span (rows_of t)) refl
+
+told-by : (bytes : List ℕ) (a : Result Table ReadError) → reading bytes ≡ a → Told bytes a
+told-by bytes a e = subst (Told bytes) e (told bytes)
+
+pub accepted-suitable : AcceptedSuitable
+accepted-suitable bytes t a =
+    let s = told-by bytes (Ok t) a in
+    (s.0, parse-fit bytes t s.0, s.1)
+
+-- a place is answered of a parse that is refused only
+pub refused-parse : (bytes : List ℕ) (f : Fault) (p : ℕ) → reading bytes ≡ Err (Refused f p)
+    → parse bytes ≡ refused (fault_number f) p
+refused-parse bytes f p a =
+    let (k, same, q) = told-by bytes (Err (Refused f p)) a in
+    let range = refused-range bytes k p q in
+    q ∙ ap (λ (i : ℕ). refused i p) (sym (number-of k range.0 range.1) ∙ ap fault_number (sym same))
+
+pub refused-unsuitable : RefusedUnsuitable
+refused-unsuitable bytes l e0 e1 a =
+    let (t, q, first) = told-by bytes (Err (Unsuitable (triple l e0 e1))) a in
+    (t, q, first, (l, e0, e1, first.clashes))
+
+-- ---- a table that was parsed
+
+pub suitable-accepted : SuitableAccepted
+suitable-accepted bytes t e suits =
+    reading-by bytes (parsed t) e ∙ ap (read_table t) ((no-clash t.span (rows_of t)).1 suits)
+
+pub unsuitable-numbers : UnsuitableNumbers
+unsuitable-numbers bytes t q f = go (first_clash t.span (rows_of t)) refl
+  where
+    go : (o : Option Clash) → first_clash t.span (rows_of t) ≡ o
+        → (l : ℕ) × (e0 : ℕ) × (e1 : ℕ) × (read_numbers (reading bytes) ≡ 10 ∷ l ∷ e0 ∷ e1 ∷ [])
+        × First t.span (rows_of t) l e0 e1 × (reading bytes ≡ Err (Unsuitable (triple l e0 e1)))
+    go None e = absurd (f ((no-clash t.span (rows_of t)).0 e))
+    go (Some c) e =
+        let r = reading-by bytes (parsed t) q ∙ ap (read_table t) e in (
+          c.l,
+          c.e0,
+          c.e1,
+          ap read_numbers r,
+          (first-clash t.span (rows_of t) c.l c.e0 c.e1).0 e,
+          r,
+        )
 
 -- ---- the place of a parse that is refused
 
@@ -245,4 +266,5 @@ refused-place bytes k p e =
 pub refused-numbers : RefusedNumbers
 refused-numbers bytes k p e =
     let r = reading-by bytes (refused k p) e in
-    (ap (λ (x : Reading). read_numbers x.answer) r, ap (λ (x : Reading). x.table) r)
+    let range = refused-range bytes k p e in
+    (ap read_numbers r ∙ ap (λ (i : ℕ). i ∷ p ∷ []) (number-of k range.0 range.1), r)

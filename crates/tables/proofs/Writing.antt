@@ -9,14 +9,13 @@ use lib.Dec.{ltb}
 use lib.ListN.{length, get_or, take, drop, length-append}
 use lib.Seq.{take_at, drop-append-add, drop-append_seam}
 use Rattle.tables.specs.declared.table.Table.{Table}
-use Rattle.tables.specs.declared.judge.Judgement.{Judgement}
-use Rattle.tables.specs.declared.judge.Judgement.TheVariants.{Unfit, Clash, Sound}
-use Rattle.tables.specs.declared.read.ReadAnswer.TheVariants.{Accepted}
-use Rattle.tables.specs.declared.write.WriteAnswer.{WriteAnswer}
-use Rattle.tables.specs.declared.write.WriteAnswer.TheVariants.{Written as WrittenBytes, Refused, Unsuitable}
+use Rattle.std.specs.Prelude.{Result, Ok, Err}
+use Rattle.tables.specs.declared.judge.Unsound.TheVariants.{NotFit, Clashing}
+use Rattle.tables.specs.declared.write.WriteError.{WriteError}
+use Rattle.tables.specs.declared.write.WriteError.TheVariants.{NoRoom}
 use Rattle.tables.specs.Code.{Suitable}
 use Rattle.tables.specs.Table.{table, info_rows, code_rows, rows_of, fit, SameTable}
-use Rattle.tables.specs.Judging.{judging}
+use Rattle.tables.specs.Judging.{Judgement, judging}
 use Rattle.tables.specs.Format.{parsed, parse}
 use Rattle.tables.specs.Reading.{reading}
 use Rattle.tables.specs.Written.{bytes_of, sizes_record, row_record, row_records, EachOnce}
@@ -35,7 +34,7 @@ use Rattle.tables.proofs.Sorted.{sorted_numbers, sorted-map, sorted-length, each
 -- ---- by the judgement
 
 -- the answer that is given, its numbers, and the buffer
-pub writes-by : (t : Table) (before : List ℕ) (j : Judgement) (a : WriteAnswer) (after : List ℕ) → j ≡ judging t
+pub writes-by : (t : Table) (before : List ℕ) (j : Judgement) (a : Result ℕ WriteError) (after : List ℕ) → j ≡ judging t
     → a ≡ write_by t (length before) j → after ≡ write_buffer a t before → Writes t before a after
 unfolding write_answer
 writes-by t before j a after right e b =
@@ -43,27 +42,27 @@ writes-by t before j a after right e b =
     record {
       answer = answer;
       numbers = ap write_numbers answer ∙ numbers-due (judging t);
-      buffer = b ∙ ap (λ (x : WriteAnswer). write_buffer x t before) answer;
+      buffer = b ∙ ap (λ (x : Result ℕ WriteError). write_buffer x t before) answer;
     }
   where
     room-due : (b : Bool)
-        → write_numbers (cond b (Refused 16) (WrittenBytes (written_length t)))
+        → write_numbers (cond b (Err NoRoom) (Ok (written_length t)))
         ≡ cond b (16 ∷ []) (0 ∷ written_length t ∷ [])
     room-due true = refl
     room-due false = refl
 
     numbers-due : (j : Judgement) → write_numbers (write_by t (length before) j) ≡ write_result t (length before) j
-    numbers-due Unfit = refl
-    numbers-due (Clash l e0 e1) = refl
-    numbers-due Sound = room-due (ltb (length before) (written_length t))
+    numbers-due (Err NotFit) = refl
+    numbers-due (Err (Clashing c)) = refl
+    numbers-due (Ok sound) = room-due (ltb (length before) (written_length t))
 
 -- ---- with room
 
 pub sound-written : SoundWritten
 unfolding write_answer
 sound-written t before a after f suits room w =
-    let count : write_answer t (length before) ≡ WrittenBytes (written_length t) =
-    rw ((judged t Sound).1 (f, suits), le-ltb (length before) (written_length t) room) in
+    let count : write_answer t (length before) ≡ Ok (written_length t) =
+    rw ((judged t (Ok tt)).1 (f, suits), le-ltb (length before) (written_length t) room) in
     (w.answer ∙ count, w.buffer ∙ rw count)
 
 -- ---- tables that are the same have the same bytes
@@ -104,26 +103,25 @@ record Stored (t : Table) (before : List ℕ) (c : ℕ) (after : List ℕ) : Typ
   count : c ≡ written_length t
   bytes : take c after ≡ written t
 
-stored : (t : Table) (before after : List ℕ) (c : ℕ) → Writes t before (WrittenBytes c) after → Stored t before c after
+stored : (t : Table) (before after : List ℕ) (c : ℕ) → Writes t before (Ok c) after → Stored t before c after
 unfolding write_answer
 stored t before after c w = go (judging t) refl w.answer
   where
-    counted : (b : Bool) → WrittenBytes c ≡ cond b (Refused 16) (WrittenBytes (written_length t)) → c ≡ written_length t
+    counted : (b : Bool) → Ok c ≡ cond b (Err NoRoom) (Ok (written_length t)) → c ≡ written_length t
     counted true e = let z : ◌≡◌ {A = ℕ} 0 1 = cc in absurd (omega arith)
     counted false e = cc
 
-    go : (j : Judgement) → judging t ≡ j → WrittenBytes c ≡ write_by t (length before) j → Stored t before c after
-    go Unfit q e = let z : ◌≡◌ {A = ℕ} 0 1 = cc in absurd (omega arith)
-    go (Clash l e0 e1) q e = let z : ◌≡◌ {A = ℕ} 0 1 = cc in absurd (omega arith)
-    go Sound q e =
+    go : (j : Judgement) → judging t ≡ j → Ok c ≡ write_by t (length before) j → Stored t before c after
+    go (Err u) q e = let z : ◌≡◌ {A = ℕ} 0 1 = cc in absurd (omega arith)
+    go (Ok sound) q e =
         let n : c ≡ written_length t = counted (ltb (length before) (written_length t)) e in
-        let r = (judged t Sound).0 q in
+        let r = (judged t (Ok tt)).0 q in
         let z = fit-facts t r.0 in
         record {
           fits = r.0;
           suits = r.1;
           count = n;
-          bytes = ap (take c) (w.buffer ∙ ap (λ (x : WriteAnswer). write_buffer x t before) (sym w.answer))
+          bytes = ap (take c) (w.buffer ∙ ap (λ (x : Result ℕ WriteError). write_buffer x t before) (sym w.answer))
               ∙ take_at (written t) (drop c before) c ((written-length t).0 (omega arith) ∙ sym n);
         }
 
@@ -133,10 +131,10 @@ reads-back t before after c room w =
     let whole = trimmed_whole t s.fits room in
     let same = trimmed_same t s.fits room in
     let rows : rows_of (trimmed t) ≡ rows_of t = code-rows-same t.symbols (trimmed t).rows t.rows same.rows in
-    let back : reading (take c after) ≡ record { answer = Accepted; table = trimmed t } =
+    let back : reading (take c after) ≡ Ok (trimmed t) =
     suitable-accepted (take c after) (trimmed t) (ap parse s.bytes ∙ written-parses t s.fits room)
     (subst (λ (l : List ℕ). Suitable t.span l) (sym rows) s.suits) in
-    rw back (refl, whole, same, λ v. whole_same (trimmed t) t whole v same)
+    (trimmed t, back, whole, same, λ v. whole_same (trimmed t) t whole v same)
 
 -- ---- tables by their bytes
 
@@ -164,11 +162,9 @@ same_bytes t u f g a b = (
         }
 
 pub accepted-bytes : AcceptedBytes
-accepted-bytes bytes others a b =
-    let x = accepted-suitable bytes a in
-    let y = accepted-suitable others b in
-    let t = (reading bytes).table in
-    let u = (reading others).table in
+accepted-bytes bytes others t u a b =
+    let x = accepted-suitable bytes t a in
+    let y = accepted-suitable others u b in
     same_bytes t u x.1 y.1 (parse-room bytes t x.0) (parse-room others u y.0)
 
 -- ---- an accepted file
@@ -224,9 +220,8 @@ module _ (t : Table) (js : List ℕ) (h : 1 ≤ t.symbols) (each : EachOnce t.sy
   file-written = rw (rows-sorted, after-rows)
 
 pub file-sorted : FileSorted
-file-sorted bytes before after a b accepted room w =
-    let t = (reading bytes).table in
-    let x = accepted-suitable bytes accepted in
+file-sorted bytes before after t a b accepted room w =
+    let x = accepted-suitable bytes t accepted in
     let v = (parses-exactly bytes t b).0 x.0 in
     let z = fit-facts t x.1 in
     let many : 1 ≤ t.symbols = omega arith in
@@ -234,7 +229,7 @@ file-sorted bytes before after a b accepted room w =
     ap sorted_file v.same ∙ file-written t v.order many v.each_once in
     let size : length bytes ≡ written_length t = ap length v.same ∙ file-length t v.order many v.each_once in
     let done = sound-written t before a after x.1 x.2 (omega arith) w in (
-      done.0 ∙ ap WrittenBytes (sym size),
+      done.0 ∙ ap Ok (sym size),
       done.1 ∙ rw (sort, size),
     )
 
@@ -256,26 +251,24 @@ module _ (n N m : ℕ) (us ts : List ℕ) (e : take (n - 1) us ≡ take (n - 1) 
   answer-same room = ap (write_by (table n N m us) room) judging-same ∙ by-same (judging (table n N m ts))
     where
       by-same : (j : Judgement) → write_by (table n N m us) room j ≡ write_by (table n N m ts) room j
-      by-same Unfit = refl
-      by-same (Clash l e0 e1) = refl
-      by-same Sound = refl
+      by-same (Err u) = refl
+      by-same (Ok sound) = refl
 
-  buffer-same : (a : WriteAnswer) (before : List ℕ)
+  buffer-same : (a : Result ℕ WriteError) (before : List ℕ)
       → write_buffer a (table n N m us) before ≡ write_buffer a (table n N m ts) before
-  buffer-same (WrittenBytes c) before =
+  buffer-same (Ok c) before =
       ap (λ (l : List ℕ). l ++ drop c before)
       (written_same (table n N m us) (table n N m ts)
       (record { symbols = refl; span = refl; depth = refl; rows = e }))
-  buffer-same (Refused k) before = refl
-  buffer-same (Unsuitable l e0 e1) before = refl
+  buffer-same (Err e) before = refl
 
-  writes_as : (before : List ℕ) (a : WriteAnswer) (after : List ℕ) → Writes (table n N m us) before a after
+  writes_as : (before : List ℕ) (a : Result ℕ WriteError) (after : List ℕ) → Writes (table n N m us) before a after
       → Writes (table n N m ts) before a after
   unfolding write_answer
   writes_as before a after w =
       writes-by (table n N m ts) before (judging (table n N m ts)) a after refl
       (w.answer ∙ answer-same (length before))
-      (w.buffer ∙ ap (λ (x : WriteAnswer). write_buffer x (table n N m us) before) (sym w.answer)
+      (w.buffer ∙ ap (λ (x : Result ℕ WriteError). write_buffer x (table n N m us) before) (sym w.answer)
       ∙ buffer-same a before)
 
 pub writes-same : WritesSame

@@ -9,6 +9,8 @@
 --   all_given, unavailable   whether all rows were given, and whether a row number is none or was given
 --   ended, unknown, cut, misplaced, sizes_out, misnumbered, too_long, missing, followed   the tests of 1 to 9
 --   fault g s                the first of 1 to 9 that applies, or 0
+--   faults, fault_of k       the nine, in order; the one of this number
+--   fault_number f           01's number of a fault, 1 to 9
 --   place k p                the place of refusal k at a record that begins at p
 --   sized, rowed, after      the progress after a sizes record, after a row record, and after either
 --   Parse                    refused, with number and place, or a table
@@ -19,6 +21,9 @@ use Rattle.std.specs.Prelude.{◌≡◌, Bool, true, false, cond, not, ◌&&◌,
 use Rattle.std.specs.Prelude.{◌^◌, leb, ltb, eqb, length, get_or, drop, set, replicate}
 use Rattle.tables.specs.declared.table.Table.{Table}
 use Rattle.tables.specs.declared.read.Progress.{Progress}
+use Rattle.tables.specs.declared.read.Fault.{Fault}
+use Rattle.tables.specs.declared.read.Fault.TheVariants.{Ended, Unknown, Cut, Misplaced, SizesOut, Misnumbered, TooLong}
+use Rattle.tables.specs.declared.read.Fault.TheVariants.{Missing, Followed}
 use Rattle.tables.specs.Table.{table, zero_table, sizes_fit}
 use Rattle.tables.specs.Refusal.{first_of}
 
@@ -93,6 +98,24 @@ unfoldable pub fault : Progress → List ℕ → ℕ
 fault g s =
     first_of 1 (ended s ∷ unknown s ∷ cut s ∷ misplaced g s ∷ sizes_out s ∷ misnumbered g s ∷ too_long g s ∷ missing g s
     ∷ followed s ∷ [])
+
+abbrev pub faults : List Fault
+faults =
+    Ended ∷ Unknown ∷ Cut ∷ Misplaced ∷ SizesOut ∷ Misnumbered ∷ TooLong ∷ Missing ∷ Followed ∷ []
+
+unfoldable pub fault_of : ℕ → Fault
+fault_of k = get_or faults (k - 1) Followed
+
+abbrev pub fault_number : Fault → ℕ
+fault_number Ended = 1
+fault_number Unknown = 2
+fault_number Cut = 3
+fault_number Misplaced = 4
+fault_number SizesOut = 5
+fault_number Misnumbered = 6
+fault_number TooLong = 7
+fault_number Missing = 8
+fault_number Followed = 9
 
 -- "place is the record's first byte"; of 9 it is the first byte after the end, a record of one byte
 unfoldable pub place : ℕ → ℕ → ℕ

@@ -13,7 +13,7 @@ use Rattle.tables.specs.Code.{weight, image}
 use Rattle.tables.specs.Table.{zero_table, rows_of, fit}
 use Rattle.tables.specs.Refusal.{first_of}
 
--- the table beside every refusal
+-- the table that a reading begins from
 abbrev pub ZeroUnfit : Type 0
 ZeroUnfit = fit zero_table ≡ false
 

@@ -7,17 +7,17 @@
 --   triangle_rows cs n   rows 1 to n
 --   Triangle cs          cs is a triangle: column k has places 1 to k − 1
 --   made_table n m       the table that we make
---   making n m           what making answers: the table, or refusal 11 and the zero table
+--   making n m           what making answers: the table, or refusal 11
+--   make_number e        01's number of a refusal: 11
 --   made_numbers a       01's number of the answer: 0, or 11
 --   Makes n m r          what `make` promises
 use Rattle.std.specs.Prelude.{cond, ◌≡◌, List, [], ◌∷◌, ◌++◌, ℕ, zero, suc, ◌+◌, ◌-◌, ◌*◌, ◌^◌, ◌<◌, length, get_or}
-use Rattle.std.specs.Prelude.{replicate}
+use Rattle.std.specs.Prelude.{replicate, Result, Ok, Err}
 use Rattle.span.specs.Word.{bit, digit}
 use Rattle.tables.specs.declared.table.Table.{Table}
-use Rattle.tables.specs.declared.make.Making.{Making}
-use Rattle.tables.specs.declared.make.MakeAnswer.{MakeAnswer}
-use Rattle.tables.specs.declared.make.MakeAnswer.TheVariants.{Made, OutOfRange}
-use Rattle.tables.specs.Table.{table, zero_table, sizes_fit}
+use Rattle.tables.specs.declared.make.MakeError.{MakeError}
+use Rattle.tables.specs.declared.make.MakeError.TheVariants.{OutOfRange}
+use Rattle.tables.specs.Table.{table, sizes_fit}
 
 -- "Its columns 2 to 16 stand as a constant table; columns 2 to 5, from place 1 down, are 1; 1 1; 1 1 1; 1 0 1 1."
 unfoldable pub columns : List ℕ
@@ -52,15 +52,16 @@ made_table n m = table n (2 * n) m (made_rows columns n (n - 1) ++ replicate (16
 
 -- refusal 11: "n or m is out of range." The span 2n of an n in range is in range, so that of the sizes only n and m are
 -- tested: 2 stands for any span.
-unfoldable pub making : ℕ → ℕ → Making
-making n m =
-    cond (sizes_fit n 2 m) (record { answer = Made; table = made_table n m })
-    (record { answer = OutOfRange; table = zero_table })
+unfoldable pub making : ℕ → ℕ → Result Table MakeError
+making n m = cond (sizes_fit n 2 m) (Ok (made_table n m)) (Err OutOfRange)
 
-abbrev pub made_numbers : MakeAnswer → List ℕ
-made_numbers Made = 0 ∷ []
-made_numbers OutOfRange = 11 ∷ []
+abbrev pub make_number : MakeError → ℕ
+make_number OutOfRange = 11
 
-pub record Makes (n m : ℕ) (r : Making) : Type 0 where
+abbrev pub made_numbers : Result Table MakeError → List ℕ
+made_numbers (Ok t) = 0 ∷ []
+made_numbers (Err e) = make_number e ∷ []
+
+pub record Makes (n m : ℕ) (r : Result Table MakeError) : Type 0 where
   pub answer : r ≡ making n m
-  pub numbers : made_numbers r.answer ≡ cond (sizes_fit n 2 m) (0 ∷ []) (11 ∷ [])
+  pub numbers : made_numbers r ≡ cond (sizes_fit n 2 m) (0 ∷ []) (11 ∷ [])

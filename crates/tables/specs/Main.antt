@@ -14,8 +14,8 @@ use Rattle.tables.specs.Triangle.{OurTriangle, MadeLaw, MadeWholeLaw, NestedRows
 use Rattle.tables.specs.Triangle.{NotUnique}
 
 pub record Tables : Type 0 where
-  -- a refusal is the first that applies; those of 1 to 9 have their number, a place in the bytes and the zero table; and
-  -- 12 applies to that table
+  -- a refusal is the first that applies; those of 1 to 9 have their number and a place in the bytes; and 12 applies to
+  -- the zero table
   pub first_applies : FirstApplies
   pub first_none : FirstNone
   pub refused_range : RefusedRange

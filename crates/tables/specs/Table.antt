@@ -2,7 +2,7 @@
 -- is 1 always and is not stored.
 --
 --   table n N m rows   the one constructor
---   zero_table         the table beside every refusal
+--   zero_table         the table that a reading begins from, which refusal 12 refuses
 --   info_rows t        rows 1 to n − 1, those of the information
 --   code_rows n rows   rows 1 to n of the code: those stored, and the parity's
 --   rows_of t          the same of a table

@@ -11,11 +11,11 @@
 --   Unique         a triangle all of whose sizes are suitable is ours
 --   another, NotUnique   a triangle that is not ours whose size 5 is suitable: `Unique` needs the smaller sizes
 use Rattle.std.specs.Prelude.{◌≡◌, true, ◌≢◌, ◌↔◌, List, [], ◌∷◌, ◌++◌, ℕ, suc, ◌+◌, ◌-◌, ◌*◌, ◌^◌, ◌≤◌, ◌<◌, length}
-use Rattle.std.specs.Prelude.{get_or, take}
+use Rattle.std.specs.Prelude.{get_or, take, Ok}
 use Rattle.span.specs.Word.{bit, digit}
 use Rattle.tables.specs.Code.{Suitable}
 use Rattle.tables.specs.Table.{table, rows_of, fit, Whole}
-use Rattle.tables.specs.declared.make.MakeAnswer.TheVariants.{Made}
+use Rattle.tables.specs.declared.table.Table.{Table}
 use Rattle.tables.specs.Made.{columns, made_row, triangle_rows, Triangle, making}
 
 -- In `NestedRows` and `FillingLaw` the smaller table has n = suc (length cs) symbols, and the new column a is column
@@ -62,15 +62,14 @@ OurTriangle = (length columns ≡ 15) × ((n : ℕ) → n ≤ 16 → Triangle (t
 
 abbrev pub MadeLaw : Type 0
 MadeLaw =
-    (n m : ℕ) → (making n m).answer ≡ Made
-    → ((making n m).table.symbols ≡ n) × ((making n m).table.span ≡ 2 * n) × ((making n m).table.depth ≡ m)
-    × (fit (making n m).table ≡ true) × Suitable (making n m).table.span (rows_of (making n m).table)
-    × (rows_of (making n m).table ≡ triangle_rows (take (n - 1) columns) n)
+    (n m : ℕ) (t : Table) → making n m ≡ Ok t
+    → (t.symbols ≡ n) × (t.span ≡ 2 * n) × (t.depth ≡ m) × (fit t ≡ true) × Suitable t.span (rows_of t)
+    × (rows_of t ≡ triangle_rows (take (n - 1) columns) n)
 
 -- as a table that was read is
 abbrev pub MadeWholeLaw : Type 0
-MadeWholeLaw = (n m : ℕ) → (making n m).answer ≡ Made → Whole (making n m).table
+MadeWholeLaw = (n m : ℕ) (t : Table) → making n m ≡ Ok t → Whole t
 
 abbrev pub MadeDepth : Type 0
-MadeDepth = (n m m' : ℕ) → (making n m).answer ≡ Made → (making n m').answer ≡ Made
-    → (making n m').table ≡ table (making n m).table.symbols (making n m).table.span m' (making n m).table.rows
+MadeDepth = (n m m' : ℕ) (t t' : Table) → making n m ≡ Ok t → making n m' ≡ Ok t'
+    → t' ≡ table t.symbols t.span m' t.rows

@@ -4,6 +4,8 @@
 --   ascending j c         the c numbers from j on
 --   written t             the bytes of t: sizes, rows ascending, end
 --   written_length t      how many they are, 10n − 5
+--   unsound_error u       the refusal of a table that is not sound
+--   write_number e        the number of a refusal
 --   write_numbers a       the number of an answer and its values: 0 and the count of bytes written; 12 or 16; 10 and its
 --                         triple
 --   write_by t room j     the answer, by the judgement of t and the length of the buffer
@@ -24,17 +26,16 @@
 --   FileSorted            writing an accepted file gives that file with its rows sorted
 --   WritesSame            rows of a handed table past n − 1 do not matter
 use Rattle.std.specs.Prelude.{◌≡◌, ◌↔◌, true, cond, ℕ, zero, suc, ◌+◌, ◌-◌, ◌*◌, ◌≤◌, ◌<◌, leb, ltb, length, get_or}
-use Rattle.std.specs.Prelude.{take, drop}
+use Rattle.std.specs.Prelude.{take, drop, Result, Ok, Err}
 use mathlib.Core.List.{List, [], ◌∷◌, ◌++◌, flat_map}
 use Rattle.tables.specs.declared.table.Table.{Table}
-use Rattle.tables.specs.declared.judge.Judgement.{Judgement}
-use Rattle.tables.specs.declared.judge.Judgement.TheVariants.{Unfit, Clash, Sound}
-use Rattle.tables.specs.declared.read.ReadAnswer.TheVariants.{Accepted}
-use Rattle.tables.specs.declared.write.WriteAnswer.{WriteAnswer}
-use Rattle.tables.specs.declared.write.WriteAnswer.TheVariants.{Written, Refused, Unsuitable}
+use Rattle.tables.specs.declared.judge.Unsound.{Unsound}
+use Rattle.tables.specs.declared.judge.Unsound.TheVariants.{NotFit, Clashing}
+use Rattle.tables.specs.declared.write.WriteError.{WriteError}
+use Rattle.tables.specs.declared.write.WriteError.TheVariants.{Unfit, Unsuitable, NoRoom}
 use Rattle.tables.specs.Code.{Suitable}
 use Rattle.tables.specs.Table.{rows_of, fit, Whole, SameTable}
-use Rattle.tables.specs.Judging.{judging}
+use Rattle.tables.specs.Judging.{Judgement, judging}
 use Rattle.tables.specs.Reading.{reading}
 use Rattle.tables.specs.Written.{sizes_record, row_records}
 
@@ -49,34 +50,42 @@ written t = sizes_record t ++ (row_records t (ascending 1 (t.symbols - 1)) ++ (0
 abbrev pub written_length : Table → ℕ
 written_length t = 10 * t.symbols - 5
 
-abbrev pub write_numbers : WriteAnswer → List ℕ
-write_numbers (Written c) = 0 ∷ c ∷ []
-write_numbers (Refused k) = k ∷ []
-write_numbers (Unsuitable l e0 e1) = 10 ∷ l ∷ e0 ∷ e1 ∷ []
+abbrev pub unsound_error : Unsound → WriteError
+unsound_error NotFit = Unfit
+unsound_error (Clashing c) = Unsuitable c
+
+abbrev pub write_number : WriteError → ℕ
+write_number Unfit = 12
+write_number (Unsuitable c) = 10
+write_number NoRoom = 16
+
+abbrev pub write_numbers : Result ℕ WriteError → List ℕ
+write_numbers (Ok c) = 0 ∷ c ∷ []
+write_numbers (Err Unfit) = 12 ∷ []
+write_numbers (Err (Unsuitable c)) = 10 ∷ c.l ∷ c.e0 ∷ c.e1 ∷ []
+write_numbers (Err NoRoom) = 16 ∷ []
 
 -- "Answers: first 12 as for a step, then 10, then 16, the buffer is shorter than 10n − 5." The judgement is 12, 10 with
 -- its triple, or neither.
-abbrev pub write_by : Table → ℕ → Judgement → WriteAnswer
-write_by t room Unfit = Refused 12
-write_by t room (Clash l e0 e1) = Unsuitable l e0 e1
-write_by t room Sound = cond (ltb room (written_length t)) (Refused 16) (Written (written_length t))
+abbrev pub write_by : Table → ℕ → Judgement → Result ℕ WriteError
+write_by t room (Err u) = Err (unsound_error u)
+write_by t room (Ok sound) = cond (ltb room (written_length t)) (Err NoRoom) (Ok (written_length t))
 
-unfoldable pub write_answer : Table → ℕ → WriteAnswer
+unfoldable pub write_answer : Table → ℕ → Result ℕ WriteError
 write_answer t room = write_by t room (judging t)
 
 -- the same in numbers
 abbrev pub write_result : Table → ℕ → Judgement → List ℕ
-write_result t room Unfit = 12 ∷ []
-write_result t room (Clash l e0 e1) = 10 ∷ l ∷ e0 ∷ e1 ∷ []
-write_result t room Sound = cond (ltb room (written_length t)) (16 ∷ []) (0 ∷ written_length t ∷ [])
+write_result t room (Err NotFit) = 12 ∷ []
+write_result t room (Err (Clashing c)) = 10 ∷ c.l ∷ c.e0 ∷ c.e1 ∷ []
+write_result t room (Ok sound) = cond (ltb room (written_length t)) (16 ∷ []) (0 ∷ written_length t ∷ [])
 
 -- "Bytes past the written ones stay." A refusal writes nothing.
-abbrev pub write_buffer : WriteAnswer → Table → List ℕ → List ℕ
-write_buffer (Written c) t before = written t ++ drop c before
-write_buffer (Refused k) t before = before
-write_buffer (Unsuitable l e0 e1) t before = before
+abbrev pub write_buffer : Result ℕ WriteError → Table → List ℕ → List ℕ
+write_buffer (Ok c) t before = written t ++ drop c before
+write_buffer (Err e) t before = before
 
-pub record Writes (t : Table) (before : List ℕ) (a : WriteAnswer) (after : List ℕ) : Type 0 where
+pub record Writes (t : Table) (before : List ℕ) (a : Result ℕ WriteError) (after : List ℕ) : Type 0 where
   pub answer : a ≡ write_answer t (length before)
   pub numbers : write_numbers a ≡ write_result t (length before) (judging t)
   pub buffer : after ≡ write_buffer (write_answer t (length before)) t before
@@ -90,17 +99,16 @@ WrittenLength =
 -- made tables among them
 abbrev pub SoundWritten : Type 0
 SoundWritten =
-    (t : Table) (before : List ℕ) (a : WriteAnswer) (after : List ℕ) → fit t ≡ true → Suitable t.span (rows_of t)
+    (t : Table) (before : List ℕ) (a : Result ℕ WriteError) (after : List ℕ) → fit t ≡ true → Suitable t.span (rows_of t)
     → written_length t ≤ length before → Writes t before a after
-    → (a ≡ Written (written_length t)) × (after ≡ written t ++ drop (written_length t) before)
+    → (a ≡ Ok (written_length t)) × (after ≡ written t ++ drop (written_length t) before)
 
 -- "Reading what was written returns the table." Rows past n − 1 are not written, and are 0 in what reading returns: a
 -- table that has them 0, as one that was read or made, comes back as it was. A table by value has fifteen rows.
 abbrev pub ReadsBack : Type 0
 ReadsBack =
-    (t : Table) (before after : List ℕ) (c : ℕ) → length t.rows ≡ 15 → Writes t before (Written c) after →
-    let r = reading (take c after) in
-    (r.answer ≡ Accepted) × Whole r.table × SameTable r.table t × (Whole t → r.table ≡ t)
+    (t : Table) (before after : List ℕ) (c : ℕ) → length t.rows ≡ 15 → Writes t before (Ok c) after
+    → (u : Table) × (reading (take c after) ≡ Ok u) × Whole u × SameTable u t × (Whole t → u ≡ t)
 
 -- of any tables by value that are fit
 abbrev pub SameBytes : Type 0
@@ -111,10 +119,8 @@ SameBytes =
 -- "Two accepted tables, compared by n, N, m and rows 1 to n − 1, are equal exactly if their written bytes are."
 abbrev pub AcceptedBytes : Type 0
 AcceptedBytes =
-    (bytes others : List ℕ) → (reading bytes).answer ≡ Accepted → (reading others).answer ≡ Accepted →
-    let t = (reading bytes).table in
-    let u = (reading others).table in
-    SameTable t u ↔ (written t ≡ written u)
+    (bytes others : List ℕ) (t u : Table) → reading bytes ≡ Ok t → reading others ≡ Ok u
+    → SameTable t u ↔ (written t ≡ written u)
 
 -- the byte after the kind
 abbrev pub row_number : List ℕ → ℕ
@@ -144,11 +150,11 @@ sorted_file bytes =
 -- less room than it is long, 16 applies.
 abbrev pub FileSorted : Type 0
 FileSorted =
-    (bytes before after : List ℕ) (a : WriteAnswer) → ((i : ℕ) → get_or bytes i 0 < 256)
-    → (reading bytes).answer ≡ Accepted → length bytes ≤ length before → Writes (reading bytes).table before a after
-    → (a ≡ Written (length bytes)) × (after ≡ sorted_file bytes ++ drop (length bytes) before)
+    (bytes before after : List ℕ) (t : Table) (a : Result ℕ WriteError) → ((i : ℕ) → get_or bytes i 0 < 256)
+    → reading bytes ≡ Ok t → length bytes ≤ length before → Writes t before a after
+    → (a ≡ Ok (length bytes)) × (after ≡ sorted_file bytes ++ drop (length bytes) before)
 
 abbrev pub WritesSame : Type 0
 WritesSame =
-    (u t : Table) (before : List ℕ) (a : WriteAnswer) (after : List ℕ) → SameTable u t → Writes u before a after
+    (u t : Table) (before : List ℕ) (a : Result ℕ WriteError) (after : List ℕ) → SameTable u t → Writes u before a after
     → Writes t before a after

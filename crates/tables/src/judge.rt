@@ -1,21 +1,27 @@
-// Judging any table value: unfit, the first clash that shows it unsuitable, or sound.
-ghost use Rattle.std.specs.Prelude.{◌≡◌, ◌++◌, map, ◌+◌, ◌-◌, ◌≤◌, ◌<◌, length, get_or, take};
+// Judging any table value: not fit, the first clash that shows it unsuitable, or sound.
+ghost use Rattle.std.specs.Prelude.{◌≡◌, true, ◌++◌, map, ◌+◌, ◌-◌, ◌≤◌, ◌<◌, length, get_or, take};
 ghost use Rattle.span.specs.Word.{shifted};
-ghost use Rattle.tables.specs.Table.{code_rows};
+ghost use Rattle.tables.specs.Table.{code_rows, rows_of, fit};
 ghost use Rattle.tables.specs.Clash.{first_clash};
-ghost use Rattle.tables.specs.Judging.{judgement_of, judging};
+ghost use Rattle.tables.specs.Judging.{judging};
 
 use crate::table::{Table, is_fit};
 use span::bits::{mask, shift};
 use span::eliminate::least_relation;
 
+// What shows a table unsuitable: a shift l and two error blocks.
+#[derive(Clone, Copy, Debug, PartialEq, Eq)]
+pub struct Clash {
+    pub l: u64,
+    pub e0: u64,
+    pub e1: u64,
+}
+
 #[derive(Clone, Copy)]
-pub enum Judgement {
-    // Refusal 12.
-    Unfit,
-    // The least shift l, then the least error block e0, then the least e1 that show the table unsuitable.
-    Clash(u64, u64, u64),
-    Sound,
+pub(crate) enum Unsound {
+    NotFit,
+    // The first clash: the least shift l, then the least error block e0, then the least e1.
+    Clashing(Clash),
 }
 
 // Row i + 1 of the code: a stored one, or the parity's.
@@ -47,30 +53,42 @@ fn clash_words(rows: &[u64], n: usize, span: usize, l: usize) -> [u64; 32]
 }
 
 // The least clash of the first shift that has one.
-fn search(rows: &[u64], n: usize, span: usize) -> Judgement
+fn search(rows: &[u64], n: usize, span: usize) -> Option<Clash>
     requires { (2 ≤ n) × (n ≤ 16) × (span ≤ 64) × (n - 1 ≤ length rows.now) }
-    ensures { result ≡ judgement_of (first_clash span (code_rows n rows.now)) }
+    ensures { result ≡ first_clash span (code_rows n rows.now) }
 {
     let mut l = 1;
     while l < span {
         let words = clash_words(rows, n, span, l);
         let found = least_relation(&words, n + n, n);
         if let Some(c) = found {
-            return Judgement::Clash(l as u64, c >> (n as u64), c & mask(n));
+            return Some(Clash {
+                l: l as u64,
+                e0: c >> (n as u64),
+                e1: c & mask(n),
+            });
         }
         l += 1;
     }
-    Judgement::Sound
+    None
 }
 
-pub(crate) fn judge(t: Table) -> Judgement
+// The first clash of a fit table.
+pub(crate) fn first_clash(t: Table) -> Option<Clash>
+    requires { fit t ≡ true }
+    ensures { result ≡ first_clash t.span (rows_of t) }
+{
+    search(&t.rows, t.symbols, t.span)
+}
+
+pub(crate) fn judge(t: Table) -> Result<(), Unsound>
     ensures { result ≡ judging t }
 {
-    // The rows alone are lent: less is copied than of a lent table.
-    let copied = t.rows;
-    let rows: &[u64] = &copied;
-    if is_fit(t.symbols, t.span, t.depth, rows) {
-        return search(rows, t.symbols, t.span);
+    if !is_fit(t.symbols, t.span, t.depth, &t.rows) {
+        return Err(Unsound::NotFit);
     }
-    Judgement::Unfit
+    match first_clash(t) {
+        Some(clash) => Err(Unsound::Clashing(clash)),
+        None => Ok(()),
+    }
 }

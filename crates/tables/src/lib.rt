@@ -1,7 +1,7 @@
 // Tables of the code: fitness, judging, reading, writing and making.
 #![tactic(auto)]
 
-mod judge;
+pub mod judge;
 pub mod make;
 pub mod read;
 pub mod table;

@@ -1,8 +1,8 @@
 // The made tables: Berlekamp and Preparata's, from a triangle of bits.
 ghost use Rattle.std.specs.Prelude.{◌≡◌, ◌++◌, ◌-◌, ◌≤◌, ◌<◌, replicate};
-ghost use Rattle.tables.specs.Made.{columns, made_row, made_rows, Makes};
+ghost use Rattle.tables.specs.Made.{columns, made_row, made_rows, make_number, Makes};
 
-use crate::table::{Table, sizes_fit, zero_table};
+use crate::table::{Table, sizes_fit};
 use span::bits::{select, shift};
 
 // Columns 2 to 16 of the triangle, place j at bit j − 1.
@@ -10,17 +10,21 @@ const COLUMNS: [u64; 15] = [
     1, 3, 7, 13, 17, 35, 71, 237, 433, 851, 1687, 2365, 5873, 9155, 26183,
 ];
 
-#[derive(Clone, Copy)]
-pub enum MakeAnswer {
-    Made,
-    // Refusal 11.
+#[derive(Clone, Copy, Debug, PartialEq, Eq)]
+pub enum MakeError {
+    // n or m is out of range.
     OutOfRange,
 }
 
-#[derive(Clone, Copy)]
-pub struct Making {
-    pub answer: MakeAnswer,
-    pub table: Table,
+impl MakeError {
+    // The refusal's number, 11.
+    pub fn number(self) -> u64
+        ensures { result ≡ make_number self }
+    {
+        match self {
+            MakeError::OutOfRange => 11,
+        }
+    }
 }
 
 // Row j of the table for n: bit n − j, and bit n + k − 1 for each column k that has a one at place j.
@@ -50,24 +54,16 @@ fn made_rows(n: usize) -> [u64; 15]
     rows
 }
 
-pub fn make(symbols: usize, depth: usize) -> Making
+pub fn make(symbols: usize, depth: usize) -> Result<Table, MakeError>
     ensures { Makes symbols depth result }
 {
-    if sizes_fit(symbols, 2, depth) {
-        let rows = made_rows(symbols);
-        let table = Table {
-            symbols,
-            span: 2 * symbols,
-            depth,
-            rows,
-        };
-        return Making {
-            answer: MakeAnswer::Made,
-            table,
-        };
+    if !sizes_fit(symbols, 2, depth) {
+        return Err(MakeError::OutOfRange);
     }
-    Making {
-        answer: MakeAnswer::OutOfRange,
-        table: zero_table(),
-    }
+    Ok(Table {
+        symbols,
+        span: 2 * symbols,
+        depth,
+        rows: made_rows(symbols),
+    })
 }

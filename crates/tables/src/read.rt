@@ -4,28 +4,72 @@ ghost use Rattle.std.specs.Prelude.{◌≡◌, ◌≢◌, true, cond, not, ◌+�
 ghost use Rattle.std.specs.Prelude.{drop};
 ghost use Rattle.tables.specs.Table.{fit};
 ghost use Rattle.tables.specs.Format.{kind, size, row_word, all_given, unavailable, fault, place, after, refused};
-ghost use Rattle.tables.specs.Format.{parsed};
-ghost use Rattle.tables.specs.Reading.{read_parse, Read};
+ghost use Rattle.tables.specs.Format.{parsed, fault_number, fault_of};
+ghost use Rattle.tables.specs.Reading.{read_number, read_parse, Read};
 
-use crate::judge::{Judgement, judge};
+use crate::judge::{Clash, first_clash};
 use crate::table::{Table, sizes_fit, zero_table};
 use span::bits::mask;
 
-#[derive(Clone, Copy)]
-pub enum ReadAnswer {
-    Accepted,
-    // A number from 1 to 9, and the place.
-    Refused(u64, usize),
-    // The first clash: the least shift l, then the least error block e0, then the least e1 that show the table
-    // unsuitable: 10.
-    Unsuitable(u64, u64, u64),
+#[derive(Clone, Copy, Debug, PartialEq, Eq)]
+pub enum Fault {
+    // 1: the bytes end where a kind byte is due.
+    Ended,
+    // 2: the kind is not 0, 1 or 2.
+    Unknown,
+    // 3: the body is cut short.
+    Cut,
+    // 4: sizes are not the first record, or come again.
+    Misplaced,
+    // 5: n, N or m is out of range.
+    SizesOut,
+    // 6: the row number is not 1 to n − 1, or was given.
+    Misnumbered,
+    // 7: the row has a one at bit N or above.
+    TooLong,
+    // 8: the end comes before every row was given.
+    Missing,
+    // 9: bytes follow the end.
+    Followed,
 }
 
-// On every refusal the table is the zero table.
-#[derive(Clone, Copy)]
-pub struct Reading {
-    pub answer: ReadAnswer,
-    pub table: Table,
+impl Fault {
+    // The refusal's number.
+    fn number(self) -> u64
+        ensures { result ≡ fault_number self }
+    {
+        match self {
+            Fault::Ended => 1,
+            Fault::Unknown => 2,
+            Fault::Cut => 3,
+            Fault::Misplaced => 4,
+            Fault::SizesOut => 5,
+            Fault::Misnumbered => 6,
+            Fault::TooLong => 7,
+            Fault::Missing => 8,
+            Fault::Followed => 9,
+        }
+    }
+}
+
+#[derive(Clone, Copy, Debug, PartialEq, Eq)]
+pub enum ReadError {
+    // 1 to 9, and the place.
+    Refused(Fault, usize),
+    // The first clash: 10.
+    Unsuitable(Clash),
+}
+
+impl ReadError {
+    // The refusal's number.
+    pub fn number(self) -> u64
+        ensures { result ≡ read_number self }
+    {
+        match self {
+            ReadError::Refused(fault, _) => fault.number(),
+            ReadError::Unsuitable(_) => 10,
+        }
+    }
 }
 
 // How far a reading came: the table so far, without symbols before the sizes, and which rows were given, row j at
@@ -129,7 +173,7 @@ fn end_fault(left: usize, g: Progress) -> u64
 }
 
 // The first refusal of 1 to 9 that applies to the record at `at`, or 0.
-fn fault(bytes: &[u8], at: usize, g: Progress) -> u64
+fn record_fault(bytes: &[u8], at: usize, g: Progress) -> u64
     requires { (at ≤ length bytes.now) × (g.table.symbols ≤ 16) × (g.table.span ≤ 64) }
     ensures { result ≡ fault g (drop at bytes.now) }
 {
@@ -172,39 +216,46 @@ fn after(bytes: &[u8], at: usize, g: Progress) -> Progress
     Progress { table: t, given }
 }
 
-// A refusal of the record at `at`.
-fn refusal(number: u64, at: usize) -> Reading
-    requires { at + 1 < 2 ^ 64 }
-    ensures { result ≡ read_parse (refused number (place number at)) }
+// The fault of this number, 1 to 9.
+fn fault_of(number: u64) -> Fault
+    requires { (1 ≤ number) × (number ≤ 9) }
+    ensures { result ≡ fault_of number }
 {
-    let table = zero_table();
-    let place = if number == 9 { at + 1 } else { at };
-    Reading {
-        answer: ReadAnswer::Refused(number, place),
-        table,
+    match number {
+        1 => Fault::Ended,
+        2 => Fault::Unknown,
+        3 => Fault::Cut,
+        4 => Fault::Misplaced,
+        5 => Fault::SizesOut,
+        6 => Fault::Misnumbered,
+        7 => Fault::TooLong,
+        8 => Fault::Missing,
+        _ => Fault::Followed,
     }
 }
 
+// A refusal of the record at `at`.
+fn refusal(number: u64, at: usize) -> ReadError
+    requires { (at + 1 < 2 ^ 64) × (1 ≤ number) × (number ≤ 9) }
+    ensures { Err result ≡ read_parse (refused number (place number at)) }
+{
+    let place = if number == 9 { at + 1 } else { at };
+    ReadError::Refused(fault_of(number), place)
+}
+
 // The reading of a table that was parsed.
-fn judged(t: Table) -> Reading
+fn judged(t: Table) -> Result<Table, ReadError>
     requires { fit t ≡ true }
     ensures { result ≡ read_parse (parsed t) }
 {
-    let judgement = judge(t);
-    if let Judgement::Clash(l, e0, e1) = judgement {
-        return Reading {
-            answer: ReadAnswer::Unsuitable(l, e0, e1),
-            table: zero_table(),
-        };
-    }
-    Reading {
-        answer: ReadAnswer::Accepted,
-        table: t,
+    match first_clash(t) {
+        Some(clash) => Err(ReadError::Unsuitable(clash)),
+        None => Ok(t),
     }
 }
 
 // The records left to right, and then the judgement.
-pub fn read(bytes: &[u8]) -> Reading
+pub fn read(bytes: &[u8]) -> Result<Table, ReadError>
     ensures { Read bytes.now result }
 {
     let mut g = Progress {
@@ -212,14 +263,14 @@ pub fn read(bytes: &[u8]) -> Reading
         given: [false; 15],
     };
     let mut at = 0;
-    let mut number = fault(bytes, at, g);
+    let mut number = record_fault(bytes, at, g);
     while (number == 0) & (byte(bytes, at, 0) != 0) {
         g = after(bytes, at, g);
         at += size(byte(bytes, at, 0));
-        number = fault(bytes, at, g);
+        number = record_fault(bytes, at, g);
     }
     if number != 0 {
-        return refusal(number, at);
+        return Err(refusal(number, at));
     }
     judged(g.table)
 }

@@ -15,7 +15,7 @@ pub struct Table {
     pub rows: [u64; 15],
 }
 
-// The table that stands beside every refusal; refusal 12 applies to it.
+// The table that a reading begins from; refusal 12 applies to it.
 pub fn zero_table() -> Table
     ensures { result ≡ zero_table }
 {

@@ -2,19 +2,43 @@
 ghost use Rattle.std.specs.Prelude.{◌≡◌, ◌∷◌, ◌+◌, ◌-◌, ◌*◌, ◌≤◌, length};
 ghost use Rattle.std.proofs.lemmas.List.Edits.{sets};
 ghost use Rattle.tables.specs.Written.{bytes_of, sizes_record, row_records};
-ghost use Rattle.tables.specs.Writing.{ascending, write_by, write_buffer, Writes};
+ghost use Rattle.tables.specs.Writing.{ascending, unsound_error, write_number, write_by, write_buffer, Writes};
 
-use crate::judge::{Judgement, judge};
+use crate::judge::{Clash, Unsound, judge};
 use crate::table::Table;
 
-#[derive(Clone, Copy)]
-pub enum WriteAnswer {
-    // How many bytes were written.
-    Written(usize),
-    // 12 or 16.
-    Refused(u64),
+#[derive(Clone, Copy, Debug, PartialEq, Eq)]
+pub enum WriteError {
+    // The table is not fit: 12.
+    Unfit,
     // The first clash, as in reading: 10.
-    Unsuitable(u64, u64, u64),
+    Unsuitable(Clash),
+    // The buffer is shorter than the bytes of the table: 16.
+    NoRoom,
+}
+
+impl WriteError {
+    // The refusal's number.
+    pub fn number(self) -> u64
+        ensures { result ≡ write_number self }
+    {
+        match self {
+            WriteError::Unfit => 12,
+            WriteError::Unsuitable(_) => 10,
+            WriteError::NoRoom => 16,
+        }
+    }
+}
+
+impl From<Unsound> for WriteError {
+    ghost from_gives = { λ u e. e ≡ unsound_error u };
+
+    fn from(unsound: Unsound) -> WriteError {
+        match unsound {
+            Unsound::NotFit => WriteError::Unfit,
+            Unsound::Clashing(clash) => WriteError::Unsuitable(clash),
+        }
+    }
 }
 
 // The sizes record, first.
@@ -59,29 +83,25 @@ fn put_rows(t: Table, out: &mut [u8])
 }
 
 // All records of a sound table, or 16 if there is no room for them.
-fn put(t: Table, out: &mut [u8]) -> WriteAnswer
+fn put(t: Table, out: &mut [u8]) -> Result<usize, WriteError>
     requires { (1 ≤ t.symbols) × (t.symbols ≤ 16) × (t.span ≤ 64) × (t.depth ≤ 64) }
-    ensures answer { result ≡ write_by t (length out.old) Judgement.Sound }
+    ensures answer { result ≡ write_by t (length out.old) (Ok tt) }
     ensures buffer { out.new ≡ write_buffer result t out.old }
 {
     let length = 10 * t.symbols - 5;
     if out.len() < length {
-        return WriteAnswer::Refused(16);
+        return Err(WriteError::NoRoom);
     }
     put_sizes(t, out);
     put_rows(t, out);
     out[length - 1] = 0;
-    WriteAnswer::Written(length)
+    Ok(length)
 }
 
 // Judges the table, and writes it if it is sound and the buffer has room for it.
-pub fn write(t: Table, out: &mut [u8]) -> WriteAnswer
+pub fn write(t: Table, out: &mut [u8]) -> Result<usize, WriteError>
     ensures { Writes t out.old result out.new }
 {
-    let judgement = judge(t);
-    match judgement {
-        Judgement::Unfit => WriteAnswer::Refused(12),
-        Judgement::Clash(l, e0, e1) => WriteAnswer::Unsuitable(l, e0, e1),
-        Judgement::Sound => put(t, out),
-    }
+    judge(t)?;
+    put(t, out)
 }

@@ -1,7 +1,8 @@
 -- `export::write::burst_write`: the writing of the table of the numbers. Assumes nothing.
 use mathlib.Core.Path.{ap, subst, ◌∙◌}
 use Rattle.tables.specs.declared.table.Table.{Table}
-use Rattle.tables.specs.declared.write.WriteAnswer.{WriteAnswer}
+use Rattle.std.specs.Prelude.{ℕ, Result}
+use Rattle.tables.specs.declared.write.WriteError.{WriteError}
 use Rattle.tables.specs.Writing.{write_numbers}
 use Rattle.export.specs.Answers.{written_of}
 use Rattle.export.specs.Promises.{WritesBy}
@@ -12,6 +13,6 @@ returns c =
     let bytes = c.args.bytes.now in
     subst (λ (u : Table). WritesBy u bytes c.written.result c.write.new.out) c.table_of.ensures
     (record {
-      answer = c.written.ensures ∙ ap (λ (a : WriteAnswer). written_of (write_numbers a)) c.write.ensures.answer;
+      answer = c.written.ensures ∙ ap (λ (a : Result ℕ WriteError). written_of (write_numbers a)) c.write.ensures.answer;
       buffer = c.write.ensures.buffer;
     })

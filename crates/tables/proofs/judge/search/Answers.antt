@@ -8,7 +8,6 @@ use lib.ListN.{length}
 use Rattle.tables.specs.Code.{Clashes}
 use Rattle.tables.specs.Table.{code_rows}
 use Rattle.tables.proofs.Fit.{code-length}
-use Rattle.tables.specs.Judging.{judgement_of}
 use Rattle.tables.proofs.Clash.{LeastAt, first-at, first-clash, no-clash}
 use Rattle.tables.proofs.ClashWords.{clash_found, clash_missing, clash_counted}
 use Rattle.tables.proofs.judge.search.Goals as goal
@@ -46,7 +45,7 @@ returns-in-Some c =
     (subst (λ (k : ℕ). LeastAt N R c.loop-l.l (e / 2 ^ k) (e % 2 ^ k)) size
     (clash_found N R c.loop-l.l c.loop-l.invariant.0 (omega arith) e (sym same ∙ c.in-Some.is)))
     in
-    sym (ap judgement_of ((first-clash N R _ _ _).1 (first-at N R _ _ _ c.loop-l.invariant.1 least)))
+    sym ((first-clash N R _ _ _).1 (first-at N R _ _ _ c.loop-l.invariant.1 least))
 
 pub loop-l-preserved : goal.loop-l-preserved
 loop-l-preserved c =
@@ -65,5 +64,5 @@ loop-l-preserved c =
 pub returns : goal.returns
 returns c =
     let a = c.args in
-    sym (ap judgement_of ((no-clash a.span (code_rows a.n a.rows.now)).1
-    (λ k e0 e1 h. let z = h.shift_to in c.loop-l.invariant.1 k e0 e1 (omega arith) h)))
+    sym ((no-clash a.span (code_rows a.n a.rows.now)).1
+    (λ k e0 e1 h. let z = h.shift_to in c.loop-l.invariant.1 k e0 e1 (omega arith) h))

@@ -1,47 +1,36 @@
--- `tables::make::make`: the table of the definition, or the zero table. Assumes nothing.
+-- `tables::make::make`: the table of the definition, or refusal 11. Assumes nothing.
 use mathlib.Core.Path.{◌≡◌, sym, ◌∙◌}
-use mathlib.Core.Bool.{true, false}
-use mathlib.Core.List.{List, ◌++◌}
-use Prim.Native.Nat.{ℕ, ◌-◌, ◌*◌}
+use mathlib.Core.Bool.{true}
 use native.Mathlib.Omega.{arith}
-use lib.ListN.{replicate}
-use Rattle.tables.specs.declared.table.Table.{Table}
-use Rattle.tables.specs.declared.make.MakeAnswer.TheVariants.{Made, OutOfRange}
-use Rattle.tables.specs.Table.{table, zero_table, sizes_fit}
-use Rattle.tables.specs.Made.{columns, made_rows, made_table, making, Makes}
+use Rattle.tables.specs.Table.{sizes_fit}
+use Rattle.tables.specs.Made.{made_table, making}
 use Rattle.tables.proofs.Fit.{sizes-of}
 use Rattle.tables.proofs.make.make.Goals as goal
+use Rattle.tables.proofs.make.make.Goals.{Else-not-sizes_fit}
 
-pub made_rows-rows-requires : goal.made_rows-rows-requires
-made_rows-rows-requires c =
-    let z = sizes-of c.args.symbols 2 c.args.depth
-    (sym c.sizes_fit.ensures ∙ c.if-sizes_fit.true) in
-    omega arith
-
-pub overflow_mul-table : goal.overflow_mul-table
-overflow_mul-table c =
-    let z = sizes-of c.args.symbols 2 c.args.depth
-    (sym c.sizes_fit.ensures ∙ c.if-sizes_fit.true) in
-    omega arith
-
-made-is : (n m : ℕ) (rows : List ℕ) → sizes_fit n 2 m ≡ true → rows ≡ made_rows columns n (n - 1) ++ replicate (16 - n) 0
-    → Makes n m (record { answer = Made; table = table n (2 * n) m rows })
-unfolding making made_table
-made-is n m rows e f = record { answer = rw (e, f); numbers = rw e }
-
-refused-is : (n m : ℕ) (t : Table) → sizes_fit n 2 m ≡ false → t ≡ zero_table
-    → Makes n m (record { answer = OutOfRange; table = t })
+pub returns-then-not-sizes_fit : goal.returns-then-not-sizes_fit
 unfolding making
-refused-is n m t e f = record { answer = rw (e, f); numbers = rw e }
+returns-then-not-sizes_fit c =
+    let e = sym c.sizes_fit.ensures ∙ c.if-not-sizes_fit.true in
+    record { answer = rw e; numbers = rw e }
 
-pub returns-then-sizes_fit : goal.returns-then-sizes_fit
-returns-then-sizes_fit c =
+inside : (c : goal.Else-not-sizes_fit) → sizes_fit c.args.symbols 2 c.args.depth ≡ true
+inside c = sym c.sizes_fit.ensures ∙ c.if-not-sizes_fit.false
+
+pub overflow_mul-result : goal.overflow_mul-result
+overflow_mul-result c =
     let a = c.args in
-    made-is a.symbols a.depth c.made_rows-rows.result
-    (sym c.sizes_fit.ensures ∙ c.if-sizes_fit.true) c.made_rows-rows.ensures
+    let z = sizes-of a.symbols 2 a.depth (inside (goal.at.overflow_mul-result c).Else-not-sizes_fit) in
+    omega arith
+
+pub made_rows-requires : goal.made_rows-requires
+made_rows-requires c =
+    let a = c.args in
+    let z = sizes-of a.symbols 2 a.depth (inside (goal.at.made_rows-requires c).Else-not-sizes_fit) in
+    (omega arith, omega arith)
 
 pub returns : goal.returns
+unfolding making made_table
 returns c =
-    let a = c.args in
-    refused-is a.symbols a.depth c.zero_table.result (sym c.sizes_fit.ensures ∙ c.if-sizes_fit.false)
-    c.zero_table.ensures
+    let e = inside (goal.at.returns c).Else-not-sizes_fit in
+    record { answer = rw (e, c.made_rows.ensures); numbers = rw e }

@@ -12,12 +12,13 @@ use Rattle.tables.proofs.Fit.{and_left, and_right}
 use Rattle.tables.proofs.Format.{fault-sound, sound-whole, size-some, reaches-start, reaches-refused}
 use Rattle.tables.proofs.Format.{reaches_done, reaches_next}
 use Rattle.tables.proofs.Progress.{Good, good-begun, good-after, good-bounds, parse-fit}
-use Rattle.tables.proofs.Reading.{read_by}
+use Rattle.std.specs.Prelude.{Err}
+use Rattle.tables.proofs.Reading.{fault-range, read_by}
 use Rattle.tables.proofs.read.read.Goals as goal
 use Rattle.tables.proofs.read.read.Goals.{In-loop-number, After-size-at, Else-number-ne0}
 
-pub fault-number-requires : goal.fault-number-requires
-fault-number-requires c = rw c.zero_table.ensures (omega arith, omega arith, omega arith)
+pub record_fault-number-requires : goal.record_fault-number-requires
+record_fault-number-requires c = rw c.zero_table.ensures (omega arith, omega arith, omega arith)
 
 pub loop-number-init : goal.loop-number-init
 loop-number-init c =
@@ -26,7 +27,7 @@ loop-number-init c =
       omega arith,
       good-begun,
       reaches-start c.args.bytes.now,
-      rw z at c.fault-number.ensures,
+      rw z at c.record_fault-number.ensures,
     )
 
 -- a record that the loop goes on with: it is sound, no end, and whole
@@ -74,9 +75,9 @@ overflow_add-at c =
     let n = long c in
     omega arith
 
-pub fault-number-requires-in-loop-number : goal.fault-number-requires-in-loop-number
-fault-number-requires-in-loop-number c =
-    let i = inside (goal.at.fault-number-requires-in-loop-number c).In-loop-number in
+pub record_fault-number-requires-in-loop-number : goal.record_fault-number-requires-in-loop-number
+record_fault-number-requires-in-loop-number c =
+    let i = inside (goal.at.record_fault-number-requires-in-loop-number c).In-loop-number in
     let n = long c in
     let b = good-bounds c.after-g.result (good c) in
     omega arith
@@ -99,19 +100,27 @@ loop-number-preserved c =
       good (goal.at.loop-number-preserved c).After-size-at,
       rw (c.after-g.ensures, n) (reaches_next c.args.bytes.now c.loop-number.at c.loop-number.g
           c.loop-number.invariant.2 (omega arith) (sound t) (goes_on t)),
-      c.fault-number-in-loop-number.ensures,
+      c.record_fault-number-in-loop-number.ensures,
     )
 
 -- the loop ends at a fault, or at an end
 ended : (n k : ℕ) → n ≡ 0 → eqb n 0 && not (eqb k 0) ≡ false → k ≡ 0
 ended n k z e = eqb-true k 0 (not-false _ (rw z at e))
 
+pub refusal-requires : goal.refusal-requires
+refusal-requires c =
+    let l = c.loop-number in
+    let s = drop l.at c.args.bytes.now in
+    let range = fault-range l.g s (λ e. c.if-number-ne0.true (l.invariant.3 ∙ e)) in
+    let len = length-drop l.at c.args.bytes.now in
+    (omega arith, omega arith, omega arith)
+
 pub returns-then-number-ne0 : goal.returns-then-number-ne0
 returns-then-number-ne0 c =
     let bytes = c.args.bytes.now in
     let l = c.loop-number in
     let n : fault l.g (drop l.at bytes) ≢ 0 = λ e. c.if-number-ne0.true (l.invariant.3 ∙ e) in
-    read_by bytes (refused l.number (place l.number l.at)) c.refusal.result
+    read_by bytes (refused l.number (place l.number l.at)) (Err c.refusal.result)
     (rw l.invariant.3 (reaches-refused bytes l.at l.g l.invariant.2 n)) c.refusal.ensures
 
 -- the bytes say the table that the loop has

@@ -1,13 +1,13 @@
--- `tables::read::refusal`: the answer beside the zero table; the place by whether the number is 9. Assumes nothing.
+-- `tables::read::refusal`: the place by whether the number is 9. Assumes nothing.
 use native.Mathlib.Omega.{arith}
 use borrow.Author.Tests.{eq-eqb, ne_eqb}
 use Rattle.tables.specs.Format.{place}
 use Rattle.tables.proofs.read.refusal.Goals as goal
+use Rattle.tables.proofs.read.refusal.Goals.{then-number-eq9, else-number-eq9}
 
-pub returns-then-number-eq9 : goal.returns-then-number-eq9
+pub returns : goal.returns
 unfolding place
-returns-then-number-eq9 c = rw (eq-eqb c.args.number 9 (omega arith), c.zero_table-table.ensures)
-
-pub returns-else-number-eq9 : goal.returns-else-number-eq9
-unfolding place
-returns-else-number-eq9 c = rw (ne_eqb c.args.number 9 (omega arith), c.zero_table-table.ensures)
+returns c = elim c.if-number-eq9.branch [
+  | then-number-eq9 w ↦ rw (c.fault_of.ensures, w.place-is, eq-eqb c.args.number 9 (omega arith))
+  | else-number-eq9 w ↦ rw (c.fault_of.ensures, w.place-is, ne_eqb c.args.number 9 (omega arith))
+]

@@ -5,8 +5,8 @@ use lib.ListN.{length, drop, length-drop}
 use Rattle.tables.specs.Format.{kind}
 use Rattle.tables.proofs.Format.{header, fault-header, Passed, header-passed, passed-sizes, passed-row}
 use Rattle.tables.proofs.Format.{passed-end, end-placed}
-use Rattle.tables.proofs.read.fault.Goals as goal
-use Rattle.tables.proofs.read.fault.Goals.{After-header_fault-header, Else-header-ne0}
+use Rattle.tables.proofs.read.record_fault.Goals as goal
+use Rattle.tables.proofs.read.record_fault.Goals.{After-header_fault-header, Else-header-ne0}
 
 -- the answer of the first faults, of the record that begins here
 tested : (z : goal.After-header_fault-header)
