@@ -14,13 +14,14 @@ use Rattle.std.specs.Prelude.{Result, Ok, Err}
 use Rattle.tables.specs.declared.make.MakeError.{MakeError}
 use Rattle.tables.specs.declared.read.ReadError.{ReadError}
 use Rattle.tables.specs.declared.read.ReadError.TheVariants.{Refused, Unsuitable}
+use Rattle.tables.specs.declared.judge.Unsound.{Unsound}
 use Rattle.tables.specs.declared.judge.Unsound.TheVariants.{NotFit, Clashing}
 use Rattle.tables.specs.declared.write.WriteError.{WriteError}
 use Rattle.tables.specs.declared.write.WriteError.TheVariants.{NoRoom}
 use Rattle.tables.specs.Code.{Suitable}
 use Rattle.tables.specs.Table.{rows_of, sizes_fit, fit, Whole, SameTable}
 use Rattle.tables.specs.Reading.{read_numbers, reading}
-use Rattle.tables.specs.Judging.{Judgement, judging, Judges}
+use Rattle.tables.specs.Judging.{judging, Judges}
 use Rattle.tables.specs.Writing.{written_length, write_numbers, write_by, write_answer, write_buffer, Writes}
 use Rattle.tables.specs.Made.{columns, triangle_rows, made_table, making, made_numbers}
 use Rattle.tables.specs.Format.{fault_number}
@@ -113,7 +114,7 @@ module _ (t : Table) (before : List ℕ) where
         short = λ x y z. absurd (x refl);
       }
 
-  write-so : (j : Judgement) → Judges t j → Told (write_by t (length before) j)
+  write-so : (j : Result (Unit {0}) Unsound) → Judges t j → Told (write_by t (length before) j)
   write-so (Err NotFit) s = λ after m. record {
     done = λ z. absurd (omega arith);
     left = λ z. m;

@@ -1,13 +1,10 @@
 -- What the 18 numbers hold of a table. Assumes nothing.
 use mathlib.Core.Path.{◌≡◌, refl}
-use mathlib.Core.Logic.{◌≢◌}
 use mathlib.Core.List.{List}
 use Prim.Native.Nat.{ℕ}
-use borrow.Author.Tests.{eq-eqb, ne_eqb}
 use lib.ListN.{drop}
-use Rattle.tables.specs.declared.table.Table.{Table}
 use Rattle.tables.specs.Lent.{with_rows}
-use Rattle.export.specs.Numbers.{table_of, sizes_of, numbers_of, given_back}
+use Rattle.export.specs.Numbers.{table_of, sizes_of, numbers_of}
 use Rattle.export.specs.Numbers.{TableBack}
 
 pub table-back : TableBack

@@ -13,7 +13,6 @@ use Rattle.span.proofs.Combination.{below-append}
 use Rattle.tables.specs.declared.table.Table.{Table}
 use Rattle.tables.specs.Code.{Suitable}
 use Rattle.tables.specs.Table.{rows_of, fit, info_rows}
-use Rattle.tables.specs.Reading.{reading}
 use Rattle.tables.proofs.Reading.{accepted-suitable}
 use Rattle.tables.proofs.Made.{made}
 use Rattle.link.specs.Recovery.{Origin}

@@ -6,7 +6,7 @@ use link::code_batch::code_batch;
 use link::decode_batch::decode_batch;
 use link::start::{start_coder, start_decoder};
 use std::{array, fmt, io};
-use tables::make::{MakeAnswer, make};
+use tables::make::make;
 use tables::table::Table;
 
 // n: twelve bits of information and the parity.
@@ -147,10 +147,8 @@ fn start(rt: &impl Print, t: Table) -> io::Result<()> {
 
 // Nothing is refused with these numbers. The answers are looked at all the same.
 fn main(rt: HostRuntime) -> io::Result<()> {
-    let made = make(SYMBOLS, DEPTH);
-    let answer = made.answer;
-    match answer {
-        MakeAnswer::Made => start(&rt, made.table),
-        MakeAnswer::OutOfRange => println!(&rt; "refused 11"),
+    match make(SYMBOLS, DEPTH) {
+        Ok(table) => start(&rt, table),
+        Err(error) => println!(&rt; "refused {}", error.number()),
     }
 }

@@ -175,8 +175,7 @@ module _ (N : ℕ) (rows : List ℕ) where
   first_some x e =
       let (l, from, to, here, below) = subst (Finds (clash_at N rows) 1 (N - 1)) e first_finds in
       let (e0, e1, same, least) = at_some l x from (omega arith) here in
-      let back : triple l e0 e1 ≡ x = sym same in
-      subst FirstIs back (first-at N rows l e0 e1 (λ k d0 d1 h other.
+      subst FirstIs (sym same) (first-at N rows l e0 e1 (λ k d0 d1 h other.
       let from-k = other.shift_from in
       at_none k (below k (omega arith) h) d0 d1 other) least)
 

@@ -1,13 +1,14 @@
 -- The judgement of a table is the one that is right: what the search finds, by its order. Assumes nothing.
 use mathlib.Core.Path.{◌≡◌, refl, sym, ap, ◌∙◌, subst}
 use mathlib.Core.Bool.{Bool, true, false, cond}
-use Rattle.std.specs.Prelude.{Option, None, Some, Ok, Err}
+use Rattle.std.specs.Prelude.{Option, None, Some, Result, Ok, Err}
 use Rattle.tables.specs.declared.table.Table.{Table}
 use Rattle.tables.specs.declared.judge.Clash.{Clash}
+use Rattle.tables.specs.declared.judge.Unsound.{Unsound}
 use Rattle.tables.specs.declared.judge.Unsound.TheVariants.{NotFit, Clashing}
 use Rattle.tables.specs.Clash.{first_clash}
 use Rattle.tables.specs.Table.{rows_of, fit}
-use Rattle.tables.specs.Judging.{Judgement, judgement_of, judging, Judges, Judged}
+use Rattle.tables.specs.Judging.{judgement_of, judging, Judges, Judged}
 use Rattle.tables.proofs.Clash.{first-clash, no-clash}
 
 module _ (t : Table) where
@@ -26,7 +27,7 @@ module _ (t : Table) where
   judges true e = subst (Judges t) (sym (judging_by true e)) (judges-fit e clash refl)
   judges false e = subst (Judges t) (sym (judging_by false e)) e
 
-  judges-one : (j : Judgement) → Judges t j → judging t ≡ j
+  judges-one : (j : Result (Unit {0}) Unsound) → Judges t j → judging t ≡ j
   judges-one (Err NotFit) f = judging_by false f
   judges-one (Err (Clashing c)) (f, first) =
       judging_by true f ∙ ap judgement_of ((first-clash t.span (rows_of t) c.l c.e0 c.e1).1 first)

@@ -11,13 +11,14 @@ use lib.Dec.{ltb, eqb}
 use lib.ListN.{length, drop, length-drop}
 use Rattle.tables.specs.declared.table.Table.{Table}
 use Rattle.tables.specs.declared.judge.Clash.{Clash}
+use Rattle.tables.specs.declared.judge.Unsound.{Unsound}
 use Rattle.tables.specs.declared.judge.Unsound.TheVariants.{NotFit, Clashing}
 use Rattle.tables.specs.declared.read.ReadError.{ReadError}
 use Rattle.tables.specs.declared.read.ReadError.TheVariants.{Refused, Unsuitable}
 use Rattle.tables.specs.Code.{Suitable}
 use Rattle.tables.specs.Clash.{triple, first_clash, First}
 use Rattle.tables.specs.Table.{rows_of, fit}
-use Rattle.tables.specs.Judging.{Judgement, judging}
+use Rattle.tables.specs.Judging.{judging}
 use Rattle.tables.specs.declared.read.Progress.{Progress}
 use Rattle.tables.specs.Format.{kind, size, ended, unknown, cut, misplaced, sizes_out, misnumbered, too_long}
 use Rattle.tables.specs.Format.{missing, followed, fault, place, after, begun, Parse, refused, parsed, parse_from}
@@ -113,7 +114,7 @@ clash_read t c e =
     ap (read_table t) ((first-clash t.span (rows_of t) c.l c.e0 c.e1).1 ((judged t (Err (Clashing c))).0 e).1)
 
 -- a fit table that has no clash
-pub sound-read : (t : Table) (j : Judgement) → fit t ≡ true → judging t ≡ j
+pub sound-read : (t : Table) (j : Result (Unit {0}) Unsound) → fit t ≡ true → judging t ≡ j
     → ((c : Clash) → j ≡ Err (Clashing c) → ⊥)
     → read_parse (parsed t) ≡ Ok t
 sound-read t (Err NotFit) f e n = absurd (false≢true (sym ((judged t (Err NotFit)).0 e) ∙ f))

@@ -10,12 +10,13 @@ use lib.ListN.{length, get_or, take, drop, length-append}
 use lib.Seq.{take_at, drop-append-add, drop-append_seam}
 use Rattle.tables.specs.declared.table.Table.{Table}
 use Rattle.std.specs.Prelude.{Result, Ok, Err}
+use Rattle.tables.specs.declared.judge.Unsound.{Unsound}
 use Rattle.tables.specs.declared.judge.Unsound.TheVariants.{NotFit, Clashing}
 use Rattle.tables.specs.declared.write.WriteError.{WriteError}
 use Rattle.tables.specs.declared.write.WriteError.TheVariants.{NoRoom}
 use Rattle.tables.specs.Code.{Suitable}
 use Rattle.tables.specs.Table.{table, info_rows, code_rows, rows_of, fit, SameTable}
-use Rattle.tables.specs.Judging.{Judgement, judging}
+use Rattle.tables.specs.Judging.{judging}
 use Rattle.tables.specs.Format.{parsed, parse}
 use Rattle.tables.specs.Reading.{reading}
 use Rattle.tables.specs.Written.{bytes_of, sizes_record, row_record, row_records, EachOnce}
@@ -34,7 +35,7 @@ use Rattle.tables.proofs.Sorted.{sorted_numbers, sorted-map, sorted-length, each
 -- ---- by the judgement
 
 -- the answer that is given, its numbers, and the buffer
-pub writes-by : (t : Table) (before : List ℕ) (j : Judgement) (a : Result ℕ WriteError) (after : List ℕ) → j ≡ judging t
+pub writes-by : (t : Table) (before : List ℕ) (j : Result (Unit {0}) Unsound) (a : Result ℕ WriteError) (after : List ℕ) → j ≡ judging t
     → a ≡ write_by t (length before) j → after ≡ write_buffer a t before → Writes t before a after
 unfolding write_answer
 writes-by t before j a after right e b =
@@ -51,7 +52,7 @@ writes-by t before j a after right e b =
     room-due true = refl
     room-due false = refl
 
-    numbers-due : (j : Judgement) → write_numbers (write_by t (length before) j) ≡ write_result t (length before) j
+    numbers-due : (j : Result (Unit {0}) Unsound) → write_numbers (write_by t (length before) j) ≡ write_result t (length before) j
     numbers-due (Err NotFit) = refl
     numbers-due (Err (Clashing c)) = refl
     numbers-due (Ok sound) = room-due (ltb (length before) (written_length t))
@@ -111,7 +112,7 @@ stored t before after c w = go (judging t) refl w.answer
     counted true e = let z : ◌≡◌ {A = ℕ} 0 1 = cc in absurd (omega arith)
     counted false e = cc
 
-    go : (j : Judgement) → judging t ≡ j → Ok c ≡ write_by t (length before) j → Stored t before c after
+    go : (j : Result (Unit {0}) Unsound) → judging t ≡ j → Ok c ≡ write_by t (length before) j → Stored t before c after
     go (Err u) q e = let z : ◌≡◌ {A = ℕ} 0 1 = cc in absurd (omega arith)
     go (Ok sound) q e =
         let n : c ≡ written_length t = counted (ltb (length before) (written_length t)) e in
@@ -250,7 +251,7 @@ module _ (n N m : ℕ) (us ts : List ℕ) (e : take (n - 1) us ≡ take (n - 1) 
   unfolding write_answer
   answer-same room = ap (write_by (table n N m us) room) judging-same ∙ by-same (judging (table n N m ts))
     where
-      by-same : (j : Judgement) → write_by (table n N m us) room j ≡ write_by (table n N m ts) room j
+      by-same : (j : Result (Unit {0}) Unsound) → write_by (table n N m us) room j ≡ write_by (table n N m ts) room j
       by-same (Err u) = refl
       by-same (Ok sound) = refl
 

@@ -1,6 +1,5 @@
 -- What judging a table value says.
 --
---   Judgement        what judging answers
 --   judgement_of o   what the search for a clash says of a fit table: the clash that it found, or sound
 --   judging t        the judgement of t: not fit, its first clash, or sound
 --   Judges t j       the judgement j is right of t: not fit; fit, and the triple is the first that shows it unsuitable;
@@ -15,21 +14,18 @@ use Rattle.tables.specs.Code.{Suitable}
 use Rattle.tables.specs.Clash.{first_clash, First}
 use Rattle.tables.specs.Table.{rows_of, fit}
 
-abbrev pub Judgement : Type 0
-Judgement = Result (Unit {0}) Unsound
-
-abbrev pub judgement_of : Option Clash → Judgement
+abbrev pub judgement_of : Option Clash → Result (Unit {0}) Unsound
 judgement_of None = Ok tt
 judgement_of (Some c) = Err (Clashing c)
 
 -- 12, the triple of 10, or neither
-unfoldable pub judging : Table → Judgement
+unfoldable pub judging : Table → Result (Unit {0}) Unsound
 judging t = cond (fit t) (judgement_of (first_clash t.span (rows_of t))) (Err NotFit)
 
-abbrev pub Judges : Table → Judgement → Type 0
+abbrev pub Judges : Table → Result (Unit {0}) Unsound → Type 0
 Judges t (Err NotFit) = fit t ≡ false
 Judges t (Err (Clashing c)) = (fit t ≡ true) × First t.span (rows_of t) c.l c.e0 c.e1
 Judges t (Ok sound) = (fit t ≡ true) × Suitable t.span (rows_of t)
 
 abbrev pub Judged : Type 0
-Judged = (t : Table) (j : Judgement) → (judging t ≡ j) ↔ Judges t j
+Judged = (t : Table) (j : Result (Unit {0}) Unsound) → (judging t ≡ j) ↔ Judges t j

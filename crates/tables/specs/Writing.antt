@@ -35,7 +35,7 @@ use Rattle.tables.specs.declared.write.WriteError.{WriteError}
 use Rattle.tables.specs.declared.write.WriteError.TheVariants.{Unfit, Unsuitable, NoRoom}
 use Rattle.tables.specs.Code.{Suitable}
 use Rattle.tables.specs.Table.{rows_of, fit, Whole, SameTable}
-use Rattle.tables.specs.Judging.{Judgement, judging}
+use Rattle.tables.specs.Judging.{judging}
 use Rattle.tables.specs.Reading.{reading}
 use Rattle.tables.specs.Written.{sizes_record, row_records}
 
@@ -67,7 +67,7 @@ write_numbers (Err NoRoom) = 16 ∷ []
 
 -- "Answers: first 12 as for a step, then 10, then 16, the buffer is shorter than 10n − 5." The judgement is 12, 10 with
 -- its triple, or neither.
-abbrev pub write_by : Table → ℕ → Judgement → Result ℕ WriteError
+abbrev pub write_by : Table → ℕ → Result (Unit {0}) Unsound → Result ℕ WriteError
 write_by t room (Err u) = Err (unsound_error u)
 write_by t room (Ok sound) = cond (ltb room (written_length t)) (Err NoRoom) (Ok (written_length t))
 
@@ -75,7 +75,7 @@ unfoldable pub write_answer : Table → ℕ → Result ℕ WriteError
 write_answer t room = write_by t room (judging t)
 
 -- the same in numbers
-abbrev pub write_result : Table → ℕ → Judgement → List ℕ
+abbrev pub write_result : Table → ℕ → Result (Unit {0}) Unsound → List ℕ
 write_result t room (Err NotFit) = 12 ∷ []
 write_result t room (Err (Clashing c)) = 10 ∷ c.l ∷ c.e0 ∷ c.e1 ∷ []
 write_result t room (Ok sound) = cond (ltb room (written_length t)) (16 ∷ []) (0 ∷ written_length t ∷ [])

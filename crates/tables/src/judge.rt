@@ -18,7 +18,7 @@ pub struct Clash {
 }
 
 #[derive(Clone, Copy)]
-pub(crate) enum Unsound {
+pub enum Unsound {
     NotFit,
     // The first clash: the least shift l, then the least error block e0, then the least e1.
     Clashing(Clash),

@@ -1,6 +1,6 @@
 -- `report::opening::after_header`: a made table is fit, and no larger than N = 32; otherwise the refusal. Assumes
 -- nothing.
-use mathlib.Core.Path.{◌≡◌, sym, ◌∙◌}
+use mathlib.Core.Path.{sym, ◌∙◌}
 use Rattle.report.proofs.Opens.{made-fits, opens-made, opens-refused}
 use Rattle.report.proofs.opening.after_header.Goals as goal
 
