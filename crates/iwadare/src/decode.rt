@@ -7,10 +7,14 @@ ghost use Rattle.iwadare.specs.Refusals.{decoder_malformed, decoder_fault};
 ghost use Rattle.iwadare.specs.Decoder.{flips_symbol1, flips_symbol0, terms_next, delivery, decoder_next, Decodes};
 
 use crate::code::image;
-use crate::memory::{DELAY, DELAYED_BOUND, PENDING_BOUND, TERMS_BOUND};
+use crate::memory::{
+    BACK_15, DECODER_WORDS as WORDS, DELAY, DELAYED_BOUND, FILL, OLDEST, PENDING, PENDING_BOUND,
+    RECEIVED_BOUND, TERMS, TERMS_BOUND,
+};
 use link::refusal::Refusal;
 use link::stream::push;
 use span::bits::select;
+use span::dual::together;
 
 // The weight of the newest of 13 terms.
 const NEWEST: u64 = 1 << 12;
@@ -27,38 +31,30 @@ struct Verdict {
 
 // Whether a delayed block is 4 or more: their ones together are, since 4 is a power of two, and no branch is taken for
 // each.
-fn delayed_above(state: &[u64]) -> bool
-    requires { length state.now ≡ 21 }
-    ensures { result ≡ some_above 4 state.now 3 18 }
+fn delayed_above(memory: &[u64; WORDS]) -> bool
+    ensures { result ≡ some_above 4 memory.now 3 18 }
 {
-    let mut seen: u64 = 0;
-    let mut i = 0;
-    while i < 18 {
-        seen |= state[3 + i];
-        i += 1;
-    }
-    DELAYED_BOUND <= seen
+    DELAYED_BOUND <= together(&memory[OLDEST..])
 }
 
 // The condition of 14.
-fn malformed(state: &[u64]) -> bool
-    requires { length state.now ≡ 21 }
-    ensures { result ≡ decoder_malformed state.now }
+fn malformed(memory: &[u64; WORDS]) -> bool
+    ensures { result ≡ decoder_malformed memory.now }
 {
-    DELAY < state[0] || PENDING_BOUND <= state[1] || TERMS_BOUND <= state[2] || delayed_above(state)
+    DELAY < memory[FILL]
+        || PENDING_BOUND <= memory[PENDING]
+        || TERMS_BOUND <= memory[TERMS]
+        || delayed_above(memory)
 }
 
-// Whether one of refusals 13 to 15 applies: the first of them.
-fn fault(state: &[u64], received: u64) -> Result<(), Refusal>
-    ensures { result ≡ settled (decoder_fault state.now received) }
+// Whether one of refusals 14 and 15 applies: the first of them. 13 cannot, of 21 words.
+fn fault(memory: &[u64; WORDS], received: u64) -> Result<(), Refusal>
+    ensures { result ≡ settled (decoder_fault memory.now received) }
 {
-    if state.len() != 21 {
-        return Err(Refusal::WrongLength);
-    }
-    if malformed(state) {
+    if malformed(memory) {
         return Err(Refusal::MalformedMemory);
     }
-    if 8 <= received {
+    if RECEIVED_BOUND <= received {
         return Err(Refusal::BlockTooLarge);
     }
     Ok(())
@@ -106,44 +102,40 @@ fn next_fill(fill: u64) -> u64
 
 // The block 15 back, flipped in the symbol of that weight. Where that is 0 nothing is written, so that the word is not
 // read just after a write, when the blocks move.
-fn flip(state: &mut [u64], weight: u64)
-    requires { length state.old ≡ 21 }
-    ensures { state.new ≡ set state.old 6 (get_or state.old 6 0 ⊕ weight) }
+fn flip(memory: &mut [u64; WORDS], weight: u64)
+    ensures { memory.new ≡ set memory.old 6 (get_or memory.old 6 0 ⊕ weight) }
 {
-    if weight == 0 {
-        return;
+    if weight != 0 {
+        memory[BACK_15] ^= weight;
     }
-    state[6] = state[6] ^ weight;
 }
 
 // The memory after a step: the block 15 back is flipped by the weight, w halved stays, and the delayed blocks move.
-fn keep(state: &mut [u64], w: u64, terms: u64, weight: u64, youngest: u64)
-    requires { length state.old ≡ 21 }
-    ensures { state.new ≡ fill_next (fill_of state.old) ∷ w / 2 ∷ terms
-        ∷ (drop 4 (set state.old 6 (get_or state.old 6 0 ⊕ weight)) ++ (youngest ∷ [])) }
+fn keep(memory: &mut [u64; WORDS], w: u64, terms: u64, weight: u64, youngest: u64)
+    ensures { memory.new ≡ fill_next (fill_of memory.old) ∷ w / 2 ∷ terms
+        ∷ (drop 4 (set memory.old 6 (get_or memory.old 6 0 ⊕ weight)) ++ (youngest ∷ [])) }
 {
-    flip(state, weight);
-    state[0] = next_fill(state[0]);
-    state[1] = w >> 1;
-    state[2] = terms;
-    push(state, 3, youngest);
+    flip(memory, weight);
+    memory[FILL] = next_fill(memory[FILL]);
+    memory[PENDING] = w >> 1;
+    memory[TERMS] = terms;
+    push(memory, OLDEST, youngest);
 }
 
 // A step that no refusal applies to. The two generators are those of the two low bits, the received information.
-fn taken(state: &mut [u64], received: u64) -> Option<u16>
-    requires { decoder_fault state.old received ≡ 0 }
-    ensures answer { Ok result ≡ delivery state.old received }
-    ensures memory { state.new ≡ decoder_next state.old received }
+fn taken(memory: &mut [u64; WORDS], received: u64) -> Option<u16>
+    requires { decoder_fault memory.old received ≡ 0 }
+    ensures answer { Ok result ≡ delivery memory.old received }
+    ensures memory { memory.new ≡ decoder_next memory.old received }
 {
-    let fill = state[0];
-    let w = state[1] ^ image(received);
-    let v = judged(state[2] + select(NEWEST, w ^ (received >> 2)));
-    let oldest = state[3] ^ v.symbol0;
-    keep(state, w, v.terms, v.symbol1, received % 4);
+    let [fill, pending, terms, oldest, ..] = *memory;
+    let w = pending ^ image(received);
+    let v = judged(terms + select(NEWEST, w ^ (received >> 2)));
+    keep(memory, w, v.terms, v.symbol1, received % 4);
     if fill < DELAY {
         return None;
     }
-    Some(oldest as u16)
+    Some((oldest ^ v.symbol0) as u16)
 }
 
 // None is "nothing yet". A delivery is the oldest delayed block, flipped where it is to be: over a run, that of the
@@ -151,7 +143,10 @@ fn taken(state: &mut [u64], received: u64) -> Option<u16>
 pub fn decode(state: &mut [u64], received: u16) -> Result<Option<u16>, Refusal>
     ensures { Decodes state.old received result state.new }
 {
+    let Some(memory) = state.as_mut_array() else {
+        return Err(Refusal::WrongLength);
+    };
     let block = received as u64;
-    fault(state, block)?;
-    Ok(taken(state, block))
+    fault(memory, block)?;
+    Ok(taken(memory, block))
 }

@@ -2,6 +2,7 @@
 -- the turn's stream below theirs. Assumes nothing.
 --
 --   above-none, above-or     the ones of words together, of no word and of one more
+--   above-together           and of a part of the words
 --   some-none, none_above    no word is above a bound
 --   coder-fine, fine-coder   the coder's
 --   Fine, decoder-fine, fine-decoder   the decoder's
@@ -17,6 +18,7 @@ use lib.Bits.{bit_or}
 use lib.Dec.{leb, ltb}
 use lib.ListN.{get_or}
 use lib.Pow.{pow_pos}
+use Rattle.span.specs.Dual.{together}
 use Rattle.span.proofs.Masks.{or_above}
 use Rattle.tables.specs.declared.table.Table.{Table}
 use Rattle.link.specs.Memory.{turn_of, fill_of, delay_of, stream_at, pending_at, pending_of, syndrome_of, delayed_of}
@@ -34,6 +36,16 @@ unfolding some_above
 above-or k seen s from i e =
     let w = get_or s (from + i) 0 in
     or_above k seen w ∙ ap (λ (b : Bool). b || leb (2 ^ k) w) e ∙ ap (some_above (2 ^ k) s from) (sym (add-one i))
+
+pub above-together : (k : ℕ) (part s : List ℕ) (from i : ℕ)
+    → ((j : ℕ) → j < i → get_or part j 0 ≡ get_or s (from + j) 0)
+    → leb (2 ^ k) (together part i) ≡ some_above (2 ^ k) s from i
+unfolding together
+above-together k part s from zero e = above-none k s from
+above-together k part s from (suc i) e =
+    ap (λ (w : ℕ). leb (2 ^ k) (bit_or (together part i) w)) (e i (omega arith))
+    ∙ above-or k (together part i) s from i (above-together k part s from i (λ j h. e j (omega arith)))
+    ∙ ap (some_above (2 ^ k) s from) (add-one i)
 
 -- no word is above the bound, and the other way round
 pub some-none : (bound : ℕ) (s : List ℕ) (from i : ℕ) → some_above bound s from i ≡ false → (j : ℕ) → j < i

@@ -1,21 +1,13 @@
 -- `iwadare::code::taken`: w, its bit 0 above the information, and its half. Assumes nothing.
 use mathlib.Core.Path.{ap, ◌∙◌}
 use Prim.Native.Nat.{ℕ, ◌+◌, ◌/◌, ◌^◌}
-use native.Mathlib.Omega.{arith}
-use lib.Bits.{bit_xor}
 use lib.ListN.{set}
 use Rattle.span.specs.Word.{odd, sel}
-use Rattle.link.proofs.Coder.{sel-digit, sel-most}
+use Rattle.link.proofs.Coder.{sel-digit}
 use Rattle.iwadare.specs.Memory.{coder_pending}
 use Rattle.iwadare.specs.Coder.{coder_joining, coded_block, coder_next}
 use Rattle.iwadare.proofs.Coder.{joined}
 use Rattle.iwadare.proofs.code.taken.Goals as goal
-
-pub overflow_add-result : goal.overflow_add-result
-overflow_add-result c =
-    let s = c.args.state.now in
-    let l = sel-most (odd (bit_xor (coder_pending s) c.image.result)) 4 in
-    record { fits = omega arith }
 
 pub returns : goal.returns
 unfolding coded_block coder_next coder_joining

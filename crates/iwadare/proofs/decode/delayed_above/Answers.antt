@@ -1,20 +1,16 @@
+-- `iwadare::decode::delayed_above`: the delayed blocks are the words from 3 on. Assumes nothing.
 use mathlib.Core.Path.{ap, ◌∙◌}
 use native.Mathlib.Omega.{arith}
-use Rattle.link.specs.Refusals.{some_above}
-use Rattle.link.proofs.Malformed.{above-none, above-or}
+use borrow.Rule.Slice.PartMut.{mid_of, mid_len}
+use lib.Dec.{leb}
+use lib.Seq.{get_or-take, get_or-drop}
+use Rattle.span.specs.Dual.{together}
+use Rattle.link.proofs.Malformed.{above-together}
 use Rattle.iwadare.proofs.decode.delayed_above.Goals as goal
-
-pub loop-i-init : goal.loop-i-init
-loop-i-init c = (omega arith, above-none 2 c.args.state.now 3)
-
-pub loop-i-preserved : goal.loop-i-preserved
-loop-i-preserved c =
-    let l = c.loop-i in
-    let s = c.args.state.now in
-    (omega arith, above-or 2 l.seen s 3 l.i l.invariant.1)
 
 pub returns : goal.returns
 returns c =
-    let l = c.loop-i in
-    let s = c.args.state.now in
-    l.invariant.1 ∙ ap (some_above 4 s 3) (omega arith)
+    let s = c.args.memory.now in
+    let part = mid_of 3 18 s in
+    ap (leb 4) (c.together.ensures ∙ ap (together part) (mid_len 3 21 s (omega arith)))
+    ∙ above-together 2 part s 3 18 (λ j h. get_or-take 18 _ j 0 h ∙ get_or-drop 3 s j 0)

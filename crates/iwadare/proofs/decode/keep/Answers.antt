@@ -3,7 +3,7 @@ use mathlib.Core.Path.{◌≡◌, ap, ap₂, ◌∙◌}
 use mathlib.Core.List.{List, [], ◌∷◌, ◌++◌}
 use Prim.Native.Nat.{ℕ, ◌/◌, ◌≤◌}
 use native.Mathlib.Omega.{arith}
-use lib.ListN.{length, get_or, set, drop, length-set, length-append, length-drop}
+use lib.ListN.{length, get_or, set, drop}
 use lib.Seq.{get_or-set_other}
 use Rattle.span.specs.Word.{◌⊕◌}
 use Rattle.link.specs.Memory.{pushed}
@@ -19,47 +19,16 @@ moved (u ∷ []) a b c y h = absurd (omega arith)
 moved (u ∷ v ∷ []) a b c y h = absurd (omega arith)
 moved (u ∷ v ∷ w ∷ s) a b c y h = pushed-some 3 y (a ∷ b ∷ c ∷ s) (omega arith)
 
--- the memory once the block is flipped
-sized : (c : goal.After-flip) → length c.flip.new.state ≡ 21
-sized c =
-    ap length c.flip.ensures ∙ length-set c.args.state.now 6 _ ∙ c.requires
-
-pub bounds-state-1 : goal.bounds-state-1
-bounds-state-1 c = simp length-set (let l = sized (goal.at.bounds-state-1 c).After-flip in omega arith)
-
-pub bounds-state-2 : goal.bounds-state-2
-bounds-state-2 c = simp length-set (let l = sized (goal.at.bounds-state-2 c).After-flip in omega arith)
-
--- the memory as it comes back
-kept : (c : goal.After-push)
-    → let a = c.args in
-    let s = a.state.now in
-    c.push.new.words
-    ≡ fill_next (fill_of s) ∷ a.w / 2 ∷ a.terms ∷ (drop 4 (set s 6 (get_or s 6 0 ⊕ a.weight)) ++ (a.youngest ∷ []))
-kept c =
+pub returns : goal.returns
+returns c =
     let a = c.args in
-    let s = a.state.now in
-    let flipped = c.flip.new.state in
+    let s = a.memory.now in
+    let flipped = c.flip.new.memory in
     let is = c.flip.ensures in
     let n = c.next_fill in
-    let l = sized c.before.before.before.before.before.before in
     c.push.ensures
     ∙ moved flipped n.result (a.w / 2) a.terms a.youngest (omega arith)
     ∙ ap₂ (λ (f : ℕ) (l : List ℕ). f ∷ a.w / 2 ∷ a.terms ∷ (drop 4 l ++ (a.youngest ∷ [])))
     (n.ensures ∙ ap fill_next (ap fill_of is
     ∙ get_or-set_other s 6 0 (get_or s 6 0 ⊕ a.weight) 0 (λ (z : 0 ≡ 6). omega arith)))
     is
-
-pub shape_of-state : goal.shape_of-state
-shape_of-state c =
-    let a = c.args in
-    let s = a.state.now in
-    let x = get_or s 6 0 ⊕ a.weight in
-    let e = c.requires in
-    let k = length-append (drop 4 (set s 6 x)) (a.youngest ∷ []) in
-    let d = length-drop 4 (set s 6 x) in
-    let l = length-set s 6 x in
-    ap length (kept (goal.at.shape_of-state c).After-push) ∙ omega arith
-
-pub returns : goal.returns
-returns c = kept (goal.at.returns c).After-push

@@ -51,58 +51,43 @@ unfolding delivered
 delivered-is s r x flip is f =
     xor-code (get_or s 3 0) flip ∙ ap (λ (y : ℕ). get_or s 3 0 ⊕ y) (f ∙ ap (λ (y : ℕ). sel (flips_symbol0 y) 1) is)
 
-pub bounds-state-0 : goal.bounds-state-0
-bounds-state-0 c = let k = (decoder-taken _ _ c.requires).formed.size in omega arith
-
-pub bounds-state-1 : goal.bounds-state-1
-bounds-state-1 c = let k = (decoder-taken _ _ c.requires).formed.size in omega arith
-
-pub bounds-state-2 : goal.bounds-state-2
-bounds-state-2 c = let k = (decoder-taken _ _ c.requires).formed.size in omega arith
-
 -- the 13 terms
 registered : (c : goal.After-select)
     → let a = c.args in
-    terms_of a.state.now + c.select.result ≡ register_of a.state.now a.received
+    terms_of a.memory.now + c.select.result ≡ register_of a.memory.now a.received
 registered c =
     let a = c.args in
-    register_is a.state.now a.received c.image.result c.image.ensures c.select.result c.select.ensures
+    register_is a.memory.now a.received c.image.result c.image.ensures c.select.result c.select.ensures
 
-terms-lt : (c : goal.After-select) → terms_of c.args.state.now + c.select.result < 2 ^ 13
+terms-lt : (c : goal.After-select) → terms_of c.args.memory.now + c.select.result < 2 ^ 13
 terms-lt c =
     let a = c.args in
     subst (λ (y : ℕ). y < 2 ^ 13) (sym (registered c))
-    (register_lt a.state.now a.received (decoder-taken _ _ c.requires).formed.terms)
+    (register_lt a.memory.now a.received (decoder-taken _ _ c.requires).formed.terms)
 
-pub overflow_add-state : goal.overflow_add-state
-overflow_add-state c = let l = terms-lt (goal.at.overflow_add-state c).After-select in record { fits = omega arith }
+pub overflow_add-terms : goal.overflow_add-terms
+overflow_add-terms c = let l = terms-lt (goal.at.overflow_add-terms c).After-select in record { fits = omega arith }
 
 pub judged-v-requires : goal.judged-v-requires
 judged-v-requires c = terms-lt (goal.at.judged-v-requires c).After-select
 
-pub bounds-state-3 : goal.bounds-state-3
-bounds-state-3 c = let k = (decoder-taken _ _ c.requires).formed.size in omega arith
-
-pub keep-requires : goal.keep-requires
-keep-requires c = (decoder-taken _ _ c.requires).formed.size
-
 kept : (c : goal.After-keep)
     → let a = c.args in
-    c.keep.new.state ≡ decoder_next a.state.now a.received
+    c.keep.new.memory ≡ decoder_next a.memory.now a.received
 kept c =
     let a = c.args in
     let i = c.image in
     let v = c.judged-v in
     c.keep.ensures
-    ∙ memory_is a.state.now a.received i.result i.ensures _ v.result.terms v.result.symbol1
-    (register_is a.state.now a.received i.result i.ensures c.select.result c.select.ensures)
+    ∙ memory_is a.memory.now a.received i.result i.ensures _ v.result.terms v.result.symbol1
+    (register_is a.memory.now a.received i.result i.ensures c.select.result c.select.ensures)
     v.ensures.terms v.ensures.symbol1
 
 pub returns-then-fill-lt-DELAY : goal.returns-then-fill-lt-DELAY
 unfolding delivery
 returns-then-fill-lt-DELAY c =
     let a = c.args in
-    let s = a.state.now in
+    let s = a.memory.now in
     record {
       answer =
           picked (ltb (fill_of s) delay) (Ok None) (Ok (Some (delivered s a.received)))
@@ -113,25 +98,25 @@ returns-then-fill-lt-DELAY c =
 -- the information that is delivered
 flipped : (c : goal.After-keep)
     → let a = c.args in
-    bit_xor (get_or a.state.now 3 0) c.judged-v.result.symbol0 ≡ delivered a.state.now a.received
+    bit_xor (get_or a.memory.now 3 0) c.judged-v.result.symbol0 ≡ delivered a.memory.now a.received
 flipped c =
     let a = c.args in
     let i = c.image in
     let v = c.judged-v in
-    delivered-is a.state.now a.received _ v.result.symbol0
-    (register_is a.state.now a.received i.result i.ensures c.select.result c.select.ensures) v.ensures.symbol0
+    delivered-is a.memory.now a.received _ v.result.symbol0
+    (register_is a.memory.now a.received i.result i.ensures c.select.result c.select.ensures) v.ensures.symbol0
 
 pub overflow_cast-result : goal.overflow_cast-result
 overflow_cast-result c =
     let e = flipped (goal.at.overflow_cast-result c).After-keep in
-    let l = delivered-below c.args.state.now c.args.received c.requires in
+    let l = delivered-below c.args.memory.now c.args.received c.requires in
     record { fits = omega arith }
 
 pub returns : goal.returns
 unfolding delivery
 returns c =
     let a = c.args in
-    let s = a.state.now in
+    let s = a.memory.now in
     record {
       answer =
           ap (λ d. Ok (Some d)) (flipped (goal.at.returns c).After-keep)
