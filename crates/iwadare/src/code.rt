@@ -1,11 +1,12 @@
 // The coder: one step on lent memory.
-ghost use Rattle.std.specs.Prelude.{◌≡◌, ◌<◌, length};
+ghost use Rattle.std.specs.Prelude.{◌≡◌, ◌<◌};
 ghost use Rattle.span.specs.Combination.{combination};
 ghost use Rattle.link.specs.Refusals.{settled};
 ghost use Rattle.iwadare.specs.Memory.{generators};
 ghost use Rattle.iwadare.specs.Refusals.{coder_fault};
 ghost use Rattle.iwadare.specs.Coder.{coded_block, coder_next, Codes};
 
+use crate::memory::{CODER_WORDS, DELAYED_BOUND, PENDING_BOUND};
 use link::refusal::Refusal;
 use span::bits::select;
 use span::combine::combination;
@@ -20,37 +21,37 @@ pub(crate) fn image(info: u64) -> u64
     combination(&GENERATORS, GENERATORS.len(), info)
 }
 
-// Whether one of refusals 13 to 15 applies: the first of them.
-fn fault(state: &[u64], info: u64) -> Result<(), Refusal>
-    ensures { result ≡ settled (coder_fault state.now info) }
+// Whether one of refusals 14 and 15 applies: the first of them. 13 cannot, of one word.
+fn fault(memory: &[u64; CODER_WORDS], info: u64) -> Result<(), Refusal>
+    ensures { result ≡ settled (coder_fault memory.now info) }
 {
-    if state.len() != 1 {
-        return Err(Refusal::WrongLength);
-    }
-    if 262144 <= state[0] {
+    if PENDING_BOUND <= memory[0] {
         return Err(Refusal::MalformedMemory);
     }
-    if 4 <= info {
+    if DELAYED_BOUND <= info {
         return Err(Refusal::BlockTooLarge);
     }
     Ok(())
 }
 
 // A step that no refusal applies to: the parity is bit 0 of w, and w halved stays.
-fn taken(state: &mut [u64], info: u64) -> u64
-    requires { (length state.old ≡ 1) × (info < 4) }
-    ensures block { result ≡ coded_block state.old info }
-    ensures memory { state.new ≡ coder_next state.old info }
+fn taken(memory: &mut [u64; CODER_WORDS], info: u64) -> u64
+    requires { info < 4 }
+    ensures block { result ≡ coded_block memory.old info }
+    ensures memory { memory.new ≡ coder_next memory.old info }
 {
-    let w = state[0] ^ image(info);
-    state[0] = w >> 1;
+    let w = memory[0] ^ image(info);
+    memory[0] = w >> 1;
     info + select(4, w)
 }
 
 pub fn code(state: &mut [u64], info: u16) -> Result<u16, Refusal>
     ensures { Codes state.old info result state.new }
 {
+    let Some(memory) = state.as_mut_array() else {
+        return Err(Refusal::WrongLength);
+    };
     let block = info as u64;
-    fault(state, block)?;
-    Ok(taken(state, block) as u16)
+    fault(memory, block)?;
+    Ok(taken(memory, block) as u16)
 }

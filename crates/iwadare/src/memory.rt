@@ -1,8 +1,12 @@
 // The words of a memory: their places, what they are below, and how many blocks a delivery is late.
 
+// Of the coder: the pending word.
+pub(crate) const CODER_WORDS: usize = 1;
+
 // Of the decoder: the fill, the pending word, the last 12 terms, and 18 delayed blocks, oldest first.
 pub(crate) const DECODER_WORDS: usize = 21;
 
+// Places in the decoder's.
 pub(crate) const FILL: usize = 0;
 
 pub(crate) const PENDING: usize = 1;

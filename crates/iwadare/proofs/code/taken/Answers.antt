@@ -13,7 +13,7 @@ pub returns : goal.returns
 unfolding coded_block coder_next coder_joining
 returns c =
     let a = c.args in
-    let s = a.state.now in
+    let s = a.memory.now in
     let w = joined (coder_pending s) a.info c.image.result c.image.ensures in
     record {
       block =
