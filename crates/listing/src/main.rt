@@ -6,11 +6,13 @@
 mod failure;
 mod input;
 
-use failure::tell;
+use failure::{Told, tell};
 use input::read;
 use report::opening::opening;
-use report::part::{Progress, part};
+use report::part::part;
+use std::io;
 use std::io::Read;
+use std::ops::ControlFlow;
 use tables::table::Table;
 
 // The most bytes that a turn reads, an even number: their lines have room in the buffer (`ProgramRoom`).
@@ -18,20 +20,15 @@ const PART: usize = 2048;
 
 const ROOM: usize = 65536;
 
-// The first `end` bytes of a buffer are written. A failure is told, unless one of the input has been: a run tells one.
-fn print(rt: &(impl Print + Eprint), out: &[u8], end: usize, is_told: bool) -> bool {
-    if end > out.len() {
-        return false;
+// Lines are written. A run tells one failure: where the input failed before, that one.
+fn print(rt: &(impl Print + Eprint), lines: &[u8], failure: Option<io::Error>) -> Result<(), Told> {
+    if let Some(error) = failure {
+        let told = tell(rt, "standard input", &error);
+        let _ = rt.write_all(lines);
+        return Err(told);
     }
-    match rt.write_all(&out[0..end]) {
-        Ok(()) => true,
-        Err(error) => {
-            if !is_told {
-                tell(rt, "standard output", &error);
-            }
-            false
-        }
-    }
+    rt.write_all(lines)
+        .map_err(|error| tell(rt, "standard output", &error))
 }
 
 // One part of the input: it is read and its lines are written. Where the program is to go on, the next delivery's
@@ -42,17 +39,16 @@ fn turn(
     t: Table,
     state: &mut [u64],
     number: u64,
-) -> Progress {
+) -> Result<Option<u64>, Told> {
     let mut bytes = [0u8; PART];
     let mut out = [0u8; ROOM];
-    let input = read(rt, from, &mut bytes);
+    let input = read(from, &mut bytes);
     let count = input.count;
     let p = part(t, state, &bytes[..count], number, &mut out);
-    let is_written = print(rt, &out, p.end, input.is_failed);
-    Progress {
-        end: p.end,
-        number: p.number,
-        stopped: p.stopped | !is_written | (count < PART),
+    print(rt, &out[..p.end], input.failure)?;
+    match p.next {
+        ControlFlow::Continue(next) if count == PART => Ok(Some(next)),
+        _ => Ok(None),
     }
 }
 
@@ -63,41 +59,33 @@ fn turns(
     t: Table,
     state: &mut [u64],
     first: u64,
-) {
+) -> Result<(), Told> {
     let mut number = first;
     for _ in 0..u64::MAX {
-        let p = turn(rt, from, t, state, number);
-        if p.stopped {
-            return;
+        match turn(rt, from, t, state, number)? {
+            Some(next) => number = next,
+            None => break,
         }
-        number = p.number;
     }
+    Ok(())
 }
 
-// The decoder's memory is the first words.
-fn list(
-    rt: &(impl Print + Eprint),
-    from: &mut impl Read,
-    t: Table,
-    memory: &mut [u64],
-    words: usize,
-    first: u64,
-) {
-    if words <= memory.len() {
-        turns(rt, from, t, &mut memory[0..words], first);
-    }
-}
-
-fn main(rt: HostRuntime) {
-    let mut from = rt.stdin();
+fn run(rt: &(impl Print + Eprint), from: &mut impl Read) -> Result<(), Told> {
     let mut sizes = [0u8; 2];
     let mut memory = [0u64; 2114];
     let mut out = [0u8; 86];
-    let input = read(&rt, &mut from, &mut sizes);
+    let input = read(from, &mut sizes);
     let count = input.count;
     let o = opening(&sizes[..count], &mut memory, &mut out);
-    let is_written = print(&rt, &out, o.end, input.is_failed);
-    if is_written & !o.stopped {
-        list(&rt, &mut from, o.table, &mut memory, o.words, o.number);
+    print(rt, &out[..o.end], input.failure)?;
+    match o.decoder {
+        Some(d) => turns(rt, from, d.table, &mut memory[..d.words], d.number),
+        None => Ok(()),
     }
+}
+
+// A failure has been told, and changes nothing else: the exit status is 0.
+fn main(rt: HostRuntime) {
+    let mut from = rt.stdin();
+    let _ = run(&rt, &mut from);
 }

@@ -1,6 +1,6 @@
 -- Digits and lines, then answers printed, listing in parts, the opening, and the whole listing. Lowest first.
 mod Digits
-mod Written
+pub mod Written
 mod Longest
 mod Answer
 mod Continued

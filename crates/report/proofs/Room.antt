@@ -7,13 +7,15 @@ use native.Mathlib.Omega.{arith}
 use borrow.Author.Tests.{le-leb, lt-leb, leb-true, leb-false}
 use lib.Dec.{leb}
 use lib.ListN.{length}
+use Rattle.std.specs.declared.ops.ControlFlow.{ControlFlow}
+use Rattle.std.specs.declared.ops.ControlFlow.TheVariants.{Break}
 use Rattle.tables.specs.declared.table.Table.{Table}
 use Rattle.report.specs.Writing.{longest}
 use Rattle.report.specs.Listing.{part_room, part_listed, listed, Lists}
 use Rattle.report.proofs.Written.{wrote_nothing}
 
-pub room-divided : (n room : ℕ) → leb n (room / 43) ≡ leb (longest * n) room
-room-divided n room = go (leb n (room / 43)) refl
+pub room_divided : (n room : ℕ) → leb n (room / 43) ≡ leb (longest * n) room
+room_divided n room = go (leb n (room / 43)) refl
   where
     go : (b : Bool) → leb n (room / 43) ≡ b → leb n (room / 43) ≡ leb (longest * n) room
     go true e = e ∙ sym (le-leb (longest * n) room (omega (arith, leb-true n (room / 43) e)))
@@ -40,10 +42,17 @@ pub listed-there : (t : Table) (s : List ℕ) (k : ℕ) (bs : List ℕ) (room : 
 unfolding part_listed
 listed-there t s k bs room h = rw (h, part_listed)
 
-pub listed-nowhere : (t : Table) (s : List ℕ) (k : ℕ) (bs out : List ℕ) → part_room k (length bs) (length out) ≡ false
-    → Lists (part_listed t s k bs (length out)) out out s 0 k true
+pub listed-nowhere : {r : List ℕ} (t : Table) (s : List ℕ) (k : ℕ) (bs out : List ℕ)
+    → part_room k (length bs) (length out) ≡ false → r ≡ out
+    → Lists (part_listed t s k bs (length out)) out r s 0 (Break k)
 unfolding part_listed
-listed-nowhere t s k bs out h =
+listed-nowhere t s k bs out h same =
     let e : part_listed t s k bs (length out) ≡ record { text = []; memory = s; number = k; stopped = true } =
     rw (h, part_listed) in
-    rw e (record { wrote = wrote_nothing out 0; left = refl; counted = refl; stops = refl })
+    rw (e, same) (record { wrote = wrote_nothing out 0; left = refl; counted = refl })
+
+-- with room it is the listing, written into the bytes that come back
+pub listed-somewhere : {r r' s' : List ℕ} {end : ℕ} {next : ControlFlow ℕ ℕ} (t : Table) (s : List ℕ) (k : ℕ)
+    (bs out : List ℕ) → part_room k (length bs) (length out) ≡ true → r ≡ r'
+    → Lists (listed t s k bs) out r' s' end next → Lists (part_listed t s k bs (length out)) out r s' end next
+listed-somewhere t s k bs out h same l = rw (listed-there t s k bs (length out) h, same) l

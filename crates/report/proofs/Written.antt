@@ -2,20 +2,21 @@
 use mathlib.Core.Path.{◌≡◌, refl, sym, ap, ◌∙◌}
 use mathlib.Core.Bool.{true, false}
 use mathlib.Core.List.{List, [], ◌∷◌, ◌++◌, append_assoc}
-use Prim.Native.Nat.{ℕ, ◌+◌, ◌≤◌, ◌<◌}
+use Prim.Native.Nat.{ℕ, ◌+◌, ◌-◌, ◌≤◌}
 use native.Mathlib.Omega.{arith}
-use native.Mathlib.Numerals.{add-one}
 use native.Mathlib.Nat.{add-zero, add_assoc}
 use borrow.Author.Tests.{leb-true}
-use lib.ListN.{length, take, drop, set, length-append, take-append-drop}
-use lib.Seq.{set_split, length-take-le, take_at, drop_at, drop-drop}
+use borrow.Rule.Slice.PartMut.{put_mid, Post-is}
+use lib.ListN.{length, take, drop, length-append, length-drop, take-append-drop}
+use lib.Seq.{length-take-le, take_at, drop_at, drop-drop}
 use Rattle.link.specs.declared.decode.Mark.{Mark}
 use Rattle.link.specs.declared.decode.Mark.TheVariants.{Clean, Held, Corrected, Doubtful, Parity}
 use Rattle.link.specs.declared.decode.Delivered.{Delivered}
 use Rattle.link.specs.Decoder.{mark_error}
 use Rattle.report.specs.Text.{mark_word}
 use Rattle.report.specs.Text.{decimal_of, space, newline, line_of}
-use Rattle.report.specs.Writing.{written, Wrote, longest, room, put, put_end}
+use Rattle.report.specs.declared.text.Lines.{Lines}
+use Rattle.report.specs.Writing.{written, Wrote, longest, room, put, put_end, Pushes, Puts}
 
 -- nothing is written
 pub wrote_nothing : (out : List ℕ) (at : ℕ) → Wrote out at [] out at
@@ -26,11 +27,11 @@ wrote_nothing out at =
       position = omega arith;
     }
 
--- one byte is stored
-pub wrote-byte : (out : List ℕ) (at b : ℕ) → at < length out → Wrote out at (b ∷ []) (set out at b) (at + 1)
+-- some bytes are stored
+pub wrote-part : (out bs : List ℕ) (at : ℕ) → Wrote out at bs (put_mid at (at + length bs - at) out bs) (at + length bs)
 unfolding written
-wrote-byte out at b h = record {
-  bytes = set_split out at b h ∙ ap (λ (k : ℕ). take at out ++ (b ∷ drop k out)) (sym (add-one at));
+wrote-part out bs at = record {
+  bytes = ap (λ (l : List ℕ). take at out ++ (bs ++ l)) (Post-is at (at + length bs) out (omega arith));
   position = refl;
 }
 
@@ -79,16 +80,45 @@ wrote_then {out} {r₁} {r₂} {at} {e₁} {e₂} a b p q h = record {
   position = simp length-append (omega arith);
 }
 
--- with room and without
-pub put-there : {out r : List ℕ} {at e : ℕ} (bs : List ℕ) → room out at ≡ true → Wrote out at bs r e
-    → (e ≡ put_end out at bs) × (r ≡ put out at bs)
-unfolding put put_end
-put-there {out} {r} {at} {e} bs h w = (w.position ∙ sym (rw (h, put_end)), w.bytes ∙ sym (rw (h, put)))
+-- as many bytes are lent as before
+pub wrote-length : {out r : List ℕ} {at e : ℕ} (bs : List ℕ) → Wrote out at bs r e → at + length bs ≤ length out
+    → length r ≡ length out
+unfolding written
+wrote-length {out} {r} {at} bs w h =
+    ap length w.bytes ∙ simp (length-append, length-drop) (omega (arith, length-take-le at out (omega arith)))
 
-pub put-nothing : (out : List ℕ) (at : ℕ) (bs : List ℕ) → room out at ≡ false
-    → (at ≡ put_end out at bs) × (out ≡ put out at bs)
+pub pushes_nothing : (l : Lines) → Pushes [] l l
+pushes_nothing l = record { same_reference = refl; wrote = wrote_nothing l.bytes.now l.end }
+
+-- what is written from the start on has room
+pub wrote-within : {out r : List ℕ} {e : ℕ} (bs : List ℕ) → Wrote out 0 bs r e → length r ≡ length out → e ≤ length r
+unfolding written
+wrote-within {out} {r} bs w h =
+    omega (arith, w.position, simp (length-append, length-drop) at (ap length w.bytes))
+
+-- two texts after one another
+pub pushes_then : {l₀ l₁ l₂ : Lines} (a b : List ℕ) → Pushes a l₀ l₁ → Pushes b l₁ l₂
+    → l₀.end + length a ≤ length l₀.bytes.now → Pushes (a ++ b) l₀ l₂
+pushes_then a b p q h =
+    record { same_reference = q.same_reference ∙ p.same_reference; wrote = wrote_then a b p.wrote q.wrote h }
+
+pub pushes-end : {l₀ l₁ : Lines} (a : List ℕ) → Pushes a l₀ l₁ → l₀.end + length a ≤ length l₀.bytes.now
+    → (l₁.end ≡ l₀.end + length a) × (length l₁.bytes.now ≡ length l₀.bytes.now)
+pushes-end a p h = (p.wrote.position, wrote-length a p.wrote h)
+
+-- with room and without
+pub puts-there : {l₀ l₁ : Lines} (bs : List ℕ) → room l₀.bytes.now l₀.end ≡ true → Pushes bs l₀ l₁ → Puts bs l₀ l₁
 unfolding put put_end
-put-nothing out at bs h = (sym (rw (h, put_end)), sym (rw (h, put)))
+puts-there {l₀} {l₁} bs h p = record {
+  same_reference = p.same_reference;
+  position = p.wrote.position ∙ sym (rw (h, put_end));
+  bytes = p.wrote.bytes ∙ sym (rw (h, put));
+}
+
+pub puts-nothing : (l : Lines) (bs : List ℕ) → room l.bytes.now l.end ≡ false → Puts bs l l
+unfolding put put_end
+puts-nothing l bs h =
+    record { same_reference = refl; position = sym (rw (h, put_end)); bytes = sym (rw (h, put)) }
 
 pub room-free : (out : List ℕ) (at : ℕ) → room out at ≡ true → at + longest ≤ length out
 room-free out at h = leb-true (at + longest) (length out) h

@@ -5,7 +5,8 @@
 --   prefixed bs l         the same, printed after bs
 --   block_of low high     a received block
 --   answer_text, answer_number, answer_stops   what one answer does
---   Printed out at k a r end number stopped   what writing its bytes does
+--   answer_next k a       the two of them as what the loop goes on with, or stops at
+--   Printed k a before after next   what a call that prints it does to the lines, and answers
 --   listed_after a s k rest   an answer listed, and then the rest
 --   listed t s k bs       the bytes bs listed, from the memory s and the number k on
 --   made_listing a bs     the bytes bs listed with the made table, or refusal 11
@@ -14,18 +15,22 @@
 --   PartsLaw              listing even parts one after the other is listing the whole
 --   part_room k bytes room      whether the lines of a part of so many bytes have room, and the numbers from k on
 --   part_listed t s k bs room   what a call that lists a part does, with `room` bytes for the lines
---   Lists l out r memory end number stopped   what such a call leaves and answers
-use Rattle.link.specs.declared.decode.Delivered.{Delivered}
+--   listed_next l         the number of the next delivery, and whether the program stops, as a call answers them
+--   Lists l out r memory end next   what such a call leaves and answers
 use Rattle.std.specs.Prelude.{Option, ◌≡◌, Bool, true, false, ◌&&◌, cond, List, [], ◌∷◌, ◌++◌, ℕ, ◌+◌, ◌*◌, ◌/◌, ◌%◌, ◌^◌}
 use Rattle.std.specs.Prelude.{◌≤◌, leb, length, Some, None, Result, Ok, Err}
+use Rattle.std.specs.declared.ops.ControlFlow.{ControlFlow}
+use Rattle.std.specs.declared.ops.ControlFlow.TheVariants.{Continue, Break}
 use Rattle.tables.specs.declared.table.Table.{Table}
 use Rattle.tables.specs.declared.make.MakeError.{MakeError}
 use Rattle.tables.specs.Made.{making, make_number}
+use Rattle.link.specs.declared.decode.Delivered.{Delivered}
 use Rattle.link.specs.Refusals.{Answer, refusal_number}
 use Rattle.link.specs.Memory.{started, decoder_words}
 use Rattle.link.specs.Decoder.{decode_answer, decode_memory}
 use Rattle.report.specs.Text.{header_line, line_of, refused_line, odd_line}
-use Rattle.report.specs.Writing.{Wrote, longest}
+use Rattle.report.specs.declared.text.Lines.{Lines}
+use Rattle.report.specs.Writing.{Wrote, Pushes, longest}
 
 pub record Listed : Type 0 where
   pub text : List ℕ
@@ -58,13 +63,14 @@ answer_stops (Ok (Some d)) = false
 answer_stops (Ok None) = false
 answer_stops (Err e) = true
 
--- the answer's bytes are written, from the position `at` on, and no more than a line
-pub record Printed (out : List ℕ) (at k : ℕ) (a : Answer (Option Delivered)) (r : List ℕ) (end number : ℕ) (stopped : Bool)
-    : Type 0 where
-  pub wrote : Wrote out at (answer_text k a) r end
-  pub counted : number ≡ answer_number k a
-  pub stops : stopped ≡ answer_stops a
-  pub short : end ≤ at + longest
+abbrev pub answer_next : ℕ → Answer (Option Delivered) → ControlFlow ℕ ℕ
+answer_next k a = cond (answer_stops a) (Break (answer_number k a)) (Continue (answer_number k a))
+
+-- the answer's bytes are written at the end of the lines, and no more than a line
+pub record Printed (k : ℕ) (a : Answer (Option Delivered)) (before after : Lines) (next : ControlFlow ℕ ℕ) : Type 0 where
+  pub pushed : Pushes (answer_text k a) before after
+  pub counted : next ≡ answer_next k a
+  pub short : after.end ≤ before.end + longest
 
 -- an answer listed: s is the memory after its step, and `rest k` is what is listed after it if the next delivery has
 -- the number k
@@ -111,10 +117,12 @@ unfoldable pub part_listed : Table → List ℕ → ℕ → List ℕ → ℕ →
 part_listed t s k bs room =
     cond (part_room k (length bs) room) (listed t s k bs) (record { text = []; memory = s; number = k; stopped = true })
 
+abbrev pub listed_next : Listed → ControlFlow ℕ ℕ
+listed_next l = cond l.stopped (Break l.number) (Continue l.number)
+
 -- the listing l is written from the start of `out` on, and its memory, number and stop are those that are left and
 -- answered
-pub record Lists (l : Listed) (out r memory : List ℕ) (end number : ℕ) (stopped : Bool) : Type 0 where
+pub record Lists (l : Listed) (out r memory : List ℕ) (end : ℕ) (next : ControlFlow ℕ ℕ) : Type 0 where
   pub wrote : Wrote out 0 l.text r end
   pub left : memory ≡ l.memory
-  pub counted : number ≡ l.number
-  pub stops : stopped ≡ l.stopped
+  pub counted : next ≡ listed_next l

@@ -1,70 +1,34 @@
-// Lines, written into lent bytes from a position on. A function that the crate calls returns the position after them;
-// where there is no room for the longest line it writes nothing, and the position stays.
+// Lines, written into lent bytes one after another. Where there is no room for the longest line, nothing is written, and
+// the position stays. No `write!` here: its contract says what is written where it answers `Ok`, and none says that it
+// does where there is room. So a mark has its word by a function, and no `Display`, and digits come from `itoa`.
 ghost use Rattle.std.specs.Prelude.{◌≡◌, [], ◌∷◌, ◌++◌, ◌+◌, ◌≤◌, length};
 ghost use Rattle.link.specs.Decoder.{mark_error};
-ghost use Rattle.report.specs.Text.{mark_word};
-ghost use Rattle.report.specs.Text.{decimal_of, space, header_line, line_of, refused_line, odd_line};
-ghost use Rattle.report.specs.Writing.{Wrote, longest, room, put, put_end};
+ghost use Rattle.report.specs.Text.{mark_word, decimal_of, space, header_line, line_of, refused_line, odd_line};
+ghost use Rattle.report.specs.Writing.{longest, room, put, put_end, Pushes, Puts};
 
+use itoa::Buffer;
 use link::decode::{Delivered, Mark};
 
 // A line has no more bytes.
-const LONGEST: usize = 43;
+pub(crate) const LONGEST: usize = 43;
 
-fn put_byte(out: &mut [u8], at: usize, byte: u8) -> usize
-    requires { at + 1 ≤ length out.old }
-    ensures { Wrote out.old at (byte ∷ []) out.new result }
-{
-    out[at] = byte;
-    at + 1
-}
-
-fn put_bytes(out: &mut [u8], at: usize, bytes: &[u8]) -> usize
-    requires { at + length bytes.now ≤ length out.old }
-    ensures { Wrote out.old at bytes.now out.new result }
-{
-    let mut end = at;
-    let mut i = 0;
-    while i < bytes.len() {
-        end = put_byte(out, end, bytes[i]);
-        i += 1;
-    }
-    end
-}
-
-// The digits of the tenth, and then the last digit.
-fn digits(out: &mut [u8], at: usize, x: u64) -> usize
-    requires { at + length (decimal_of x) ≤ length out.old }
-    ensures { Wrote out.old at (decimal_of x) out.new result }
-{
-    if x < 10 {
-        put_byte(out, at, 48 + (x as u8))
-    } else {
-        let end = digits(out, at, x / 10);
-        put_byte(out, end, 48 + ((x % 10) as u8))
-    }
-}
-
-// A number and the byte after it.
-fn field(out: &mut [u8], at: usize, x: u64, after: u8) -> usize
-    requires { at + (length (decimal_of x) + 1) ≤ length out.old }
-    ensures { Wrote out.old at (decimal_of x ++ (after ∷ [])) out.new result }
-{
-    let end = digits(out, at, x);
-    put_byte(out, end, after)
+// Lent bytes, and the position after the lines that stand in them.
+#[derive(Drop)]
+pub(crate) struct Lines<'a> {
+    pub bytes: &'a mut [u8],
+    pub end: usize,
 }
 
 // A mark's word and a space.
-fn word(out: &mut [u8], at: usize, mark: Mark) -> usize
-    requires { at + 10 ≤ length out.old }
-    ensures { Wrote out.old at (mark_word mark ++ (space ∷ [])) out.new result }
+fn word(mark: Mark) -> &'static [u8]
+    ensures { result.now ≡ mark_word mark ++ (space ∷ []) }
 {
     match mark {
-        Mark::Clean => put_bytes(out, at, b"clean "),
-        Mark::Corrected(_) => put_bytes(out, at, b"corrected "),
-        Mark::Parity(_) => put_bytes(out, at, b"parity "),
-        Mark::Doubtful => put_bytes(out, at, b"doubtful "),
-        Mark::Held => put_bytes(out, at, b"held "),
+        Mark::Clean => b"clean ",
+        Mark::Corrected(_) => b"corrected ",
+        Mark::Parity(_) => b"parity ",
+        Mark::Doubtful => b"doubtful ",
+        Mark::Held => b"held ",
     }
 }
 
@@ -73,80 +37,99 @@ fn error_of(mark: Mark) -> u16
     ensures { result ≡ mark_error mark }
 {
     match mark {
-        Mark::Clean => 0,
-        Mark::Corrected(e) => e,
-        Mark::Parity(e) => e,
-        Mark::Doubtful => 0,
-        Mark::Held => 0,
+        Mark::Corrected(e) | Mark::Parity(e) => e,
+        Mark::Clean | Mark::Doubtful | Mark::Held => 0,
     }
 }
 
-fn fields(out: &mut [u8], at: usize, number: u64, d: Delivered) -> usize
-    requires { at + longest ≤ length out.old }
-    ensures text { Wrote out.old at (line_of number d) out.new result }
-    ensures short { result ≤ at + longest }
-{
-    let after_number = field(out, at, number, 32);
-    let after_info = field(out, after_number, d.info as u64, 32);
-    let mark = d.mark;
-    let after_mark = word(out, after_info, mark);
-    field(out, after_mark, error_of(mark) as u64, 10)
-}
-
-fn has_room(out: &[u8], at: usize) -> bool
-    ensures { result ≡ room out.now at }
-{
-    at <= out.len() && LONGEST <= out.len() - at
-}
-
-// A line that is always the same.
-fn fixed(out: &mut [u8], at: usize, bytes: &[u8]) -> usize
-    requires { length bytes.now ≤ longest }
-    ensures position { result ≡ put_end out.old at bytes.now }
-    ensures bytes { out.new ≡ put out.old at bytes.now }
-{
-    if has_room(out, at) {
-        return put_bytes(out, at, bytes);
+impl<'a> Lines<'a> {
+    pub(crate) fn new(bytes: &'a mut [u8]) -> Lines<'a>
+        ensures same_reference { result.bytes.ghost_name ≡ bytes.entry.ghost_name }
+        ensures bytes { result.bytes.now ≡ bytes.old }
+        ensures end { result.end ≡ 0 }
+    {
+        Lines { bytes, end: 0 }
     }
-    at
-}
 
-// ---- what the crate calls
-
-// The line of a delivery.
-pub(crate) fn line(out: &mut [u8], at: usize, number: u64, d: Delivered) -> usize
-    ensures position { result ≡ put_end out.old at (line_of number d) }
-    ensures bytes { out.new ≡ put out.old at (line_of number d) }
-    ensures short { result ≤ at + longest }
-{
-    if has_room(out, at) {
-        return fields(out, at, number, d);
+    fn has_room(&self) -> bool
+        ensures { result ≡ room self.now.bytes.now self.now.end }
+    {
+        self.end <= self.bytes.len() && LONGEST <= self.bytes.len() - self.end
     }
-    at
-}
 
-// The line of a refusal.
-pub(crate) fn refusal(out: &mut [u8], at: usize, number: u64) -> usize
-    ensures position { result ≡ put_end out.old at (refused_line number) }
-    ensures bytes { out.new ≡ put out.old at (refused_line number) }
-{
-    if has_room(out, at) {
-        let end = put_bytes(out, at, b"refused ");
-        return field(out, end, number, 10);
+    fn push(&mut self, text: &[u8])
+        requires { self.old.end + length text.now ≤ length self.old.bytes.now }
+        ensures { Pushes text.now self.old self.new }
+    {
+        let end = self.end + text.len();
+        let bytes = &mut *self.bytes;
+        bytes[self.end..end].copy_from_slice(text);
+        self.end = end;
     }
-    at
-}
 
-pub(crate) fn odd_byte(out: &mut [u8], at: usize) -> usize
-    ensures position { result ≡ put_end out.old at odd_line }
-    ensures bytes { out.new ≡ put out.old at odd_line }
-{
-    fixed(out, at, b"odd byte\n")
-}
+    // A number, and what stands after it.
+    fn push_number(&mut self, number: u64, after: &[u8])
+        requires { self.old.end + length (decimal_of number ++ after.now) ≤ length self.old.bytes.now }
+        ensures { Pushes (decimal_of number ++ after.now) self.old self.new }
+    {
+        let mut digits = Buffer::new();
+        self.push(digits.format(number).as_bytes());
+        self.push(after);
+    }
 
-pub(crate) fn header(out: &mut [u8], at: usize) -> usize
-    ensures position { result ≡ put_end out.old at header_line }
-    ensures bytes { out.new ≡ put out.old at header_line }
-{
-    fixed(out, at, b"block info mark error\n")
+    fn push_delivery(&mut self, number: u64, d: Delivered)
+        requires { self.old.end + longest ≤ length self.old.bytes.now }
+        ensures line { Pushes (line_of number d) self.old self.new }
+        ensures short { self.new.end ≤ self.old.end + longest }
+    {
+        let mark = d.mark;
+        self.push_number(number, b" ");
+        self.push_number(d.info as u64, b" ");
+        self.push(word(mark));
+        self.push_number(error_of(mark) as u64, b"\n");
+    }
+
+    // A line that is always the same.
+    fn fixed(&mut self, line: &[u8])
+        requires { length line.now ≤ longest }
+        ensures { Puts line.now self.old self.new }
+    {
+        if self.has_room() {
+            self.push(line);
+        }
+    }
+
+    // ---- what the crate calls
+
+    // The line of a delivery.
+    pub(crate) fn delivery(&mut self, number: u64, d: Delivered)
+        ensures line { Puts (line_of number d) self.old self.new }
+        ensures short { self.new.end ≤ self.old.end + longest }
+    {
+        if self.has_room() {
+            self.push_delivery(number, d);
+        }
+    }
+
+    // The line of a refusal.
+    pub(crate) fn refusal(&mut self, number: u64)
+        ensures { Puts (refused_line number) self.old self.new }
+    {
+        if self.has_room() {
+            self.push(b"refused ");
+            self.push_number(number, b"\n");
+        }
+    }
+
+    pub(crate) fn odd_byte(&mut self)
+        ensures { Puts odd_line self.old self.new }
+    {
+        self.fixed(b"odd byte\n");
+    }
+
+    pub(crate) fn header(&mut self)
+        ensures { Puts header_line self.old self.new }
+    {
+        self.fixed(b"block info mark error\n");
+    }
 }

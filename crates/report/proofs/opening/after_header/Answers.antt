@@ -1,7 +1,11 @@
 -- `report::opening::after_header`: a made table is fit, and no larger than N = 32; otherwise the refusal. Assumes
 -- nothing.
 use mathlib.Core.Path.{sym, ◌∙◌}
-use Rattle.report.proofs.Opens.{made-fits, opens-made, opens-refused}
+use Rattle.tables.specs.Made.{make_number}
+use Rattle.report.specs.Text.{refused_line}
+use Rattle.report.proofs.Answer.{puts-pushes}
+use Rattle.report.proofs.Opens.{made-fits}
+use Rattle.report.proofs.Written.{pushes_nothing}
 use Rattle.report.proofs.opening.after_header.Goals as goal
 
 pub started-requires : goal.started-requires
@@ -10,17 +14,10 @@ started-requires c =
     let f = made-fits a.n a.m c.in-Ok.table (sym c.make.ensures.answer ∙ c.in-Ok.is) in
     (f.0, f.1, c.requires.0)
 
-pub returns-in-Ok : goal.returns-in-Ok
-returns-in-Ok c =
-    let a = c.args in
-    let w = c.started in
-    rw (sym c.make.ensures.answer ∙ c.in-Ok.is)
-    (opens-made a.out.now a.end c.in-Ok.table w.result w.ensures.answer w.ensures.memory)
+pub returns-in-Ok-clause-text : goal.returns-in-Ok-clause-text
+returns-in-Ok-clause-text c = rw (sym c.make.ensures.answer ∙ c.in-Ok.is) (pushes_nothing c.args.lines.now)
 
-pub returns-in-Err : goal.returns-in-Err
-returns-in-Err c =
-    let a = c.args in
-    let w = c.refusal.ensures in
+pub returns-in-Err-clause-text : goal.returns-in-Err-clause-text
+returns-in-Err-clause-text c =
     rw (sym c.make.ensures.answer ∙ c.in-Err.is)
-    (opens-refused a.memory.now c.in-Err.error c.stopped.result c.requires.1
-    (w.position ∙ rw c.number.ensures) (w.bytes ∙ rw c.number.ensures) c.stopped.ensures)
+    (puts-pushes (refused_line (make_number c.in-Err.error)) c.requires.1 (rw c.number.ensures at c.refusal.ensures))

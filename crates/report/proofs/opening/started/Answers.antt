@@ -1,6 +1,6 @@
 -- `report::opening::started`: the words of a made table's decoder are few, and a fit table starts them. Assumes
 -- nothing.
-use mathlib.Core.Path.{refl, ap₂, ◌∙◌}
+use mathlib.Core.Path.{ap₂, ◌∙◌}
 use mathlib.Core.List.{◌++◌}
 use Prim.Native.Nat.{◌+◌, ◌-◌, ◌*◌, ◌≤◌}
 use native.Mathlib.Nat.{mul-le-mul}
@@ -30,15 +30,12 @@ pub slice_bounds-start_decoder-end : goal.slice_bounds-start_decoder-end
 slice_bounds-start_decoder-end c =
     omega (arith, few (goal.at.slice_bounds-start_decoder-end c).Start, c.requires.2)
 
-pub returns : goal.returns
-returns c =
+pub returns-clause-memory : goal.returns-clause-memory
+returns-clause-memory c =
     let a = c.args in
     let p = c.requires in
     let n = decoder_words a.t in
-    let room : n ≤ length a.memory.now = omega (arith, few (goal.at.returns c).Start, p.2) in
+    let room : n ≤ length a.memory.now = omega (arith, few (goal.at.returns-clause-memory c).Start, p.2) in
     let whole = started-whole a.t n (mid_of 0 (n - 0) a.memory.now) p.0
     (let l = mid_len 0 n a.memory.now room in omega arith) in
-    record {
-      answer = refl;
-      memory = ap₂ ◌++◌ (c.start_decoder.ensures.memory ∙ whole.1) (Post-is 0 n a.memory.now (omega arith));
-    }
+    ap₂ ◌++◌ (c.start_decoder.ensures.memory ∙ whole.1) (Post-is 0 n a.memory.now (omega arith))

@@ -15,20 +15,19 @@ told a o o' e f = rw (e, f) refl
 pub returns-in-Ok-Some : goal.returns-in-Ok-Some
 returns-in-Ok-Some c =
     let a = c.args in
-    let w = c.line.ensures in
+    let w = c.delivery.ensures in
     let k = c.in-Ok-Some in
     printed-delivery a.number a.answer k.d (told a.answer k.field-0 (Some k.d) k.is (rw k.is at k.field-0-is))
-    (omega arith) w.position w.bytes w.short
+    c.requires.0 w.line w.short
 
 pub returns-in-Ok-None : goal.returns-in-Ok-None
 returns-in-Ok-None c =
     let a = c.args in
     let k = c.in-Ok-None in
-    printed-nothing a.out.now a.at a.number a.answer (told a.answer k.field-0 None k.is (rw k.is at k.field-0-is))
+    printed-nothing a.lines.now a.number a.answer (told a.answer k.field-0 None k.is (rw k.is at k.field-0-is))
 
 pub returns-in-Err : goal.returns-in-Err
 returns-in-Err c =
     let a = c.args in
-    let w = rw c.from.ensures at c.refusal.ensures in
-    printed-refusal a.number a.answer c.in-Err.refused c.in-Err.is (omega arith) w.position w.bytes
-    (longest-line.refusal _ (omega arith))
+    printed-refusal a.number a.answer c.in-Err.refusal c.in-Err.is c.requires.0
+    (rw c.from.ensures at c.refusal.ensures) (longest-line.refusal _ (omega arith))
