@@ -4,9 +4,10 @@
 
 use link::code_batch::code_batch;
 use link::decode_batch::decode_batch;
+use link::refusal::Refusal;
 use link::start::{start_coder, start_decoder};
 use std::{array, fmt, io};
-use tables::make::make;
+use tables::make::{MakeError, make};
 use tables::table::Table;
 
 // n: twelve bits of information and the parity.
@@ -75,6 +76,35 @@ impl fmt::Display for Delivery {
     }
 }
 
+// Why nothing is sent.
+#[derive(Clone, Copy)]
+enum Refused {
+    Table(MakeError),
+    Memory(Refusal),
+}
+
+impl From<MakeError> for Refused {
+    fn from(error: MakeError) -> Refused {
+        Refused::Table(error)
+    }
+}
+
+impl From<Refusal> for Refused {
+    fn from(refusal: Refusal) -> Refused {
+        Refused::Memory(refusal)
+    }
+}
+
+impl fmt::Display for Refused {
+    fn fmt<W: fmt::Write>(&self, f: &mut fmt::Formatter<W>) -> fmt::Result {
+        let number = match *self {
+            Refused::Table(error) => error.number(),
+            Refused::Memory(refusal) => u64::from(refusal),
+        };
+        write!(f, "refused {number}")
+    }
+}
+
 // In mm: the water rises to a crest, and falls. After the last level come zeros.
 fn level(block: usize) -> u16 {
     if block < 12 {
@@ -133,22 +163,19 @@ fn relay(rt: &impl Print, t: Table, coder: &mut [u64], decoder: &mut [u64]) -> i
     Ok(())
 }
 
-fn start(rt: &impl Print, t: Table) -> io::Result<()> {
-    let mut coder = [0u64; 1 + DEPTH];
-    let mut decoder = [0u64; 2 + DEPTH * (SPAN + 1)];
-    if let Err(refusal) = start_coder(t, &mut coder) {
-        return println!(rt; "refused {}", u64::from(refusal));
-    }
-    if let Err(refusal) = start_decoder(t, &mut decoder) {
-        return println!(rt; "refused {}", u64::from(refusal));
-    }
-    relay(rt, t, &mut coder, &mut decoder)
+// The table of these numbers, with both memories started. Nothing is refused, and the answers are looked at all the same.
+fn start(coder: &mut [u64], decoder: &mut [u64]) -> Result<Table, Refused> {
+    let table = make(SYMBOLS, DEPTH)?;
+    start_coder(table, coder)?;
+    start_decoder(table, decoder)?;
+    Ok(table)
 }
 
-// Nothing is refused with these numbers. The answers are looked at all the same.
 fn main(rt: HostRuntime) -> io::Result<()> {
-    match make(SYMBOLS, DEPTH) {
-        Ok(table) => start(&rt, table),
-        Err(error) => println!(&rt; "refused {}", error.number()),
+    let mut coder = [0; 1 + DEPTH];
+    let mut decoder = [0; 2 + DEPTH * (SPAN + 1)];
+    match start(&mut coder, &mut decoder) {
+        Ok(table) => relay(&rt, table, &mut coder, &mut decoder),
+        Err(refused) => println!(&rt; "{refused}"),
     }
 }
