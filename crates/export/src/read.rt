@@ -1,7 +1,7 @@
 // Reading a table.
 ghost use Rattle.export.specs.Promises.{Reads};
 
-use crate::reading::{BurstReading, reading};
+use crate::reading::BurstReading;
 use crate::table::give_back;
 use tables::read::read;
 
@@ -11,5 +11,5 @@ pub extern "C" fn burst_read(bytes: &[u8], table: &mut [u64; 18]) -> BurstReadin
 {
     let answer = read(bytes);
     give_back(answer, table);
-    reading(answer)
+    answer.into()
 }

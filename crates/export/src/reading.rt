@@ -1,5 +1,5 @@
 // The answer of reading as numbers.
-ghost use Rattle.std.specs.Prelude.{◌≡◌};
+ghost use Rattle.std.specs.Prelude.{◌≡◌, Err};
 ghost use Rattle.tables.specs.Reading.{read_numbers};
 ghost use Rattle.export.specs.Answers.{reading_of};
 
@@ -17,39 +17,43 @@ pub struct BurstReading {
     pub e1: u64,
 }
 
-fn refusal(error: ReadError) -> BurstReading
-    ensures { result ≡ reading_of (read_numbers (Err error)) }
-{
-    let refused = error.number();
-    match error {
-        ReadError::Refused(_, place) => BurstReading {
-            refused,
-            place: place as u64,
-            l: 0,
-            e0: 0,
-            e1: 0,
-        },
-        ReadError::Unsuitable(Clash { l, e0, e1 }) => BurstReading {
-            refused,
-            place: 0,
-            l,
-            e0,
-            e1,
-        },
+impl From<ReadError> for BurstReading {
+    ghost from_gives = { λ error told. told ≡ reading_of (read_numbers (Err error)) };
+
+    fn from(error: ReadError) -> BurstReading {
+        let refused = error.number();
+        match error {
+            ReadError::Refused(_, place) => BurstReading {
+                refused,
+                place: place as u64,
+                l: 0,
+                e0: 0,
+                e1: 0,
+            },
+            ReadError::Unsuitable(Clash { l, e0, e1 }) => BurstReading {
+                refused,
+                place: 0,
+                l,
+                e0,
+                e1,
+            },
+        }
     }
 }
 
-pub(crate) fn reading(answer: Result<Table, ReadError>) -> BurstReading
-    ensures { result ≡ reading_of (read_numbers answer) }
-{
-    match answer {
-        Ok(_) => BurstReading {
-            refused: 0,
-            place: 0,
-            l: 0,
-            e0: 0,
-            e1: 0,
-        },
-        Err(error) => refusal(error),
+impl From<Result<Table, ReadError>> for BurstReading {
+    ghost from_gives = { λ answer told. told ≡ reading_of (read_numbers answer) };
+
+    fn from(answer: Result<Table, ReadError>) -> BurstReading {
+        match answer {
+            Ok(_) => BurstReading {
+                refused: 0,
+                place: 0,
+                l: 0,
+                e0: 0,
+                e1: 0,
+            },
+            Err(error) => error.into(),
+        }
     }
 }

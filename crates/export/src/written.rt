@@ -1,5 +1,5 @@
 // The answer of writing as numbers.
-ghost use Rattle.std.specs.Prelude.{◌≡◌};
+ghost use Rattle.std.specs.Prelude.{◌≡◌, Err};
 ghost use Rattle.tables.specs.Writing.{write_numbers};
 ghost use Rattle.export.specs.Answers.{written_of};
 
@@ -16,39 +16,43 @@ pub struct BurstWritten {
     pub e1: u64,
 }
 
-fn refusal(error: WriteError) -> BurstWritten
-    ensures { result ≡ written_of (write_numbers (Err error)) }
-{
-    let refused = error.number();
-    match error {
-        WriteError::Unsuitable(Clash { l, e0, e1 }) => BurstWritten {
-            refused,
-            length: 0,
-            l,
-            e0,
-            e1,
-        },
-        WriteError::Unfit | WriteError::NoRoom => BurstWritten {
-            refused,
-            length: 0,
-            l: 0,
-            e0: 0,
-            e1: 0,
-        },
+impl From<WriteError> for BurstWritten {
+    ghost from_gives = { λ error told. told ≡ written_of (write_numbers (Err error)) };
+
+    fn from(error: WriteError) -> BurstWritten {
+        let refused = error.number();
+        match error {
+            WriteError::Unsuitable(Clash { l, e0, e1 }) => BurstWritten {
+                refused,
+                length: 0,
+                l,
+                e0,
+                e1,
+            },
+            WriteError::Unfit | WriteError::NoRoom => BurstWritten {
+                refused,
+                length: 0,
+                l: 0,
+                e0: 0,
+                e1: 0,
+            },
+        }
     }
 }
 
-pub(crate) fn written(answer: Result<usize, WriteError>) -> BurstWritten
-    ensures { result ≡ written_of (write_numbers answer) }
-{
-    match answer {
-        Ok(length) => BurstWritten {
-            refused: 0,
-            length: length as u64,
-            l: 0,
-            e0: 0,
-            e1: 0,
-        },
-        Err(error) => refusal(error),
+impl From<Result<usize, WriteError>> for BurstWritten {
+    ghost from_gives = { λ answer told. told ≡ written_of (write_numbers answer) };
+
+    fn from(answer: Result<usize, WriteError>) -> BurstWritten {
+        match answer {
+            Ok(length) => BurstWritten {
+                refused: 0,
+                length: length as u64,
+                l: 0,
+                e0: 0,
+                e1: 0,
+            },
+            Err(error) => error.into(),
+        }
     }
 }

@@ -11,8 +11,8 @@ use Rattle.export.proofs.write.burst_write.Goals as goal
 pub returns : goal.returns
 returns c =
     let bytes = c.args.bytes.now in
-    subst (λ (u : Table). WritesBy u bytes c.written.result c.write.new.out) c.table_of.ensures
+    subst (λ (u : Table). WritesBy u bytes c.into.result c.write.new.out) c.table_of.ensures
     (record {
-      answer = c.written.ensures ∙ ap (λ (a : Result ℕ WriteError). written_of (write_numbers a)) c.write.ensures.answer;
+      answer = c.into.ensures ∙ ap (λ (a : Result ℕ WriteError). written_of (write_numbers a)) c.write.ensures.answer;
       buffer = c.write.ensures.buffer;
     })
