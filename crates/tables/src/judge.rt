@@ -42,12 +42,10 @@ fn clash_words(rows: &[u64], n: usize, span: usize, l: usize) -> [u64; 32]
     ensures { take (n + n) result ≡ map (shifted span l) (code_rows n rows.now) ++ code_rows n rows.now }
 {
     let mut words = [0u64; 32];
-    let mut i = 0;
-    while i < n {
+    for i in 0..n {
         let row = code_row(rows, n, i);
         words[i] = shift(row, l, span);
         words[n + i] = row;
-        i += 1;
     }
     words
 }
@@ -57,8 +55,7 @@ fn search(rows: &[u64], n: usize, span: usize) -> Option<Clash>
     requires { (2 ≤ n) × (n ≤ 16) × (span ≤ 64) × (n - 1 ≤ length rows.now) }
     ensures { result ≡ first_clash span (code_rows n rows.now) }
 {
-    let mut l = 1;
-    while l < span {
+    for l in 1..span {
         let words = clash_words(rows, n, span, l);
         let found = least_relation(&words, n + n, n);
         if let Some(c) = found {
@@ -68,7 +65,6 @@ fn search(rows: &[u64], n: usize, span: usize) -> Option<Clash>
                 e1: c & mask(n),
             });
         }
-        l += 1;
     }
     None
 }

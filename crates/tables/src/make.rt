@@ -33,10 +33,8 @@ fn made_row(n: usize, j: usize) -> u64
     ensures { result ≡ made_row columns n j }
 {
     let mut row = shift(1, n - j, 64);
-    let mut i = 1;
-    while i < n {
+    for i in 1..n {
         row += select(shift(1, n + i, 64), COLUMNS[i - 1] >> (j - 1));
-        i += 1;
     }
     row
 }
@@ -46,10 +44,8 @@ fn made_rows(n: usize) -> [u64; 15]
     ensures { result ≡ made_rows columns n (n - 1) ++ replicate (16 - n) 0 }
 {
     let mut rows = [0u64; 15];
-    let mut i = 0;
-    while i < n - 1 {
+    for i in 0..n - 1 {
         rows[i] = made_row(n, i + 1);
-        i += 1;
     }
     rows
 }

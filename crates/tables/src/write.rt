@@ -60,11 +60,9 @@ fn put_row(out: &mut [u8], at: usize, j: usize, row: u64)
     out[at] = 2;
     out[at + 1] = j as u8;
     let mut rest = row;
-    let mut k = 2;
-    while k < 10 {
+    for k in 2..10 {
         out[at + k] = (rest % 256) as u8;
         rest /= 256;
-        k += 1;
     }
 }
 
@@ -73,12 +71,8 @@ fn put_rows(t: Table, out: &mut [u8])
     requires { (1 ≤ t.symbols) × (t.symbols ≤ 16) × (10 * t.symbols ≤ length out.old + 5) }
     ensures { out.new ≡ sets out.old 4 (row_records t (ascending 1 (t.symbols - 1))) }
 {
-    let mut at = 4;
-    let mut j = 1;
-    while j < t.symbols {
-        put_row(out, at, j, t.rows[j - 1]);
-        at += 10;
-        j += 1;
+    for j in 1..t.symbols {
+        put_row(out, 10 * j - 6, j, t.rows[j - 1]);
     }
 }
 

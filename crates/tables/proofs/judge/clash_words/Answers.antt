@@ -73,12 +73,11 @@ pub loop-i-preserved : goal.loop-i-preserved
 loop-i-preserved c =
     let a = c.args in
     let span : min a.span 64 ≡ a.span = omega arith in (
-      omega arith,
-      simp length-set c.loop-i.invariant.1,
+      simp length-set c.loop-i.invariant.0,
       filled_more a.n a.span a.l (code_rows a.n a.rows.now) c.loop-i.i c.loop-i.words
           c.shift.result c.code_row-row.result
           (omega arith) (omega arith) (c.shift.ensures ∙ ap (λ (N : ℕ). shifted N a.l c.code_row-row.result) span)
-          c.code_row-row.ensures c.loop-i.invariant.2,
+          c.code_row-row.ensures c.loop-i.invariant.1,
     )
 
 pub returns : goal.returns
@@ -88,4 +87,4 @@ returns c =
     let size : length R ≡ a.n = code-length a.n a.rows.now (omega arith) (omega arith) in
     halves a.n c.loop-i.words (map (shifted a.span a.l) R) R
     (length-map R (shifted a.span a.l) ∙ size) size (omega arith)
-    (λ k h. let f = c.loop-i.invariant.2 k (omega arith) in (f.0 ∙ sym (map_at a.span a.l R k), f.1))
+    (λ k h. let f = c.loop-i.invariant.1 k (omega arith) in (f.0 ∙ sym (map_at a.span a.l R k), f.1))

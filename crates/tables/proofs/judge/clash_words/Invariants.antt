@@ -2,7 +2,7 @@
 -- Assumes nothing.
 use mathlib.Core.Path.{◌≡◌}
 use mathlib.Core.List.{List}
-use Prim.Native.Nat.{ℕ, ◌+◌, ◌-◌, ◌≤◌, ◌<◌}
+use Prim.Native.Nat.{ℕ, ◌+◌, ◌<◌}
 use lib.ListN.{length, get_or}
 use Rattle.span.specs.Word.{shifted}
 use Rattle.tables.specs.Table.{code_rows}
@@ -13,7 +13,4 @@ Filled n N l rows i words =
     (k : ℕ) → k < i → (get_or words k 0 ≡ shifted N l (get_or rows k 0)) × (get_or words (n + k) 0 ≡ get_or rows k 0)
 
 abbrev pub invariant-loop-i : goal.invariant-loop-i
-invariant-loop-i l = (l.i ≤ l.n) × (length l.words ≡ 32) × Filled l.n l.span l.l (code_rows l.n l.rows) l.i l.words
-
-abbrev pub decreases-loop-i : goal.decreases-loop-i
-decreases-loop-i l = l.n - l.i
+invariant-loop-i l = (length l.words ≡ 32) × Filled l.n l.span l.l (code_rows l.n l.rows) l.i l.words

@@ -23,7 +23,7 @@ none_more N rows l below here k e0 e1 h clash = go (ℕ_discrete k l)
     go (no e) = below k e0 e1 (omega arith) clash
 
 pub loop-l-init : goal.loop-l-init
-loop-l-init c = (omega arith, λ k e0 e1 h cl. let z = cl.shift_from in omega arith)
+loop-l-init c = λ k e0 e1 h cl. let z = cl.shift_from in omega arith
 
 pub returns-in-Some : goal.returns-in-Some
 returns-in-Some c =
@@ -43,9 +43,9 @@ returns-in-Some c =
     let least =
     subst (λ (x : ℕ). LeastAt N R c.loop-l.l (e / 2 ^ n) x) (sym low)
     (subst (λ (k : ℕ). LeastAt N R c.loop-l.l (e / 2 ^ k) (e % 2 ^ k)) size
-    (clash_found N R c.loop-l.l c.loop-l.invariant.0 (omega arith) e (sym same ∙ c.in-Some.is)))
+    (clash_found N R c.loop-l.l (omega arith) (omega arith) e (sym same ∙ c.in-Some.is)))
     in
-    sym ((first-clash N R _ _ _).1 (first-at N R _ _ _ c.loop-l.invariant.1 least))
+    sym ((first-clash N R _ _ _).1 (first-at N R _ _ _ c.loop-l.invariant least))
 
 pub loop-l-preserved : goal.loop-l-preserved
 loop-l-preserved c =
@@ -55,14 +55,12 @@ loop-l-preserved c =
     let R = code_rows a.n a.rows.now in
     let size : length R ≡ a.n = code-length a.n a.rows.now (omega arith) (omega arith) in
     let same = r.ensures
-    ∙ clash_counted a.span R c.loop-l.l a.n w.result w.ensures size (omega arith) in (
-      omega arith,
-      none_more a.span R c.loop-l.l c.loop-l.invariant.1
-          (clash_missing a.span R c.loop-l.l (sym same ∙ c.in_default.is)),
-    )
+    ∙ clash_counted a.span R c.loop-l.l a.n w.result w.ensures size (omega arith) in
+    none_more a.span R c.loop-l.l c.loop-l.invariant
+    (clash_missing a.span R c.loop-l.l (sym same ∙ c.in_default.is))
 
 pub returns : goal.returns
 returns c =
     let a = c.args in
     sym ((no-clash a.span (code_rows a.n a.rows.now)).1
-    (λ k e0 e1 h. let z = h.shift_to in c.loop-l.invariant.1 k e0 e1 (omega arith) h))
+    (λ k e0 e1 h. let z = h.shift_to in c.loop-l.invariant k e0 e1 (omega arith) h))

@@ -54,15 +54,15 @@ loop-i-init c =
     let a = c.args in
     let p = c.shift-row.ensures ∙ power (a.n - a.j) (omega arith) in
     let h : 2 ^ (a.n - a.j) < 2 ^ (a.n + 1) = pow-lt (omega arith) in
-    (omega arith, omega arith, p ∙ sym (add-zero (2 ^ (a.n - a.j))), rw p h)
+    (p ∙ sym (add-zero (2 ^ (a.n - a.j))), rw p h)
 
 pub overflow_add-row : goal.overflow_add-row
 unfolding columns
 overflow_add-row c =
     let a = c.args in
     let low = next_low a.n a.j c.loop-i.i c.loop-i.row c.select-row.result c.shift.result
-    c.loop-i.invariant.0 (omega arith)
-    c.select-row.ensures c.shift.ensures c.loop-i.invariant.2 c.loop-i.invariant.3
+    (omega arith) (omega arith)
+    c.select-row.ensures c.shift.ensures c.loop-i.invariant.0 c.loop-i.invariant.1
     in
     record { fits = lt_of_lt_of_le low (pow_mono {j = 64} (omega arith)) }
 
@@ -71,18 +71,16 @@ unfolding columns
 loop-i-preserved c =
     let a = c.args in
     let to : a.n + c.loop-i.i < 64 = omega arith in (
-      omega arith,
-      omega arith,
       next_row a.n a.j c.loop-i.i c.loop-i.row c.select-row.result c.shift.result
-          c.loop-i.invariant.0 to
-          c.select-row.ensures c.shift.ensures c.loop-i.invariant.2 c.loop-i.invariant.3,
+          (omega arith) to
+          c.select-row.ensures c.shift.ensures c.loop-i.invariant.0 c.loop-i.invariant.1,
       next_low a.n a.j c.loop-i.i c.loop-i.row c.select-row.result c.shift.result
-          c.loop-i.invariant.0 to
-          c.select-row.ensures c.shift.ensures c.loop-i.invariant.2 c.loop-i.invariant.3,
+          (omega arith) to
+          c.select-row.ensures c.shift.ensures c.loop-i.invariant.0 c.loop-i.invariant.1,
     )
 
 pub returns : goal.returns
 unfolding made_row
 returns c =
     let a = c.args in
-    c.loop-i.invariant.2 ∙ ap (λ (i : ℕ). 2 ^ (a.n - a.j) + upper columns a.n a.j i) (omega arith)
+    c.loop-i.invariant.0 ∙ ap (λ (i : ℕ). 2 ^ (a.n - a.j) + upper columns a.n a.j i) (omega arith)

@@ -27,19 +27,16 @@ loop-i-init c = search rules
 
 pub loop-i-preserved : goal.loop-i-preserved
 loop-i-preserved c =
-    let n = c.args.n in (
-      omega arith,
-      ap (λ (ws : List ℕ). set ws c.loop-i.i c.made_row.result) c.loop-i.invariant.1
-          ∙ ap (set (made_rows columns n c.loop-i.i ++ replicate (15 - c.loop-i.i) 0) c.loop-i.i)
-          c.made_row.ensures
-          ∙ row_more n c.loop-i.i (omega arith),
-    )
+    let n = c.args.n in
+    ap (λ (ws : List ℕ). set ws c.loop-i.i c.made_row.result) c.loop-i.invariant
+    ∙ ap (set (made_rows columns n c.loop-i.i ++ replicate (15 - c.loop-i.i) 0) c.loop-i.i) c.made_row.ensures
+    ∙ row_more n c.loop-i.i (omega arith)
 
 pub returns : goal.returns
 returns c =
     let n = c.args.n in
     let e : c.loop-i.i ≡ n - 1 = omega arith in
     let f : 15 - (n - 1) ≡ 16 - n = omega arith in
-    c.loop-i.invariant.1
+    c.loop-i.invariant
     ∙ ap (λ (i : ℕ). made_rows columns n i ++ replicate (15 - i) 0) e
     ∙ ap (λ (k : ℕ). made_rows columns n (n - 1) ++ replicate k 0) f

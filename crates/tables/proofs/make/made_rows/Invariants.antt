@@ -1,13 +1,10 @@
 -- `tables::make::made_rows`: after i turns the first i rows stand, and zeros after them. Assumes nothing.
 use mathlib.Core.Path.{◌≡◌}
 use mathlib.Core.List.{◌++◌}
-use Prim.Native.Nat.{◌-◌, ◌≤◌}
+use Prim.Native.Nat.{◌-◌}
 use lib.ListN.{replicate}
 use Rattle.tables.specs.Made.{columns, made_rows}
 use Rattle.tables.proofs.make.made_rows.Given as goal
 
 abbrev pub invariant-loop-i : goal.invariant-loop-i
-invariant-loop-i l = (l.i ≤ l.n - 1) × (l.rows ≡ made_rows columns l.n l.i ++ replicate (15 - l.i) 0)
-
-abbrev pub decreases-loop-i : goal.decreases-loop-i
-decreases-loop-i l = l.n - 1 - l.i
+invariant-loop-i l = l.rows ≡ made_rows columns l.n l.i ++ replicate (15 - l.i) 0

@@ -33,31 +33,27 @@ pub bounds-out-at-2 : goal.bounds-out-at-2
 bounds-out-at-2 c = simp length-set (search rules)
 
 pub loop-k-init : goal.loop-k-init
-loop-k-init c = (omega arith, refl, refl)
+loop-k-init c = (refl, refl)
 
 pub bounds-out-at-in-loop-k : goal.bounds-out-at-in-loop-k
 bounds-out-at-in-loop-k c =
     let l = c.loop-k in
-    let e : length l.out ≡ length c.args.out.now = l.invariant.1 ∙ simp length-set in
+    let e : length l.out ≡ length c.args.out.now = l.invariant.0 ∙ simp length-set in
     omega arith
-
-pub loop-k-smaller : goal.loop-k-smaller
-loop-k-smaller c = omega arith
 
 pub loop-k-preserved : goal.loop-k-preserved
 loop-k-preserved c =
     let l = c.loop-k in
     let at = c.args.at in (
-      omega arith,
-      length-set l.out _ _ ∙ l.invariant.1,
-      next l.out at l.k l.rest (omega arith) ∙ l.invariant.2,
+      length-set l.out _ _ ∙ l.invariant.0,
+      next l.out at l.k l.rest (omega arith) ∙ l.invariant.1,
     )
 
 pub shape_of-out : goal.shape_of-out
-shape_of-out c = c.loop-k.invariant.1 ∙ simp length-set
+shape_of-out c = c.loop-k.invariant.0 ∙ simp length-set
 
 pub returns : goal.returns
 returns c =
     let l = c.loop-k in
     let a = c.args in
-    sym (last l.out a.at l.k l.rest (omega arith)) ∙ l.invariant.2 ∙ whole a.out.now a.at a.j a.row
+    sym (last l.out a.at l.k l.rest (omega arith)) ∙ l.invariant.1 ∙ whole a.out.now a.at a.j a.row
