@@ -1,4 +1,4 @@
-// One word: the parity of the ones that it has in common with another, selection, masks and shifts.
+// One word: the parity of the ones that it has in common with another, selection, masks, shifts, the weight of a bit.
 ghost use Rattle.std.specs.Prelude.{◌≡◌, ◌-◌, ◌%◌, ◌^◌, min};
 ghost use Rattle.span.specs.Word.{sel, digit, odd, common_parity, shifted};
 
@@ -7,16 +7,6 @@ pub(crate) fn parity(a: u64, b: u64) -> u64
     ensures { result ≡ digit (common_parity 64 a b) }
 {
     ((a & b).count_ones() % 2) as u64
-}
-
-// The same where most words have no common ones, as in the steps of an elimination: there nothing is counted.
-pub(crate) fn common_parity(a: u64, b: u64) -> u64
-    ensures { result ≡ digit (common_parity 64 a b) }
-{
-    if a & b == 0 {
-        return 0;
-    }
-    parity(a, b)
 }
 
 // The word where `on` is odd, else 0: no branch, since the bits that select are random.

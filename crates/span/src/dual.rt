@@ -4,7 +4,7 @@ ghost use Rattle.span.specs.Combination.{counted};
 ghost use Rattle.span.specs.Elimination.{basis_of};
 ghost use Rattle.span.specs.Dual.{crossed, dual_checks, dual, together, at_once, least_by};
 
-use crate::bits::{common_parity, parity, select};
+use crate::bits::{parity, select};
 use crate::eliminate::{Basis, Reduced, basis_of};
 
 // A check word, with each of the first `end` new ones added whose vector has an odd count of common ones with it.
@@ -14,7 +14,7 @@ fn dual_check(vectors: &[u64; 32], duals: &[u64; 32], check: u64, end: usize) ->
 {
     let mut sum = check;
     for i in 0..end {
-        sum ^= select(duals[i], common_parity(vectors[i], check));
+        sum ^= select(duals[i], parity(vectors[i], check));
     }
     sum
 }

@@ -6,7 +6,7 @@ ghost use Rattle.span.specs.Basis.{reduction};
 ghost use Rattle.span.specs.Elimination.{pivot, basis_of};
 ghost use Rattle.span.specs.Combination.{counted};
 
-use crate::bits::{common_parity, one_at, select};
+use crate::bits::{one_at, parity, select};
 
 // `size` triples: what was left of a word that joined, a check word that has an odd count of common ones with it, and
 // the coefficients that make it from the words. Arrays with a size and no `Vec`, since nothing here is on a heap. Three
@@ -33,7 +33,7 @@ pub(crate) fn reduce_by(b: &Basis, x: u64) -> Reduced
     let mut rest = x;
     let mut coefficients = 0;
     for i in 0..b.size.min(32) {
-        let on = common_parity(rest, b.checks[i]);
+        let on = parity(rest, b.checks[i]);
         rest ^= select(b.vectors[i], on);
         coefficients ^= select(b.coefficients[i], on);
     }
@@ -68,8 +68,8 @@ fn counted(words: &[u64], count: usize) -> &[u64]
     &words[..count.min(words.len()).min(32)]
 }
 
-// The basis of the words, taken up one by one, or as `Err` the relation of the first word from `f` on of which nothing is
-// left. What is left of a word joins the basis; a word below f of which nothing is left is passed over.
+// The basis of the words, taken up one by one, or as `Err` the relation of the first word from `f` on of which nothing
+// is left. What is left of a word joins the basis; a word below f of which nothing is left is passed over.
 fn eliminate(words: &[u64], f: usize) -> Result<Basis, u64>
     requires { length words.now ≤ 32 }
     ensures relation { result_err result ≡ least_relation words.now f }

@@ -21,5 +21,5 @@ pub loop-i-preserved : goal.loop-i-preserved
 unfolding ◌⊕◌
 loop-i-preserved c =
     let a = c.args in
-    one_more a.vectors.now a.duals.now a.check c.loop-i.i c.loop-i.sum c.common_parity.result c.select-sum.result
-    c.loop-i.invariant c.common_parity.ensures c.select-sum.ensures
+    one_more a.vectors.now a.duals.now a.check c.loop-i.i c.loop-i.sum c.parity.result c.select-sum.result
+    c.loop-i.invariant c.parity.ensures c.select-sum.ensures

@@ -25,8 +25,8 @@ loop-i-init c = refl
 pub loop-i-preserved : goal.loop-i-preserved
 unfolding ◌⊕◌
 loop-i-preserved c =
-    one_more c.args.b.now c.loop-i.i c.args.x c.loop-i.rest c.loop-i.coefficients c.common_parity-on.result
-    c.select-rest.result c.select-coefficients.result c.loop-i.invariant c.common_parity-on.ensures c.select-rest.ensures
+    one_more c.args.b.now c.loop-i.i c.args.x c.loop-i.rest c.loop-i.coefficients c.parity-on.result
+    c.select-rest.result c.select-coefficients.result c.loop-i.invariant c.parity-on.ensures c.select-rest.ensures
     c.select-coefficients.ensures
 
 pub returns : goal.returns

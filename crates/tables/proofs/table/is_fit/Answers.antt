@@ -9,8 +9,8 @@ use lib.Bits.{bit_or, or_lt, or_add_and, and_le_l, and_le_r}
 use lib.Dec.{leb, ltb}
 use lib.ListN.{length, get_or, take}
 use lib.Pow.{pow_pos}
-use lib.Seq.{take_all}
 use native.Mathlib.Decide.{dec_lt}
+use Rattle.std.proofs.lemmas.List.{take_min}
 use Rattle.span.specs.Dual.{together}
 use Rattle.span.proofs.Together.{together-take}
 use Rattle.tables.specs.Table.{sizes_fit, rows_fit, fit}
@@ -52,16 +52,6 @@ below w m N e = go (leb w m) refl
     go true q = let h = leb-true w m q in sym (lt-ltb w (2 ^ N) (omega arith))
     go false q = let h = leb-false w m q in sym (le-ltb w (2 ^ N) (omega arith))
 
--- past the end no row is left
-clamped : (rows : List ℕ) (count : ℕ) → take (min count (length rows)) rows ≡ take count rows
-clamped rows count = go (dec_lt count (length rows))
-  where
-    go : Dec (count < length rows) → take (min count (length rows)) rows ≡ take count rows
-    go (yes h) = ap (λ (k : ℕ). take k rows) (let e : min count (length rows) ≡ count = omega arith in e)
-    go (no h) =
-        ap (λ (k : ℕ). take k rows) (let e : min count (length rows) ≡ length rows = omega arith in e)
-        ∙ take_all (length rows) rows (omega arith) ∙ sym (take_all count rows (omega arith))
-
 -- sizes that do not fit decide
 pub returns-then-not-sizes_fit : goal.returns-then-not-sizes_fit
 unfolding fit
@@ -101,6 +91,6 @@ returns c =
     ∙ ap (λ (x : ℕ). ltb x (2 ^ a.span)) (c.together.ensures ∙ together-take c.min-end.result ws (omega arith))
     ∙ judged a.span ws c.min-end.result
     ∙ ap (λ (i : ℕ). rows_fit a.span (take i ws)) end
-    ∙ ap (rows_fit a.span) (clamped ws (a.symbols - 1))
+    ∙ ap (rows_fit a.span) (take_min (a.symbols - 1) ws)
     ∙ ap (λ (s : Bool). s && rows_fit a.span (take (a.symbols - 1) ws))
     (sym (sizes (goal.at.returns c).Else-not-sizes_fit))
