@@ -39,6 +39,7 @@ fn has_room(words: usize, bytes: usize) -> bool
     WORDS <= words && 2 * LONGEST <= bytes
 }
 
+// The decoder of a fit table, which no start refuses: the memory is started, as the contract says.
 fn started(t: Table, memory: &mut [u64]) -> Decoder
     requires { (fit t ≡ true) × (t.span ≤ 32) × (memory_words ≤ length memory.old) }
     ensures answer { result ≡ decoder_of t }
