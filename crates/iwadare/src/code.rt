@@ -34,7 +34,8 @@ fn fault(memory: &[u64; CODER_WORDS], info: u64) -> Result<(), Refusal>
     Ok(())
 }
 
-// A step that no refusal applies to: the parity is bit 0 of w, and w halved stays.
+// A step that no refusal applies to: the parity is bit 0 of w, and w halved stays. It is not one with the coder's of
+// `link`, whose memory has a turn and a word for each stream: a step shared would be handed what is fixed here.
 fn taken(memory: &mut [u64; CODER_WORDS], info: u64) -> u64
     requires { info < 4 }
     ensures block { result ≡ coded_block memory.old info }

@@ -122,7 +122,8 @@ fn keep(memory: &mut [u64; WORDS], w: u64, terms: u64, weight: u64, youngest: u6
     push(memory, OLDEST, youngest);
 }
 
-// A step that no refusal applies to. The two generators are those of the two low bits, the received information.
+// A step that no refusal applies to. The two generators are those of the two low bits, the received information. It is
+// not one with the decoder's of `link`: the terms flip two blocks here, and there they are solved for one.
 fn taken(memory: &mut [u64; WORDS], received: u64) -> Option<u16>
     requires { decoder_fault memory.old received ≡ 0 }
     ensures answer { Ok result ≡ delivery memory.old received }

@@ -38,7 +38,7 @@ struct Channel {
     ghost guard_to: { guard ≤ 4096 },
 }
 
-// How many blocks of a round were filled, and the generator after it.
+// How many blocks of a round were filled, and the generator after it. A tuple is no plainer: it would name neither.
 #[derive(Clone, Copy)]
 struct Round {
     length: usize,

@@ -14,7 +14,8 @@ pub struct Draw {
 }
 
 impl Generator {
-    // Of the state 0, which no other leads to, every draw is 0.
+    // By value, and no `&mut self`: "each draw hands back the number and the generator as it now stands". Of the state
+    // 0, which no other leads to, every draw is 0.
     pub fn draw(self) -> Draw
         ensures { result ≡ drawn self }
     {
