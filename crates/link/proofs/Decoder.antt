@@ -3,6 +3,7 @@
 --
 --   stream_in, pending_in, syndrome_in, delayed_in, register_in   words of the turn's stream, and the register
 --   DecoderTaken, decoder-taken   what the tests of a step that is taken say
+--   decoder-ready                 what they say of the table alone, and of the memory alone
 --   DecoderStep, decoder_step     what the step does
 --   decoder-length                the length stays
 --   Verdict, decoder-verdict      what the decoder judges by: raw term, register and the error found
@@ -29,6 +30,7 @@ use Rattle.link.specs.Memory.{joining, next_turn, turn_of, decoder_words, fill_o
 use Rattle.link.specs.Memory.{fill_next}
 use Rattle.link.specs.Step.{raw_term, found, error_of, kept_of, mark_of}
 use Rattle.link.specs.Refusals.{Answer, decoder_malformed, decoder_fault, refused}
+use Rattle.link.specs.Fit.{Ready}
 use Rattle.link.specs.Decoder.{decode_answer, decode_memory, record_numbers, decode_numbers, decode_values, Decodes}
 use Rattle.link.specs.Decoder.{decoder_joining, decoder_register, decoder_found, part_next, stream_replaced}
 use Rattle.link.specs.Decoder.{decoder_next, delivered, delivery}
@@ -263,6 +265,12 @@ unfolding decoder_fault
 decoder-taken t s r e =
     let p = step_passed t (decoder_words t) (decoder_malformed t s) (2 ^ t.symbols) s r e in
     record { sizes = p.sizes; size = p.size; fine = fine-decoder t s p.formed; block = p.block }
+
+pub decoder-ready : (t : Table) (s : List ℕ) (r : ℕ) → decoder_fault t s r ≡ 0 → (fit t ≡ true) × Ready t s
+unfolding decoder_fault
+decoder-ready t s r e =
+    let p = step_passed t (decoder_words t) (decoder_malformed t s) (2 ^ t.symbols) s r e in
+    (p.fits, record { size = p.size; formed = p.formed })
 
 -- with the part in its place the memory is as long as it was, and turn and fill are as they were
 pub replaced-front : (t : Table) (s : List ℕ) (r : ℕ) → DecoderTaken t s r

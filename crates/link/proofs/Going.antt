@@ -4,6 +4,7 @@
 --   Turn                 a turn: the loop so far, a fit table, and a block that is there
 --   turn_declined        the block is refused
 --   turn_taken           no refusal applies
+--   turn_ready           the memory is what a step asks for
 --   turn_next            its step is taken
 --   come-all             the same of a batch that is known to have come so far
 --   decode-size          a batch has no more entries than room
@@ -20,6 +21,7 @@ use lib.ListN.{length, get_or, set}
 use Rattle.tables.specs.declared.table.Table.{Table}
 use Rattle.tables.specs.Table.{fit}
 use Rattle.tables.proofs.Fit.{fit-facts}
+use Rattle.link.specs.Fit.{Ready}
 use Rattle.link.specs.Memory.{decoder_words}
 use Rattle.link.specs.Refusals.{decoder_malformed, decoder_fault}
 use Rattle.link.specs.Decoder.{decode_answer, decode_memory, decoder_next, delivery}
@@ -95,6 +97,12 @@ module _ (u : Table) (before bs out : List ℕ) where
         turn_taken e =
             let t = or-none (ltb i u.depth && decoder_malformed u s) (ltb most r) e in
             settled false false (fine t.0) (sym is ∙ t.1)
+
+        pub turn_ready : (ltb i u.depth && decoder_malformed u s) || ltb most r ≡ false → Ready u s
+        turn_ready e = record {
+          size = g.size ∙ size;
+          formed = fine (or-none (ltb i u.depth && decoder_malformed u s) (ltb most r) e).0;
+        }
 
       pub turn_next : i < length out → decoder_fault u s r ≡ 0 → (after : List ℕ) → after ≡ decoder_next u s r
           → (e : ℕ) → e ∷ [] ≡ decode_entries (delivery u s r) → Going (i + 1) after (set out' i e)

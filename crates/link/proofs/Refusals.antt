@@ -81,6 +81,7 @@ module _ (t : Table) (words : ℕ) (malformed : Bool) (bound : ℕ) (s : List �
 
   -- what the tests of a step that is taken say
   pub record Passed : Type 0 where
+    pub fits : fit t ≡ true
     pub sizes : Fits t.symbols t.span t.depth (info_rows t)
     pub size : length s ≡ words
     pub formed : malformed ≡ false
@@ -94,6 +95,7 @@ module _ (t : Table) (words : ℕ) (malformed : Bool) (bound : ℕ) (s : List �
       let r = first-none 14 malformed (large ∷ []) (omega arith) q.1 in
       let l = first-none 15 large [] (omega arith) r.1 in
       record {
+        fits = not-false (fit t) p.0;
         sizes = fit-facts t (not-false (fit t) p.0);
         size = eqb-true (length s) words (not-false (eqb (length s) words) q.0);
         formed = r.0;

@@ -5,8 +5,8 @@
 --   found_is      what is found there
 --   memory_is     the memory after the step
 --   info_is, mark_is   information and mark of the record
---   step_words    entry and memory of a step of a batch, by what `terms`, `judged` and `take_block` promise
-use mathlib.Core.Path.{◌≡◌, ap, ap₂, ◌∙◌}
+--   step_words    entry and memory of a step of a batch, by what `terms` and `take_block` promise
+use mathlib.Core.Path.{◌≡◌, refl, ap, ap₂, ◌∙◌}
 use mathlib.Core.Bool.{Bool, cond}
 use mathlib.Core.List.{List, [], ◌∷◌}
 use Prim.Native.Nat.{ℕ, ◌+◌, ◌-◌, ◌/◌, ◌^◌, ◌≤◌}
@@ -18,12 +18,12 @@ use Rattle.span.specs.Word.{◌⊕◌, odd, sel}
 use Rattle.span.specs.Combination.{combination}
 use Rattle.tables.specs.declared.table.Table.{Table}
 use Rattle.tables.specs.Table.{rows_of, info_rows}
-use Rattle.link.specs.declared.decode.Mark.{Mark}
+use Rattle.link.specs.declared.decode.Verdict.{Verdict}
 use Rattle.link.specs.Memory.{turn_of, fill_of, delay_of, pending_of, syndrome_of, delayed_of}
 use Rattle.link.specs.Step.{information, raw_term, found, error_of, kept_of, mark_of}
 use Rattle.link.specs.Decoder.{decoder_joining, decoder_register, decoder_found, part_next, decoder_next, delivered}
 use Rattle.link.specs.Decoder.{advanced, delivery, mark_number}
-use Rattle.link.specs.Batch.{decode_entry, decode_entries}
+use Rattle.link.specs.Batch.{decode_entry, decode_entries, Judges}
 use Rattle.link.proofs.Coder.{sel-digit}
 use Rattle.link.proofs.Step.{joined_half, joined_odd}
 use Rattle.link.proofs.Entry.{entry-is}
@@ -70,20 +70,19 @@ module _ (t : Table) (s : List ℕ) (r w : ℕ) (room : t.symbols - 1 ≤ length
     mark_is = ap₂ (mark_of (2 ^ (t.symbols - 1))) found_is is
 
   pub step_words : (x top : ℕ) → x ≡ syndrome_of t s (turn_of s) + sel (odd w) top → top ≡ 2 ^ (t.span - 1)
-      → (f : Option ℕ) → f ≡ found (rows_of t) x → (error kept : ℕ) (mark : Mark)
-      → (error ≡ error_of f) × ((kept ≡ kept_of f x) × (mark ≡ mark_of (2 ^ (t.symbols - 1)) f x))
-      → (entry : ℕ) (after : List ℕ)
-      → (entry ≡ cond (ltb (fill_of s) (delay_of t)) (decode_entry 0 0)
-      (decode_entry (mark_number mark) (delayed_of t s (turn_of s) 0 ⊕ information t.symbols error)))
-      × (after ≡ advanced t.span t.depth s (w / 2) kept (information t.symbols r))
+      → (v : Verdict) → Judges t x v → (entry : ℕ) (after : List ℕ)
+      → entry ≡ cond (ltb (fill_of s) (delay_of t)) (decode_entry 0 0)
+      (decode_entry (mark_number v.mark) (delayed_of t s (turn_of s) 0 ⊕ information t.symbols v.error))
+      → after ≡ advanced t.span t.depth s (w / 2) v.kept (information t.symbols r)
       → (after ≡ decoder_next t s r) × (entry ∷ [] ≡ decode_entries (delivery t s r))
-  step_words x top k m f g error kept mark v entry after h =
-      let is = register_is x top k m in (
-        h.1
-            ∙ ap (λ (y : ℕ). advanced t.span t.depth s (w / 2) y (information t.symbols r)) v.1.0
-            ∙ memory_is x is f g,
-        ap (λ (y : ℕ). y ∷ []) h.0
-            ∙ entry-is t s r mark (delayed_of t s (turn_of s) 0 ⊕ information t.symbols error)
-            (v.1.1 ∙ mark_is x is f g)
-            (ap (λ (y : ℕ). delayed_of t s (turn_of s) 0 ⊕ information t.symbols y) v.0 ∙ info_is x is f g),
+  step_words x top k m v j entry after h l =
+      let is = register_is x top k m in
+      let f = found (rows_of t) x in (
+        l
+            ∙ ap (λ (y : ℕ). advanced t.span t.depth s (w / 2) y (information t.symbols r)) j.kept
+            ∙ memory_is x is f refl,
+        ap (λ (y : ℕ). y ∷ []) h
+            ∙ entry-is t s r v.mark (delayed_of t s (turn_of s) 0 ⊕ information t.symbols v.error)
+            (j.mark ∙ mark_is x is f refl)
+            (ap (λ (y : ℕ). delayed_of t s (turn_of s) 0 ⊕ information t.symbols y) j.error ∙ info_is x is f refl),
       )

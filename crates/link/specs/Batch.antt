@@ -8,6 +8,7 @@
 --   code_batch, decode_batch   the batches of coder and of decoder
 --   Fills               what `fill_coded` and `fill_decoded` promise, and what C calls
 --   FillsPart           what `code_batch` and `decode_batch` promise
+--   Judges              what a decoder's batch takes a register to say: error, syndrome word and mark
 --   followed, Reached   entries and then those of another batch; where a batch has come to after some of its blocks
 --   EntryLaw            a call that is not refused has one entry: the coded block; the information in its low 16
 --                       bits, and above them the mark
@@ -15,7 +16,10 @@ use Rattle.link.specs.declared.decode.Delivered.{Delivered}
 use Rattle.std.specs.Prelude.{Option, ◌≡◌, List, [], ◌∷◌, ◌++◌, ℕ, zero, suc, ◌+◌, ◌-◌, ◌*◌, ◌/◌, ◌%◌, ◌^◌, ◌≤◌, ◌<◌, length}
 use Rattle.std.specs.Prelude.{get_or, take, drop, Some, None, Ok, Err}
 use Rattle.tables.specs.declared.table.Table.{Table}
+use Rattle.tables.specs.Table.{rows_of}
+use Rattle.link.specs.declared.decode.Verdict.{Verdict}
 use Rattle.link.specs.Refusals.{Answer, coder_fault, decoder_fault}
+use Rattle.link.specs.Step.{found, error_of, kept_of, mark_of}
 use Rattle.link.specs.Coder.{coded_block, code_answer, code_memory}
 use Rattle.link.specs.Decoder.{decode_answer, decode_memory, mark_number, decode_values}
 
@@ -72,6 +76,12 @@ pub record Fills (b : Batch) (out : List ℕ) (taken : ℕ) (after out' : List �
 pub record FillsPart (b : Batch) (part after : List ℕ) : Type 0 where
   pub entries : part ≡ b.entries
   pub memory : after ≡ b.memory
+
+-- 01, a decoding step, line 3 and the mark: no promise of a public function is made of it
+pub record Judges (t : Table) (x : ℕ) (v : Verdict) : Type 0 where
+  pub error : v.error ≡ error_of (found (rows_of t) x)
+  pub kept : v.kept ≡ kept_of (found (rows_of t) x) x
+  pub mark : v.mark ≡ mark_of (2 ^ (t.symbols - 1)) (found (rows_of t) x) x
 
 -- What a batch comes to is the first i entries of the output, and then what a batch of the blocks that are left comes
 -- to; the output past them is as it was. No promise of a public function is made of it.

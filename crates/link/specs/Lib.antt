@@ -2,6 +2,7 @@
 pub mod Memory
 pub mod Refusals
 pub mod Start
+pub mod Fit
 pub mod Coder
 pub mod Step
 pub mod Marks

@@ -4,16 +4,19 @@ ghost use Rattle.std.specs.Prelude.{get_or, take, drop, Ok};
 ghost use Rattle.span.specs.Word.{◌⊕◌, odd, sel};
 ghost use Rattle.span.specs.Combination.{combination};
 ghost use Rattle.tables.specs.Lent.{with_rows, lent};
-ghost use Rattle.tables.specs.Table.{table, code_rows};
-ghost use Rattle.link.specs.Memory.{turn_of, stream_at, delayed_of, decoder_words};
-ghost use Rattle.link.specs.Step.{information, found, error_of, kept_of, mark_found, mark_of};
+ghost use Rattle.tables.specs.Table.{rows_of};
+ghost use Rattle.link.specs.Fit.{table_of, Ready};
+ghost use Rattle.link.specs.Memory.{turn_of, pending_of, syndrome_of, delayed_of, decoder_words};
+ghost use Rattle.link.specs.Step.{found, error_of, kept_of, mark_found, mark_of};
 ghost use Rattle.link.specs.Refusals.{some_above, decoder_malformed, decoder_fault, settled};
 ghost use Rattle.link.specs.Decoder.{advanced, decoder_next, delivery, Decodes};
 
+use crate::fit::FitTable;
 use crate::refusal::Refusal;
 use crate::stream::{next_turn, push};
-use span::bits::{mask, one_at, select};
+use span::bits::{mask, select};
 use span::combine::combination;
+use span::dual::together;
 use span::eliminate::least_relation;
 use tables::table::{Table, lent_fits};
 
@@ -56,42 +59,35 @@ fn some_above(words: &[u64], from: usize, count: usize, width: usize) -> bool
     requires { (from + count ≤ length words.now) × (width ≤ 64) }
     ensures { result ≡ some_above (2 ^ width) words.now from count }
 {
-    let mut seen: u64 = 0;
-    let mut i = 0;
-    while i < count {
-        seen |= words[from + i];
-        i += 1;
-    }
-    mask(width) < seen
+    mask(width) < together(&words[from..from + count])
 }
 
 // The condition of 14 on the words of the stream that begins at `at`.
-fn stream_malformed(state: &[u64], at: usize, n: usize, span: usize) -> bool
-    requires { (at + (span + 1) ≤ length state.now) × (2 ≤ n) × (n ≤ 16) × (2 ≤ span) × (span ≤ 64) }
-    ensures { result ≡ leb (2 ^ (span - 1)) (get_or state.now at 0)
-        || leb (2 ^ (span - 1)) (get_or state.now (at + 1) 0)
-        || some_above (2 ^ (n - 1)) state.now (at + 2) (span - 1) }
+fn stream_malformed(t: &FitTable, state: &[u64], at: usize) -> bool
+    requires { at + (t.now.span + 1) ≤ length state.now }
+    ensures { result ≡ leb (2 ^ (t.now.span - 1)) (get_or state.now at 0)
+        || leb (2 ^ (t.now.span - 1)) (get_or state.now (at + 1) 0)
+        || some_above (2 ^ (t.now.symbols - 1)) state.now (at + 2) (t.now.span - 1) }
 {
-    if mask(span - 1) < (state[at] | state[at + 1]) {
+    if mask(t.span - 1) < (state[at] | state[at + 1]) {
         return true;
     }
-    some_above(state, at + 2, span - 1, n - 1)
+    some_above(state, at + 2, t.span - 1, t.symbols - 1)
 }
 
-// The condition of 14, of n, N and m: the turn is tested before it is an index.
-pub(crate) fn malformed(n: usize, span: usize, depth: usize, state: &[u64]) -> bool
-    requires { (2 ≤ n) × (n ≤ 16) × (2 ≤ span) × (span ≤ 64) × (1 ≤ depth) × (depth ≤ 64)
-        × (length state.now ≡ decoder_words (table n span depth [])) }
-    ensures { result ≡ decoder_malformed (table n span depth []) state.now }
+// The condition of 14: the turn is tested before it is an index.
+pub(crate) fn malformed(t: &FitTable, state: &[u64]) -> bool
+    requires { length state.now ≡ decoder_words (table_of t.now) }
+    ensures { result ≡ decoder_malformed (table_of t.now) state.now }
 {
     let turn = state[0];
-    if depth as u64 <= turn {
+    if t.depth as u64 <= turn {
         return true;
     }
-    if ((depth * (span - 1)) as u64) < state[1] {
+    if t.delay() < state[1] {
         return true;
     }
-    stream_malformed(state, 2 + (turn as usize) * (span + 1), n, span)
+    stream_malformed(t, state, 2 + (turn as usize) * (t.span + 1))
 }
 
 // Whether one of refusals 12 to 15 applies: the first of them.
@@ -104,7 +100,13 @@ fn fault(t: Table, rows: &[u64], state: &[u64], block: u64) -> Result<(), Refusa
     if state.len() != 2 + t.depth * (t.span + 1) {
         return Err(Refusal::WrongLength);
     }
-    if malformed(t.symbols, t.span, t.depth, state) {
+    let fit = FitTable {
+        symbols: t.symbols,
+        span: t.span,
+        depth: t.depth,
+        rows,
+    };
+    if malformed(&fit, state) {
         return Err(Refusal::MalformedMemory);
     }
     if mask(t.symbols) < block {
@@ -115,34 +117,24 @@ fn fault(t: Table, rows: &[u64], state: &[u64], block: u64) -> Result<(), Refusa
 
 // ---- the four lines
 
-// The information of a received block: what is below its parity symbol.
-pub(crate) fn information(n: usize, block: u64) -> u64
-    requires { (1 ≤ n) × (n ≤ 16) }
-    ensures { result ≡ information n block }
-{
-    block & mask(n - 1)
-}
-
 // The image of a received block: the rows of its information's ones, and the parity's, which is 1.
-fn image(rows: &[u64], n: usize, received: u64) -> u64
-    requires { (1 ≤ n) × (n ≤ 16) × (n - 1 ≤ length rows.now) × (received < 2 ^ n) }
-    ensures { result ≡ combination (code_rows n rows.now) received }
+fn image(t: &FitTable, received: u64) -> u64
+    requires { received < 2 ^ t.now.symbols }
+    ensures { result ≡ combination (rows_of (table_of t.now)) received }
 {
-    combination(rows, n - 1, received) ^ (received >> ((n - 1) as u64))
+    let width = t.symbols - 1;
+    combination(t.rows, width, received) ^ (received >> (width as u64))
 }
 
-// Lines 1 and 2 on the turn's stream, of N and 2^(N−1): w is its pending word and the image of the received block, so
-// that bit 0 of w is the raw term, which stands above the syndrome word in the register.
-pub(crate) fn terms(state: &[u64], span: usize, top: u64, image: u64) -> Joined
-    requires { (stream_at (table 0 span 0 []) (turn_of state.now) + 1 < length state.now)
-        × (length state.now ≤ 4162)
-        × (get_or state.now (stream_at (table 0 span 0 []) (turn_of state.now) + 1) 0 < top) × (top ≤ 2 ^ 63)
-        × (span ≤ 64) }
-    ensures w { result.w ≡ get_or state.now (stream_at (table 0 span 0 []) (turn_of state.now)) 0 ⊕ image }
-    ensures register { result.register ≡ get_or state.now (stream_at (table 0 span 0 []) (turn_of state.now) + 1) 0
+// Lines 1 and 2 on the turn's stream, with `top` the weight of the raw term: w is the pending word and the image of the
+// received block, so that bit 0 of w is the raw term, which stands above the syndrome word in the register.
+pub(crate) fn terms(t: &FitTable, state: &[u64], top: u64, image: u64) -> Joined
+    requires { Ready (table_of t.now) state.now × (top ≡ 2 ^ (t.now.span - 1)) }
+    ensures w { result.w ≡ pending_of (table_of t.now) state.now (turn_of state.now) ⊕ image }
+    ensures register { result.register ≡ syndrome_of (table_of t.now) state.now (turn_of state.now)
         + sel (odd result.w) top }
 {
-    let at = 2 + (state[0] as usize) * (span + 1);
+    let at = 2 + (state[0] as usize) * (t.span + 1);
     let w = state[at] ^ image;
     Joined {
         w,
@@ -151,12 +143,12 @@ pub(crate) fn terms(state: &[u64], span: usize, top: u64, image: u64) -> Joined
 }
 
 // The rows of the code, the parity's after them, and the register last.
-pub(crate) fn error_words(rows: &[u64], n: usize, x: u64) -> [u64; 32]
-    requires { (2 ≤ n) × (n ≤ 16) × (n - 1 ≤ length rows.now) }
-    ensures { take (n + 1) result ≡ code_rows n rows.now ++ (x ∷ []) }
+pub(crate) fn error_words(t: &FitTable, x: u64) -> [u64; 32]
+    ensures { take (t.now.symbols + 1) result ≡ rows_of (table_of t.now) ++ (x ∷ []) }
 {
+    let n = t.symbols;
     let mut words = [0u64; 32];
-    words[..n - 1].copy_from_slice(&rows[..n - 1]);
+    words[..n - 1].copy_from_slice(&t.rows[..n - 1]);
     words[n - 1] = 1;
     words[n] = x;
     words
@@ -164,11 +156,11 @@ pub(crate) fn error_words(rows: &[u64], n: usize, x: u64) -> [u64; 32]
 
 // Line 3: the least error block whose image is the register. The least relation that ends in the register has its
 // coefficients below.
-fn least_error(rows: &[u64], n: usize, x: u64) -> Option<u64>
-    requires { (2 ≤ n) × (n ≤ 16) × (n - 1 ≤ length rows.now) }
-    ensures { result ≡ found (code_rows n rows.now) x }
+fn least_error(t: &FitTable, x: u64) -> Option<u64>
+    ensures { result ≡ found (rows_of (table_of t.now)) x }
 {
-    let words = error_words(rows, n, x);
+    let n = t.symbols;
+    let words = error_words(t, x);
     let relation = least_relation(&words, n + 1, n);
     if let Some(c) = relation {
         return Some(c - (1 << (n as u64)));
@@ -220,14 +212,13 @@ pub(crate) fn judged(found: Option<u64>, x: u64, weight: u64) -> Verdict
 }
 
 // A register of 0 is the image of 0: nothing is eliminated then.
-fn explain(rows: &[u64], n: usize, x: u64) -> Option<u64>
-    requires { (2 ≤ n) × (n ≤ 16) × (n - 1 ≤ length rows.now) }
-    ensures { result ≡ found (code_rows n rows.now) x }
+fn explain(t: &FitTable, x: u64) -> Option<u64>
+    ensures { result ≡ found (rows_of (table_of t.now)) x }
 {
     if x == 0 {
         return Some(0);
     }
-    least_error(rows, n, x)
+    least_error(t, x)
 }
 
 // ---- the memory
@@ -252,28 +243,20 @@ fn next_fill(delay: u64, fill: u64) -> u64
     if fill < delay { fill + 1 } else { fill }
 }
 
-// The memory after a step that no refusal applies to, of N and m: the turn's stream is lent on, and fill and turn
-// advance. The delayed block that leaves is handed back.
-pub(crate) fn keep(
-    state: &mut [u64],
-    span: usize,
-    depth: usize,
-    w: u64,
-    kept: u64,
-    youngest: u64,
-) -> u64
-    requires { (turn_of state.old < depth) × (depth ≤ 64) × (2 ≤ span) × (span ≤ 64)
-        × (length state.old ≡ decoder_words (table 0 span depth [])) }
-    ensures oldest { result ≡ delayed_of (table 0 span depth []) state.old (turn_of state.old) 0 }
-    ensures memory { state.new ≡ advanced span depth state.old (w / 2) kept youngest }
+// The memory after a step that no refusal applies to: the turn's stream is lent on, and fill and turn advance. The
+// delayed block that leaves is handed back.
+pub(crate) fn keep(t: &FitTable, state: &mut [u64], w: u64, kept: u64, youngest: u64) -> u64
+    requires { Ready (table_of t.now) state.old }
+    ensures oldest { result ≡ delayed_of (table_of t.now) state.old (turn_of state.old) 0 }
+    ensures memory { state.new ≡ advanced t.now.span t.now.depth state.old (w / 2) kept youngest }
 {
     let turn = state[0];
     let fill = state[1];
-    let at = 2 + (turn as usize) * (span + 1);
-    let end = at + (span + 1);
+    let at = 2 + (turn as usize) * (t.span + 1);
+    let end = at + (t.span + 1);
     let oldest = advance(&mut state[at..end], w, kept, youngest);
-    state[1] = next_fill((depth * (span - 1)) as u64, fill);
-    state[0] = next_turn(depth as u64, turn);
+    state[1] = next_fill(t.delay(), fill);
+    state[0] = next_turn(t.depth as u64, turn);
     oldest
 }
 
@@ -283,25 +266,23 @@ fn taken(t: Table, rows: &[u64], state: &mut [u64], received: u64) -> Option<Del
     ensures answer { Ok result ≡ delivery (with_rows t rows.now) state.old received }
     ensures memory { state.new ≡ decoder_next (with_rows t rows.now) state.old received }
 {
-    let n = t.symbols;
+    let fit = FitTable {
+        symbols: t.symbols,
+        span: t.span,
+        depth: t.depth,
+        rows,
+    };
     let fill = state[1];
-    let x = terms(state, t.span, one_at(t.span - 1), image(rows, n, received));
-    let v = judged(explain(rows, n, x.register), x.register, one_at(n - 1));
+    let x = terms(&fit, state, fit.top(), image(&fit, received));
+    let v = judged(explain(&fit, x.register), x.register, fit.weight());
     let error = v.error as u64;
     let mark = v.mark;
-    let oldest = keep(
-        state,
-        t.span,
-        t.depth,
-        x.w,
-        v.kept,
-        information(n, received),
-    );
-    if fill < (t.depth * (t.span - 1)) as u64 {
+    let oldest = keep(&fit, state, x.w, v.kept, fit.information(received));
+    if fill < fit.delay() {
         return None;
     }
     Some(Delivered {
-        info: (oldest ^ information(n, error)) as u16,
+        info: (oldest ^ fit.information(error)) as u16,
         mark,
     })
 }

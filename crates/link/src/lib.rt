@@ -5,6 +5,7 @@ pub mod code;
 pub mod code_batch;
 pub mod decode;
 pub mod decode_batch;
+mod fit;
 pub mod refusal;
 pub mod start;
 pub mod stream;

@@ -8,11 +8,11 @@ use lib.Dec.{ltb}
 use Rattle.span.proofs.Masks.{above-mask}
 use Rattle.tables.specs.Table.{fit}
 use Rattle.tables.specs.Lent.{with_rows, lent}
-use Rattle.tables.proofs.Lent.{LentFits, lent-facts}
+use Rattle.tables.proofs.Lent.{LentFits, lent-facts, fit-lent, fit-fifteen}
 use Rattle.link.specs.Memory.{decoder_words}
 use Rattle.link.specs.Refusals.{decoder_malformed, decoder_fault, answered, settled}
 use Rattle.link.proofs.Refusals.{number_12, number_13, number_14, number_15}
-use Rattle.link.proofs.Room.{fit-room}
+use Rattle.link.proofs.Room.{fit-room, fit_fields}
 use Rattle.link.proofs.decode.fault.Goals as goal
 use Rattle.link.proofs.decode.fault.Goals.{After-mask, Else-not-lent_fits}
 
@@ -55,10 +55,15 @@ returns-then-state-t c =
     (number_13 decoder_words (λ u. 2 ^ u.symbols) decoder_malformed a.t a.rows.now a.state.now a.block
     (fitted (goal.at.returns-then-state-t c).Else-not-lent_fits) c.if-state-t.true)
 
-pub malformed-requires : goal.malformed-requires
-malformed-requires c =
-    let z = facts (goal.at.malformed-requires c).Else-not-lent_fits in
-    (z.n_from, z.n_to, z.N_from, z.N_to, z.m_from, z.m_to, c.if-state-t.false)
+pub invariant_of-fit : goal.invariant_of-fit
+invariant_of-fit c =
+    let a = c.args in
+    let f = fitted (goal.at.invariant_of-fit c).Else-not-lent_fits in
+    let is_fit = (fit-lent a.t a.rows.now f).1 in record {
+      in_range = fit_fields a.t a.rows.now is_fit;
+      is_fit = is_fit;
+      fifteen = fit-fifteen a.t a.rows.now f;
+    }
 
 pub returns-then-malformed : goal.returns-then-malformed
 unfolding decoder_fault answered

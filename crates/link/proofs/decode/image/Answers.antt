@@ -30,9 +30,10 @@ image-is rows ν r size h =
 pub returns : goal.returns
 returns c =
     let a = c.args in
-    let ν = a.n - 1 in
-    let e : suc ν ≡ a.n = (let z = c.requires.0 in omega arith) in
+    let n = a.t.now.symbols in
+    let ν = n - 1 in
+    let e : suc ν ≡ n = omega arith in
     xor-code c.combination.result (a.received / 2 ^ ν)
     ∙ ap (λ (x : ℕ). x ⊕ a.received / 2 ^ ν) c.combination.ensures
-    ∙ image-is a.rows.now ν a.received c.requires.2
-    (subst (λ (k : ℕ). a.received < 2 ^ k) (sym e) c.requires.3)
+    ∙ image-is a.t.now.rows.now ν a.received (omega arith)
+    (subst (λ (k : ℕ). a.received < 2 ^ k) (sym e) c.requires)

@@ -1,5 +1,7 @@
 -- `link::decode::keep`: the turn's part as it comes back; around it nothing changes but fill and turn. Assumes nothing.
 use mathlib.Core.Path.{◌≡◌, sym, ap, ap₂, ◌∙◌}
+use mathlib.Core.Bool.{cond}
+use lib.Dec.{ltb}
 use mathlib.Core.List.{List, [], ◌∷◌, ◌++◌}
 use Prim.Native.Nat.{ℕ, ◌+◌, ◌-◌, ◌/◌, ◌≤◌}
 use native.Mathlib.Nat.{add-zero}
@@ -8,12 +10,13 @@ use borrow.Author.Rules.{rules}
 use borrow.Rule.Slice.PartMut.{mid_of, put_mid}
 use lib.ListN.{length, get_or, set, take, drop, length-set}
 use Rattle.tables.specs.Table.{table}
-use Rattle.link.specs.Memory.{turn_of, stream_at, delayed_of, delay_of, fill_of, fill_next, next_turn}
+use Rattle.link.specs.Memory.{turn_of, stream_at, delayed_of, fill_of, fill_next, next_turn}
 use Rattle.link.specs.Decoder.{advanced}
 use Rattle.link.proofs.Parts.{mid-word, mid-drop, put-part}
-use Rattle.link.proofs.Room.{fit-room, turn-room}
+use Rattle.link.specs.Fit.{table_of}
+use Rattle.link.proofs.Malformed.{fine-decoder}
+use Rattle.link.proofs.Room.{turn-room}
 use Rattle.link.proofs.decode.keep.Goals as goal
-use Rattle.link.proofs.decode.keep.Goals.{Start}
 
 -- the turn's part, in plain terms: its oldest delayed block, and the memory as the part comes back
 module _ (N m : ℕ) (s : List ℕ) (room : stream_at (table 0 N m []) (turn_of s) + (N + 1) ≤ length s) (span_from : 2 ≤ N)
@@ -41,34 +44,6 @@ module _ (N m : ℕ) (s : List ℕ) (room : stream_at (table 0 N m []) (turn_of 
         ∙ ap₂ (λ (i j : ℕ). set (set (take at s ++ ((pending ∷ kept ∷ (drop (at + 3) (take end s) ++ (young ∷ [])))
         ++ drop end s)) 1 i) 0 j) f u
 
--- the turn's part lies inside, and nothing overflows
-room : (c : goal.Start)
-    → (stream_at (table 0 c.args.span c.args.depth []) (turn_of c.args.state.now) + (c.args.span + 1)
-    ≤ length c.args.state.now)
-    × (length c.args.state.now ≤ 4162) × (delay_of (table 0 c.args.span c.args.depth []) ≤ 4096)
-room c =
-    let most = fit-room (table 0 c.args.span c.args.depth []) c.requires.3 c.requires.1 in
-    let inside = turn-room (table 0 c.args.span c.args.depth []) (turn_of c.args.state.now) c.requires.0 in
-    let size = c.requires.4 in
-    (omega arith, omega arith, most.1)
-
-pub overflow_mul-at : goal.overflow_mul-at
-overflow_mul-at c = let r = room (goal.at.overflow_mul-at c).Start in record { fits = omega arith }
-
-pub overflow_add-at-2 : goal.overflow_add-at-2
-overflow_add-at-2 c = let r = room (goal.at.overflow_add-at-2 c).Start in record { fits = omega arith }
-
-pub overflow_add-end-2 : goal.overflow_add-end-2
-overflow_add-end-2 c = let r = room (goal.at.overflow_add-end-2 c).Start in record { fits = omega arith }
-
-pub offset_bounds-state-at : goal.offset_bounds-state-at
-offset_bounds-state-at c = let r = room (goal.at.offset_bounds-state-at c).Start in record { fits = omega arith }
-
-pub overflow_mul-depth : goal.overflow_mul-depth
-overflow_mul-depth c =
-    let r = room (goal.at.overflow_mul-depth c).Start in
-    record { fits = omega arith }
-
 pub bounds-state-0-2 : goal.bounds-state-0-2
 bounds-state-0-2 c = simp length-set (search rules)
 
@@ -76,10 +51,14 @@ pub returns : goal.returns
 returns c =
     let a = c.args in
     let s = a.state.now in
-    let r = room (goal.at.returns c).Start in
-    let d = c.advance-oldest in record {
-      oldest = d.ensures.oldest ∙ oldest-is a.span a.depth s r.0 c.requires.2;
-      memory = memory_is a.span a.depth s r.0 c.requires.2 (a.w / 2) a.kept a.youngest d.new.part
-          d.ensures.part c.next_fill.result c.next_turn.result c.next_fill.ensures
-          (c.next_turn.ensures.inside c.requires.0);
+    let t = table_of a.t.now in
+    let d = c.advance-oldest in
+    let inside = turn-room t (turn_of s) (fine-decoder t s c.requires.formed).turn in
+    let size = c.requires.size in
+    let room : stream_at t (turn_of s) + (t.span + 1) ≤ length s = omega arith in record {
+      oldest = d.ensures.oldest ∙ oldest-is t.span t.depth s room (omega arith);
+      memory = memory_is t.span t.depth s room (omega arith) (a.w / 2) a.kept a.youngest d.new.part
+          d.ensures.part c.next_fill.result c.next_turn.result
+          (c.next_fill.ensures ∙ ap (λ (k : ℕ). cond (ltb (fill_of s) k) (fill_of s + 1) (fill_of s)) c.delay.ensures)
+          (c.next_turn.ensures.inside (fine-decoder t s c.requires.formed).turn);
     }

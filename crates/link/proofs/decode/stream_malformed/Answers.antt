@@ -15,22 +15,22 @@ pub returns-then-mask-state : goal.returns-then-mask-state
 returns-then-mask-state c =
     let a = c.args in
     let s = a.state.now in
-    let k = a.span - 1 in
+    let k = a.t.now.span - 1 in
     let p = get_or s a.at 0 in
     let q = get_or s (a.at + 1) 0 in
     let e : leb (2 ^ k) p || leb (2 ^ k) q ≡ true =
     sym (or_above k p q) ∙ sym (above-mask k c.mask.result (bit_or p q) (omega arith)
     c.mask.ensures) ∙ lt-ltb _ _ c.if-mask-state.true in
-    ap (λ (b : Bool). b || some_above (2 ^ (a.n - 1)) s (a.at + 2) k) (sym e)
+    ap (λ (b : Bool). b || some_above (2 ^ (a.t.now.symbols - 1)) s (a.at + 2) k) (sym e)
 
 pub returns : goal.returns
 returns c =
     let a = c.args in
     let s = a.state.now in
-    let k = a.span - 1 in
+    let k = a.t.now.span - 1 in
     let p = get_or s a.at 0 in
     let q = get_or s (a.at + 1) 0 in
     let e : leb (2 ^ k) p || leb (2 ^ k) q ≡ false =
     sym (or_above k p q) ∙ sym (above-mask k c.mask.result (bit_or p q) (omega arith)
     c.mask.ensures) ∙ le-ltb _ _ c.if-mask-state.false in
-    c.some_above.ensures ∙ ap (λ (b : Bool). b || some_above (2 ^ (a.n - 1)) s (a.at + 2) k) (sym e)
+    c.some_above.ensures ∙ ap (λ (b : Bool). b || some_above (2 ^ (a.t.now.symbols - 1)) s (a.at + 2) k) (sym e)

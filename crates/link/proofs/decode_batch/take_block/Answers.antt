@@ -3,50 +3,45 @@ use mathlib.Core.Path.{◌≡◌, sym, ap, ap₂, subst, ◌∙◌}
 use Prim.Native.Nat.{ℕ, ◌-◌, ◌/◌, ◌^◌, ◌≤◌, ◌<◌}
 use native.Mathlib.Nat.{mod-lt}
 use native.Mathlib.Omega.{arith}
-use mathlib.Core.List.{[]}
 use borrow.Author.Tests.{lt-ltb, le-ltb}
 use lib.Bits.{bit_xor}
 use lib.Dec.{ltb}
 use lib.Pow.{pow_pos, pow_mono}
 use Rattle.span.specs.Word.{◌⊕◌}
 use Rattle.span.proofs.Word.{xor-code, xor_lt}
-use Rattle.tables.specs.Table.{table}
+use Rattle.link.specs.Fit.{table_of}
 use Rattle.link.specs.Memory.{turn_of, fill_of, delay_of, delayed_of}
 use Rattle.link.specs.Step.{information}
 use Rattle.link.specs.Decoder.{advanced, mark_number}
 use Rattle.link.specs.Batch.{decode_entry}
+use Rattle.link.proofs.Malformed.{fine-decoder}
 use Rattle.link.proofs.Refusals.{picked, passed}
-use Rattle.link.proofs.Room.{fit-room}
 use Rattle.link.proofs.decode_batch.take_block.Goals as goal
 use Rattle.link.proofs.decode_batch.take_block.Goals.{After-information-2, After-keep-oldest}
-
-pub overflow_mul-depth : goal.overflow_mul-depth
-overflow_mul-depth c =
-    let m = fit-room (table c.args.n c.args.span c.args.depth []) c.requires.3 c.requires.1 in
-    record { fits = omega arith }
 
 kept : (c : goal.After-keep-oldest)
     → let a = c.args in
     c.keep-oldest.new.state
-    ≡ advanced a.span a.depth a.state.now (a.w / 2) a.v.kept (information a.n a.received)
+    ≡ advanced a.t.now.span a.t.now.depth a.state.now (a.w / 2) a.v.kept (information a.t.now.symbols a.received)
 kept c =
     let a = c.args in
     c.keep-oldest.ensures.memory
-    ∙ ap (advanced a.span a.depth a.state.now (a.w / 2) a.v.kept) c.information.ensures
+    ∙ ap (advanced a.t.now.span a.t.now.depth a.state.now (a.w / 2) a.v.kept) c.information.ensures
 
-pub returns-then-fill-depth : goal.returns-then-fill-depth
-returns-then-fill-depth c =
+pub returns-then-fill-delay : goal.returns-then-fill-delay
+returns-then-fill-delay c =
     let s = c.args.state.now in
-    let delay = delay_of (table c.args.n c.args.span c.args.depth []) in record {
-      entry = picked (ltb (fill_of s) delay) 0 _ (lt-ltb (fill_of s) delay c.if-fill-depth.true);
-      memory = kept (goal.at.returns-then-fill-depth c).After-keep-oldest;
+    let delay = delay_of (table_of c.args.t.now) in
+    let waits : fill_of s < delay = omega arith in record {
+      entry = picked (ltb (fill_of s) delay) 0 _ (lt-ltb (fill_of s) delay waits);
+      memory = kept (goal.at.returns-then-fill-delay c).After-keep-oldest;
     }
 
 -- the information that is delivered
 corrected : (c : goal.After-information-2)
     → let a = c.args in
     bit_xor c.keep-oldest.result c.information-2.result
-    ≡ delayed_of (table a.n a.span a.depth []) a.state.now (turn_of a.state.now) 0 ⊕ information a.n a.v.error
+    ≡ delayed_of (table_of a.t.now) a.state.now (turn_of a.state.now) 0 ⊕ information a.t.now.symbols a.v.error
 corrected c =
     xor-code c.keep-oldest.result c.information-2.result ∙ ap₂ ◌⊕◌ c.keep-oldest.ensures.oldest
     c.information-2.ensures
@@ -54,11 +49,12 @@ corrected c =
 pub entry-requires : goal.entry-requires
 entry-requires c =
     let a = c.args in
-    let n = c.requires.5 in
-    let low : information a.n a.v.error < 2 ^ (a.n - 1) = mod-lt a.v.error (pow_pos (a.n - 1)) in
-    let l = xor_lt (a.n - 1) (delayed_of (table a.n a.span a.depth []) a.state.now (turn_of a.state.now) 0)
-    (information a.n a.v.error) c.requires.7 low in
-    let h : a.n - 1 ≤ 16 = omega arith in
+    let n = a.t.now.symbols in
+    let low : information n a.v.error < 2 ^ (n - 1) = mod-lt a.v.error (pow_pos (n - 1)) in
+    let fine = fine-decoder (table_of a.t.now) a.state.now c.requires.formed in
+    let l = xor_lt (n - 1) (delayed_of (table_of a.t.now) a.state.now (turn_of a.state.now) 0)
+    (information n a.v.error) (fine.delayed 0 (omega arith)) low in
+    let h : n - 1 ≤ 16 = omega arith in
     let most = pow_mono h in
     subst (λ (x : ℕ). x < 2 ^ 16) (sym (corrected c)) (omega arith)
 
@@ -66,9 +62,10 @@ pub returns : goal.returns
 returns c =
     let a = c.args in
     let s = a.state.now in
-    let delay = delay_of (table a.n a.span a.depth []) in record {
+    let delay = delay_of (table_of a.t.now) in
+    let full : delay ≤ fill_of s = omega arith in record {
       entry = c.entry.ensures
           ∙ ap (decode_entry (mark_number a.v.mark)) (corrected (goal.at.returns c).After-information-2)
-          ∙ passed (ltb (fill_of s) delay) 0 _ (le-ltb (fill_of s) delay c.if-fill-depth.false);
+          ∙ passed (ltb (fill_of s) delay) 0 _ (le-ltb (fill_of s) delay full);
       memory = kept (goal.at.returns c).After-keep-oldest;
     }
