@@ -72,6 +72,7 @@ fn entry(mark: Mark, info: u64) -> u32
 }
 
 // A step that no refusal applies to, once the register is judged: w, and what the register says.
+#[inline(always)]
 fn take_block(t: &FitTable, state: &mut [u64], w: u64, v: Verdict, received: u64) -> u32
     requires { Ready (table_of t.now) state.old }
     ensures entry { result ≡ cond (ltb (fill_of state.old) (delay_of (table_of t.now))) (decode_entry 0 0)
