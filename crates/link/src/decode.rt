@@ -9,11 +9,11 @@ ghost use Rattle.link.specs.Fit.{table_of, Ready};
 ghost use Rattle.link.specs.Memory.{turn_of, pending_of, syndrome_of, delayed_of, decoder_words};
 ghost use Rattle.link.specs.Step.{found, error_of, kept_of, mark_found, mark_of};
 ghost use Rattle.link.specs.Refusals.{some_above, decoder_malformed, decoder_fault, settled};
-ghost use Rattle.link.specs.Decoder.{advanced, decoder_next, delivery, Decodes};
+ghost use Rattle.link.specs.Decoder.{advanced, decoder_next, delivery, mark_number, Decodes};
 
 use crate::fit::FitTable;
 use crate::refusal::Refusal;
-use crate::stream::{next_turn, push};
+use crate::stream::{next_fill, next_turn, push};
 use span::bits::{mask, select};
 use span::combine::combination;
 use span::dual::together;
@@ -29,6 +29,21 @@ pub enum Mark {
     Parity(u16),
     Doubtful,
     Held,
+}
+
+// 02's number.
+impl From<Mark> for u64 {
+    ghost from_gives = { λ m k. k ≡ mark_number m };
+
+    fn from(mark: Mark) -> u64 {
+        match mark {
+            Mark::Clean => 1,
+            Mark::Held => 2,
+            Mark::Corrected(_) => 3,
+            Mark::Doubtful => 4,
+            Mark::Parity(_) => 5,
+        }
+    }
 }
 
 #[derive(Clone, Copy)]
@@ -235,12 +250,6 @@ fn advance(part: &mut [u64], w: u64, kept: u64, youngest: u64) -> u64
     part[1] = kept;
     push(part, 2, youngest);
     oldest
-}
-
-fn next_fill(delay: u64, fill: u64) -> u64
-    ensures { result ≡ cond (ltb fill delay) (fill + 1) fill }
-{
-    if fill < delay { fill + 1 } else { fill }
 }
 
 // The memory after a step that no refusal applies to: the turn's stream is lent on, and fill and turn advance. The

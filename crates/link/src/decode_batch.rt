@@ -61,14 +61,7 @@ fn entry(mark: Mark, info: u64) -> u32
     requires { info < 2 ^ 16 }
     ensures { result ≡ decode_entry (mark_number mark) info }
 {
-    let low = info as u32;
-    match mark {
-        Mark::Clean => 65536 + low,
-        Mark::Held => 131072 + low,
-        Mark::Corrected(_) => 196608 + low,
-        Mark::Parity(_) => 327680 + low,
-        Mark::Doubtful => 262144 + low,
-    }
+    (u64::from(mark) * 65536 + info) as u32
 }
 
 // A step that no refusal applies to, once the register is judged: w, and what the register says.

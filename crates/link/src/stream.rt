@@ -1,5 +1,5 @@
-// What steps do alike: the turn, and delayed blocks that move.
-ghost use Rattle.std.specs.Prelude.{◌≡◌, ◌≤◌, ◌<◌};
+// What steps do alike: the turn, the fill, and delayed blocks that move.
+ghost use Rattle.std.specs.Prelude.{◌≡◌, ◌+◌, ◌≤◌, ◌<◌, cond, ltb};
 ghost use Rattle.link.specs.Memory.{next_turn, pushed};
 
 // The turn after a step. An out-of-range turn is followed by 0.
@@ -14,6 +14,13 @@ pub(crate) fn next_turn(depth: u64, turn: u64) -> u64
         }
     }
     0
+}
+
+// The fill after a step: it grows to where it is complete, and stays.
+pub fn next_fill(delay: u64, fill: u64) -> u64
+    ensures { result ≡ cond (ltb fill delay) (fill + 1) fill }
+{
+    if fill < delay { fill + 1 } else { fill }
 }
 
 // The words from `from` on move by one place, the first of them leaves, and another joins as the last. Where there are

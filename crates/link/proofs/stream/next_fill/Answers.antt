@@ -1,6 +1,6 @@
--- `link::decode::next_fill`: by its one test. Assumes nothing.
+-- `link::stream::next_fill`: by its one test. Assumes nothing.
 use borrow.Author.Tests.{lt-ltb, le-ltb}
-use Rattle.link.proofs.decode.next_fill.Goals as goal
+use Rattle.link.proofs.stream.next_fill.Goals as goal
 
 pub returns-then-fill-delay : goal.returns-then-fill-delay
 returns-then-fill-delay c = simp (lt-ltb _ _ c.if-fill-delay.true)
