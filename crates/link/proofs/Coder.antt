@@ -3,7 +3,7 @@
 --
 --   coder-fault               the chain of tests
 --   code-refuses, codes, codes-so   answer and memory of a step that is refused and of one that is not, and the promise
---   code-lent-taken           a table whose rows are lent
+--   code-unfit                12 applies
 --   CoderTaken, coder-taken   what the tests of a step that is taken say
 --   CoderStep, coder-step     what the step does
 --   coded-below, coded-fits   a coded block is below 2^n, and has 16 bits at most
@@ -23,7 +23,6 @@ use Rattle.span.specs.Word.{◌⊕◌, odd, sel, digit}
 use Rattle.span.specs.Combination.{combination}
 use Rattle.tables.specs.declared.table.Table.{Table}
 use Rattle.tables.specs.Table.{fit, info_rows}
-use Rattle.tables.specs.Lent.{lent}
 use Rattle.std.specs.Prelude.{Ok}
 use Rattle.link.specs.Coder.{code_answer, code_memory, code_numbers, Codes, CodedBelow, coder_joining, coded_block}
 use Rattle.link.specs.Coder.{coder_next}
@@ -40,9 +39,7 @@ use Rattle.link.proofs.Refusals.{
   call-numbers,
   numbered,
   coder-range,
-  zero-refused,
-  LentTaken,
-  lent-taken,
+  number_12,
 }
 
 -- ---- refusals
@@ -76,10 +73,10 @@ codes-so t s b r after p q = record {
       (coded_block t s b ∷ []) refl (λ some. numbered (coder_fault t s b) (coder-range t s b some));
 }
 
-pub code-lent-taken : (t : Table) (rows s : List ℕ) (b : ℕ) → coder_fault (lent t rows) s b ≡ 0
-    → LentTaken (λ u. coder_fault u s b) t rows
+-- 12, and no other
+pub code-unfit : (t : Table) (s : List ℕ) (b : ℕ) → fit t ≡ false → coder_fault t s b ≡ 12
 unfolding coder_fault
-code-lent-taken t rows s b = lent-taken (λ (u : Table). coder_fault u s b) (zero-refused _ _ _ s b) t rows
+code-unfit t s b = number_12 t (coder_words t) (coder_malformed t s) (2 ^ (t.symbols - 1)) s b
 
 -- ---- a step that is taken
 

@@ -24,7 +24,6 @@ use Rattle.std.specs.Prelude.{Option, Some, None, Ok}
 use Rattle.span.specs.Word.{◌⊕◌, odd, bit, digit}
 use Rattle.tables.specs.declared.table.Table.{Table}
 use Rattle.tables.specs.Table.{fit, info_rows}
-use Rattle.tables.specs.Lent.{lent}
 use Rattle.tables.proofs.Fit.{Fits}
 use Rattle.link.specs.Memory.{joining, next_turn, turn_of, decoder_words, fill_of, delay_of}
 use Rattle.link.specs.Memory.{fill_next}
@@ -36,7 +35,7 @@ use Rattle.link.specs.Decoder.{decoder_joining, decoder_register, decoder_found,
 use Rattle.link.specs.Decoder.{decoder_next, delivered, delivery}
 use Rattle.link.proofs.Malformed.{Fine, fine-decoder}
 use Rattle.link.proofs.Refusals.{picked, passed, step_fault_lem, step_passed, refuses, takes, call-numbers, numbered}
-use Rattle.link.proofs.Refusals.{decoder-range, zero-refused, LentTaken, lent-taken}
+use Rattle.link.proofs.Refusals.{decoder-range, number_12}
 
 abbrev pub stream_in : ℕ → ℕ → ℕ
 stream_in N k = 2 + k * (N + 1)
@@ -246,10 +245,10 @@ decodes-so t s b r left p q = record {
       (delivery-numbers t s b) (λ some. numbered (decoder_fault t s b) (decoder-range t s b some));
 }
 
-pub decode-lent-taken : (t : Table) (rows s : List ℕ) (r : ℕ) → decoder_fault (lent t rows) s r ≡ 0
-    → LentTaken (λ u. decoder_fault u s r) t rows
+-- 12, and no other
+pub decode-unfit : (t : Table) (s : List ℕ) (r : ℕ) → fit t ≡ false → decoder_fault t s r ≡ 12
 unfolding decoder_fault
-decode-lent-taken t rows s r = lent-taken (λ (u : Table). decoder_fault u s r) (zero-refused _ _ _ s r) t rows
+decode-unfit t s r = number_12 t (decoder_words t) (decoder_malformed t s) (2 ^ t.symbols) s r
 
 -- ---- a step that is taken
 

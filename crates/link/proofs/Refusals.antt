@@ -11,7 +11,6 @@
 --   answered-is                   an answer, by its fault
 --   refuses, takes                answer and memory of a call that is refused, and of one that is not
 --   call-numbers, refused-numbers, taken-numbers   the numbers of both
---   LentTaken, lent-taken         where no refusal applies, the lent rows are fifteen, and the table is that of them
 --   number_12 to number_15        the number that the tests come to
 use mathlib.Core.Path.{◌≡◌, refl, sym, ap, ◌∙◌}
 use mathlib.Core.Bool.{Bool, true, false, cond, not, ◌||◌}
@@ -25,10 +24,8 @@ use Rattle.std.specs.Prelude.{Result, Ok, Err, ⊤}
 use Rattle.tables.specs.declared.table.Table.{Table}
 use Rattle.tables.specs.Table.{zero_table, info_rows, fit}
 use Rattle.tables.specs.Refusal.{first_of}
-use Rattle.tables.specs.Lent.{with_rows, lent}
 use Rattle.tables.proofs.Fit.{Fits, fit-facts, zero-unfit}
 use Rattle.tables.proofs.Refusal.{first-nil, first-cons, first-none, first_range}
-use Rattle.tables.proofs.Lent.{lent-held, fit-lent}
 use Rattle.link.specs.declared.refusal.Refusal.{Refusal}
 use Rattle.link.specs.Refusals.{start_fault, step_fault, coder_fault, decoder_fault, refusal_number, refusal_of, answered}
 use Rattle.link.specs.Refusals.{settled, leaves, call_numbers}
@@ -221,46 +218,18 @@ pub zero-refused : (words : ℕ) (malformed : Bool) (bound : ℕ) (s : List ℕ)
     → step_fault zero_table words malformed bound s b ≡ 12
 zero-refused words malformed bound s b = step_fault_lem zero_table words malformed bound s b ∙ simp zero-unfit
 
--- a fault that the zero table has, as it has 12: with lent rows it is 0 only if they are fifteen
-pub record LentTaken (fault : Table → ℕ) (t : Table) (rows : List ℕ) : Type 0 where
-  pub whole : lent t rows ≡ with_rows t rows
-  pub fifteen : length rows ≡ 15
-  pub none : fault (with_rows t rows) ≡ 0
+-- the number that the tests of a step come to: each test once those before it are settled
+module _ (t : Table) (words : ℕ) (malformed : Bool) (bound : ℕ) (s : List ℕ) (b : ℕ) where
+  pub number_12 : fit t ≡ false → step_fault t words malformed bound s b ≡ 12
+  number_12 f = step_fault_lem t words malformed bound s b ∙ simp f
 
-pub lent-taken : (fault : Table → ℕ) → fault zero_table ≡ 12 → (t : Table) (rows : List ℕ) → fault (lent t rows) ≡ 0
-    → LentTaken fault t rows
-lent-taken fault e t rows z =
-    let k = lent-held t rows (λ (u : Table). fault u ≡ 0) (λ z. omega arith) z in
-    record { whole = k.0; fifteen = k.1; none = ap fault (sym k.0) ∙ z }
+  module _ (f : fit t ≡ true) where
+    pub number_13 : (length s ≡ words → ⊥) → 13 ≡ step_fault t words malformed bound s b
+    number_13 long = sym (step_fault_lem t words malformed bound s b ∙ simp (f, ne_eqb (length s) words long))
 
--- the number that the tests of a step come to, with lent rows: each test once those before it are settled
-module _ (words bound : Table → ℕ) (malformed : Table → List ℕ → Bool) (t : Table) (rows s : List ℕ) (b : ℕ) where
-  abbrev whole : Table
-  whole = with_rows t rows
+    pub number_14 : length s ≡ words → malformed ≡ true → 14 ≡ step_fault t words malformed bound s b
+    number_14 size out = sym (step_settled t words malformed bound s b f size true (leb bound b) out refl)
 
-  abbrev number : Table → ℕ
-  number u = step_fault u (words u) (malformed u s) (bound u) s b
-
-  chain : (u : Table)
-      → number u
-      ≡ cond (not (fit u)) 12
-      (cond (not (eqb (length s) (words u))) 13 (cond (malformed u s) 14 (cond (leb (bound u) b) 15 0)))
-  chain u = step_fault_lem u (words u) (malformed u s) (bound u) s b
-
-  pub number_12 : fit (lent t rows) ≡ false → 12 ≡ number (lent t rows)
-  number_12 f = sym (chain (lent t rows) ∙ simp f)
-
-  module _ (f : fit (lent t rows) ≡ true) where
-    past_12 : number (lent t rows)
-        ≡ cond (not (eqb (length s) (words whole))) 13 (cond (malformed whole s) 14 (cond (leb (bound whole) b) 15 0))
-    past_12 = let k = fit-lent t rows f in ap number k.0 ∙ chain whole ∙ simp k.1
-
-    pub number_13 : (length s ≡ words whole → ⊥) → 13 ≡ number (lent t rows)
-    number_13 long = sym (past_12 ∙ simp (ne_eqb (length s) (words whole) long))
-
-    pub number_14 : length s ≡ words whole → malformed whole s ≡ true → 14 ≡ number (lent t rows)
-    number_14 size out = sym (past_12 ∙ simp (eq-eqb (length s) (words whole) size, out))
-
-    pub number_15 : length s ≡ words whole → malformed whole s ≡ false → (q : Bool) → leb (bound whole) b ≡ q
-        → cond q 15 0 ≡ number (lent t rows)
-    number_15 size fine q large = sym (past_12 ∙ simp (eq-eqb (length s) (words whole) size, fine, large))
+    pub number_15 : length s ≡ words → malformed ≡ false → (q : Bool) → leb bound b ≡ q
+        → cond q 15 0 ≡ step_fault t words malformed bound s b
+    number_15 size fine q large = sym (step_settled t words malformed bound s b f size false q fine large)

@@ -2,40 +2,38 @@
 ghost use Rattle.std.specs.Prelude.{◌≡◌, [], ◌+◌, ◌/◌, ◌^◌, ◌≤◌, ◌<◌, length, get_or, set};
 ghost use Rattle.span.specs.Word.{◌⊕◌, odd, sel};
 ghost use Rattle.tables.specs.Lent.{lent};
-ghost use Rattle.tables.specs.Table.{table};
-ghost use Rattle.link.specs.Memory.{turn_of, pending_at, next_turn};
+ghost use Rattle.link.specs.Fit.{table_of};
+ghost use Rattle.link.specs.Memory.{coder_words, turn_of, pending_at, next_turn};
 ghost use Rattle.link.specs.Refusals.{coder_malformed, coder_fault, settled};
 ghost use Rattle.link.specs.Coder.{Codes};
 
+use crate::fit::FitTable;
 use crate::refusal::Refusal;
 use crate::stream::next_turn;
-use span::bits::{mask, one_at, select};
+use span::bits::{mask, select};
 use span::combine::combination;
-use tables::table::{Table, lent_fits};
+use tables::table::Table;
 
-// The condition of 14, of N and m: the turn is tested before it is an index.
-pub(crate) fn malformed(span: usize, depth: usize, state: &[u64]) -> bool
-    requires { (length state.now ≡ 1 + depth) × (span ≤ 64) × (1 ≤ span) × (depth ≤ 64) }
-    ensures { result ≡ coder_malformed (table 0 span depth []) state.now }
+// The condition of 14: the turn is tested before it is an index.
+pub(crate) fn malformed(t: &FitTable, state: &[u64]) -> bool
+    requires { length state.now ≡ coder_words (table_of t.now) }
+    ensures { result ≡ coder_malformed (table_of t.now) state.now }
 {
     let turn = state[0];
-    if depth as u64 <= turn {
+    if t.depth as u64 <= turn {
         return true;
     }
-    mask(span - 1) < state[1 + (turn as usize)]
+    mask(t.span - 1) < state[1 + (turn as usize)]
 }
 
-// Whether one of refusals 12 to 15 applies: the first of them.
-fn fault(t: Table, rows: &[u64], state: &[u64], block: u64) -> Result<(), Refusal>
-    ensures { result ≡ settled (coder_fault (lent t rows.now) state.now block) }
+// Whether one of refusals 13 to 15 applies: the first of them.
+fn fault(t: &FitTable, state: &[u64], block: u64) -> Result<(), Refusal>
+    ensures { result ≡ settled (coder_fault (table_of t.now) state.now block) }
 {
-    if !lent_fits(t, rows) {
-        return Err(Refusal::UnfitTable);
-    }
-    if state.len() != 1 + t.depth {
+    if state.len() != t.coder_words() {
         return Err(Refusal::WrongLength);
     }
-    if malformed(t.span, t.depth, state) {
+    if malformed(t, state) {
         return Err(Refusal::MalformedMemory);
     }
     if mask(t.symbols - 1) < block {
@@ -56,21 +54,21 @@ fn join(part: &mut [u64], image: u64) -> u64
     w
 }
 
-// A step that no refusal applies to, in numbers: the image of the information, and the weight of the parity, which is
-// bit 0 of w. The turn's stream is lent on, and the turn advances.
-pub(crate) fn taken(depth: u64, weight: u64, state: &mut [u64], info: u64, image: u64) -> u64
-    requires { (length state.old ≡ 1 + depth) × (depth ≤ 64) × (turn_of state.old < depth)
+// A step that no refusal applies to, in numbers: the weight of the parity, which is bit 0 of w, and the image of the
+// information. The turn's stream is lent on, and the turn advances.
+pub(crate) fn taken(t: &FitTable, weight: u64, state: &mut [u64], info: u64, image: u64) -> u64
+    requires { (length state.old ≡ coder_words (table_of t.now)) × (turn_of state.old < t.now.depth)
         × (info < weight) × (weight ≤ 2 ^ 15) }
     ensures block { result ≡ info + sel (odd (pending_at state.old (turn_of state.old) ⊕ image)) weight }
     ensures memory { state.new ≡ set (set state.old (1 + turn_of state.old)
         ((pending_at state.old (turn_of state.old) ⊕ image) / 2)) 0
-        (next_turn depth (turn_of state.old)) }
+        (next_turn t.now.depth (turn_of state.old)) }
 {
     let turn = state[0];
     let at = 1 + (turn as usize);
     let end = at + 1;
     let w = join(&mut state[at..end], image);
-    state[0] = next_turn(depth, turn);
+    state[0] = next_turn(t.depth as u64, turn);
     info + select(weight, w)
 }
 
@@ -80,10 +78,10 @@ pub fn code_lent(t: Table, rows: &[u64], state: &mut [u64], info: u16) -> Result
     ensures { Codes (lent t rows.now) state.old info result state.new }
 {
     let block = info as u64;
-    fault(t, rows, state, block)?;
-    let width = t.symbols - 1;
-    let image = combination(rows, width, block);
-    Ok(taken(t.depth as u64, one_at(width), state, block, image) as u16)
+    let fit = FitTable::of(t, rows)?;
+    fault(&fit, state, block)?;
+    let image = combination(fit.rows, fit.symbols - 1, block);
+    Ok(taken(&fit, fit.weight(), state, block, image) as u16)
 }
 
 pub fn code(t: Table, state: &mut [u64], info: u16) -> Result<u16, Refusal>

@@ -1,37 +1,38 @@
 // The coder by the batch: what holds of all its blocks is tested once, and images are looked up in tables that are made
 // once.
 ghost use Rattle.std.specs.Prelude.{◌≡◌, true, ◌+◌, length};
-ghost use Rattle.tables.specs.Lent.{with_rows, lent};
-ghost use Rattle.tables.specs.Table.{fit};
+ghost use Rattle.tables.specs.Lent.{lent};
+ghost use Rattle.link.specs.Fit.{table_of};
+ghost use Rattle.link.specs.Memory.{coder_words};
 ghost use Rattle.link.specs.Batch.{code_batch, Fills, FillsPart};
 
 use crate::code::{malformed, taken};
-use span::bits::{mask, one_at};
+use crate::fit::FitTable;
+use span::bits::mask;
 use span::lookup::{look_up, lookup_of};
-use tables::table::{Table, lent_fits};
+use tables::table::Table;
 
 // Once 12 and 13 are settled: 14 and 15 of each block, and its step.
-fn fill(t: Table, rows: &[u64], state: &mut [u64], infos: &[u16], out: &mut [u32]) -> usize
-    requires { (fit (with_rows t rows.now) ≡ true) × (length rows.now ≡ 15)
-        × (length state.old ≡ 1 + t.depth) }
-    ensures { Fills (code_batch (with_rows t rows.now) (length out.old) state.old
-        infos.now) out.old result state.new out.new }
+fn fill(t: &FitTable, state: &mut [u64], infos: &[u16], out: &mut [u32]) -> usize
+    requires { length state.old ≡ coder_words (table_of t.now) }
+    ensures { Fills (code_batch (table_of t.now) (length out.old) state.old infos.now) out.old result state.new
+        out.new }
 {
     let width = t.symbols - 1;
-    let tables = lookup_of(rows, width);
+    let tables = lookup_of(t.rows, width);
     let most = mask(width);
-    let weight = one_at(width);
+    let weight = t.weight();
     let end = infos.len().min(out.len());
     for i in 0..end {
         let info = infos[i] as u64;
-        if malformed(t.span, t.depth, state) {
+        if malformed(t, state) {
             return i;
         }
         if most < info {
             return i;
         }
         let image = look_up(&tables, info);
-        out[i] = taken(t.depth as u64, weight, state, info, image) as u32;
+        out[i] = taken(t, weight, state, info, image) as u32;
     }
     end
 }
@@ -48,13 +49,13 @@ pub fn fill_coded(
     ensures { Fills (code_batch (lent t rows.now) (length out.old) state.old
         infos.now) out.old result state.new out.new }
 {
-    if !lent_fits(t, rows) {
+    let Ok(fit) = FitTable::of(t, rows) else {
+        return 0;
+    };
+    if state.len() != fit.coder_words() {
         return 0;
     }
-    if state.len() != 1 + t.depth {
-        return 0;
-    }
-    fill(t, rows, state, infos, out)
+    fill(&fit, state, infos, out)
 }
 
 // The part of `out` that is filled. What the rest holds is not promised here; `fill_coded` promises it.

@@ -3,7 +3,7 @@ ghost use Rattle.std.specs.Prelude.{◌≡◌, cond, ◌||◌, [], ◌∷◌, �
 ghost use Rattle.std.specs.Prelude.{get_or, take, drop, Ok};
 ghost use Rattle.span.specs.Word.{◌⊕◌, odd, sel};
 ghost use Rattle.span.specs.Combination.{combination};
-ghost use Rattle.tables.specs.Lent.{with_rows, lent};
+ghost use Rattle.tables.specs.Lent.{lent};
 ghost use Rattle.tables.specs.Table.{rows_of};
 ghost use Rattle.link.specs.Fit.{table_of, Ready};
 ghost use Rattle.link.specs.Memory.{turn_of, pending_of, syndrome_of, delayed_of, decoder_words};
@@ -18,7 +18,7 @@ use span::bits::{mask, select};
 use span::combine::combination;
 use span::dual::together;
 use span::eliminate::least_relation;
-use tables::table::{Table, lent_fits};
+use tables::table::Table;
 
 #[derive(Clone, Copy)]
 pub enum Mark {
@@ -105,23 +105,14 @@ pub(crate) fn malformed(t: &FitTable, state: &[u64]) -> bool
     stream_malformed(t, state, 2 + (turn as usize) * (t.span + 1))
 }
 
-// Whether one of refusals 12 to 15 applies: the first of them.
-fn fault(t: Table, rows: &[u64], state: &[u64], block: u64) -> Result<(), Refusal>
-    ensures { result ≡ settled (decoder_fault (lent t rows.now) state.now block) }
+// Whether one of refusals 13 to 15 applies: the first of them.
+fn fault(t: &FitTable, state: &[u64], block: u64) -> Result<(), Refusal>
+    ensures { result ≡ settled (decoder_fault (table_of t.now) state.now block) }
 {
-    if !lent_fits(t, rows) {
-        return Err(Refusal::UnfitTable);
-    }
-    if state.len() != 2 + t.depth * (t.span + 1) {
+    if state.len() != t.decoder_words() {
         return Err(Refusal::WrongLength);
     }
-    let fit = FitTable {
-        symbols: t.symbols,
-        span: t.span,
-        depth: t.depth,
-        rows,
-    };
-    if malformed(&fit, state) {
+    if malformed(t, state) {
         return Err(Refusal::MalformedMemory);
     }
     if mask(t.symbols) < block {
@@ -270,28 +261,22 @@ pub(crate) fn keep(t: &FitTable, state: &mut [u64], w: u64, kept: u64, youngest:
 }
 
 // A step that no refusal applies to.
-fn taken(t: Table, rows: &[u64], state: &mut [u64], received: u64) -> Option<Delivered>
-    requires { (decoder_fault (with_rows t rows.now) state.old received ≡ 0) × (length rows.now ≡ 15) }
-    ensures answer { Ok result ≡ delivery (with_rows t rows.now) state.old received }
-    ensures memory { state.new ≡ decoder_next (with_rows t rows.now) state.old received }
+fn taken(t: &FitTable, state: &mut [u64], received: u64) -> Option<Delivered>
+    requires { decoder_fault (table_of t.now) state.old received ≡ 0 }
+    ensures answer { Ok result ≡ delivery (table_of t.now) state.old received }
+    ensures memory { state.new ≡ decoder_next (table_of t.now) state.old received }
 {
-    let fit = FitTable {
-        symbols: t.symbols,
-        span: t.span,
-        depth: t.depth,
-        rows,
-    };
     let fill = state[1];
-    let x = terms(&fit, state, fit.top(), image(&fit, received));
-    let v = judged(explain(&fit, x.register), x.register, fit.weight());
+    let x = terms(t, state, t.top(), image(t, received));
+    let v = judged(explain(t, x.register), x.register, t.weight());
     let error = v.error as u64;
     let mark = v.mark;
-    let oldest = keep(&fit, state, x.w, v.kept, fit.information(received));
-    if fill < fit.delay() {
+    let oldest = keep(t, state, x.w, v.kept, t.information(received));
+    if fill < t.delay() {
         return None;
     }
     Some(Delivered {
-        info: (oldest ^ fit.information(error)) as u16,
+        info: (oldest ^ t.information(error)) as u16,
         mark,
     })
 }
@@ -307,8 +292,9 @@ pub fn decode_lent(
     ensures { Decodes (lent t rows.now) state.old received result state.new }
 {
     let block = received as u64;
-    fault(t, rows, state, block)?;
-    Ok(taken(t, rows, state, block))
+    let fit = FitTable::of(t, rows)?;
+    fault(&fit, state, block)?;
+    Ok(taken(&fit, state, block))
 }
 
 pub fn decode(t: Table, state: &mut [u64], received: u16) -> Result<Option<Delivered>, Refusal>

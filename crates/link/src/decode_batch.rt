@@ -179,7 +179,7 @@ pub fn fill_decoded(
     ensures { Fills (decode_batch (lent t rows.now) (length out.old) state.old
         blocks.now) out.old result state.new out.new }
 {
-    let Some(fit) = FitTable::of(t, rows) else {
+    let Ok(fit) = FitTable::of(t, rows) else {
         return 0;
     };
     if state.len() != fit.decoder_words() {

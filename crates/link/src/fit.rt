@@ -2,6 +2,7 @@
 ghost use Rattle.std.specs.Prelude.{◌≡◌, ◌≤◌, true, length};
 ghost use Rattle.tables.specs.Table.{table, fit};
 
+use crate::refusal::Refusal;
 use span::bits::{mask, one_at};
 use tables::table::{Table, lent_fits};
 
@@ -17,20 +18,21 @@ pub(crate) struct FitTable<'a> {
 }
 
 impl<'a> FitTable<'a> {
-    ghost use Rattle.std.specs.Prelude.{false, ◌-◌, ◌^◌, MatchOption};
+    ghost use Rattle.std.specs.Prelude.{false, ◌-◌, ◌^◌, MatchResult};
     ghost use Rattle.tables.specs.Lent.{lent};
     ghost use Rattle.link.specs.Memory.{coder_words, decoder_words, delay_of};
     ghost use Rattle.link.specs.Step.{information};
     ghost use Rattle.link.specs.Fit.{table_of};
 
-    // None where 12 applies: also with another count of rows than fifteen.
-    pub(crate) fn of(t: Table, rows: &'a [u64]) -> Option<FitTable<'a>>
-        ensures { MatchOption result (fit (lent t rows.now) ≡ false) (λ f. table_of f ≡ lent t rows.now) }
+    // Refused by 12 also with another count of rows than fifteen.
+    pub(crate) fn of(t: Table, rows: &'a [u64]) -> Result<FitTable<'a>, Refusal>
+        ensures { MatchResult result (λ f. table_of f ≡ lent t rows.now)
+            (λ e. (e ≡ Refusal.UnfitTable) × (fit (lent t rows.now) ≡ false)) }
     {
         if !lent_fits(t, rows) {
-            return None;
+            return Err(Refusal::UnfitTable);
         }
-        Some(FitTable {
+        Ok(FitTable {
             symbols: t.symbols,
             span: t.span,
             depth: t.depth,

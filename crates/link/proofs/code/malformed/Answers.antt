@@ -9,13 +9,13 @@ use lib.ListN.{get_or}
 use Rattle.span.proofs.Masks.{above-mask}
 use Rattle.link.proofs.code.malformed.Goals as goal
 
-pub returns-then-depth-turn : goal.returns-then-depth-turn
-returns-then-depth-turn c = simp (le-leb _ _ c.if-depth-turn.true)
+pub returns-then-t-turn : goal.returns-then-t-turn
+returns-then-t-turn c = simp (le-leb _ _ c.if-t-turn.true)
 
 pub returns : goal.returns
 returns c =
     let a = c.args in
     let s = a.state.now in
     let w = get_or s (1 + get_or s 0 0) 0 in
-    above-mask (a.span - 1) c.mask.result w (omega arith) c.mask.ensures
-    ∙ ap (λ (b : Bool). b || leb (2 ^ (a.span - 1)) w) (sym (lt-leb a.depth (get_or s 0 0) (omega arith)))
+    above-mask (a.t.now.span - 1) c.mask.result w (omega arith) c.mask.ensures
+    ∙ ap (λ (b : Bool). b || leb (2 ^ (a.t.now.span - 1)) w) (sym (lt-leb a.t.now.depth (get_or s 0 0) (omega arith)))

@@ -52,5 +52,5 @@ returns c =
       block = ap (λ (x : ℕ). a.info + x) (word c);
       memory = ap₂ (λ (x : List ℕ) (y : ℕ). set x 0 y)
           (memory_is a.state.now a.image (omega arith) j.new.part j.ensures.part)
-          (c.next_turn.ensures.inside c.requires.2);
+          (c.next_turn.ensures.inside c.requires.1);
     }

@@ -9,9 +9,9 @@ use lib.ListN.{length, get_or, set}
 use lib.Pow.{pow_mono}
 use Rattle.span.specs.Combination.{combination}
 use lib.Seq.{length-take-le}
-use Rattle.span.proofs.Masks.{above-mask, weight_fits}
+use Rattle.span.proofs.Masks.{above-mask}
 use Rattle.tables.specs.declared.table.Table.{Table}
-use Rattle.tables.specs.Lent.{with_rows}
+use Rattle.link.specs.Fit.{table_of}
 use Rattle.tables.specs.Table.{info_rows, fit}
 use Rattle.tables.proofs.Fit.{fit-facts}
 use Rattle.link.specs.Memory.{coder_words}
@@ -28,15 +28,10 @@ use Rattle.link.proofs.code_batch.fill.Invariants.{made}
 use Rattle.link.proofs.code_batch.fill.Goals as goal
 use Rattle.link.proofs.code_batch.fill.Goals.{At-loop-i, Else-most-info, In-loop-i, Start}
 
-pub overflow_sub-width : goal.overflow_sub-width
-overflow_sub-width c =
-    let u = with_rows c.args.t c.args.rows.now in
-    let n = (fit-facts u c.requires.0).n_from in omega arith
-
 pub loop-i-init : goal.loop-i-init
 loop-i-init c =
     let a = c.args in
-    let u = with_rows a.t a.rows.now in (
+    let u = table_of a.t.now in (
       reached_start (λ s b. code_entries (code_answer u s b)) (code_memory u) a.state.now a.infos.now
           a.out.now,
       refl,
@@ -48,9 +43,8 @@ overflow_cast-info c =
 
 pub malformed-requires : goal.malformed-requires
 malformed-requires c =
-    let u = with_rows c.args.t c.args.rows.now in
-    let z = fit-facts u c.requires.0 in
-    (c.loop-i.invariant.1 ∙ c.requires.2, z.N_to, (let h = z.N_from in omega arith), z.m_to)
+    let u = table_of c.args.t.now in
+    c.loop-i.invariant.1 ∙ c.requires
 
 -- the fault of a block, by its two tests
 settled : (u : Table) (s : List ℕ) (b : ℕ) → fit u ≡ true → length s ≡ coder_words u → (p q : Bool)
@@ -59,7 +53,7 @@ unfolding coder_fault
 settled u s b = step_settled u (coder_words u) (coder_malformed u s) (2 ^ (u.symbols - 1)) s b
 
 refused : (c : goal.At-loop-i) →
-    let u = with_rows c.args.t c.args.rows.now in
+    let u = table_of c.args.t.now in
     let block = get_or c.args.infos.now c.loop-i.i 0 in
     c.loop-i.i < length c.args.infos.now → (k : ℕ)
     → coder_fault u c.loop-i.state block ≡ k → 0 < k
@@ -68,7 +62,7 @@ refused : (c : goal.At-loop-i) →
     c.loop-i.i c.loop-i.state c.loop-i.out
 unfolding code_batch
 refused c left k e some =
-    let u = with_rows c.args.t c.args.rows.now in
+    let u = table_of c.args.t.now in
     let block = get_or c.args.infos.now c.loop-i.i 0 in
     let a = c.args in
     reached_refused (λ s b. code_entries (code_answer u s b)) (code_memory u) a.state.now a.infos.now a.out.now
@@ -82,61 +76,60 @@ inside c = let e = c.min-end.ensures in (omega arith, omega arith)
 
 tested : (c : goal.At-loop-i) →
     let block = get_or c.args.infos.now c.loop-i.i 0 in
-    ltb c.mask-most.result block ≡ leb (2 ^ (c.args.t.symbols - 1)) block
+    ltb c.mask-most.result block ≡ leb (2 ^ (c.args.t.now.symbols - 1)) block
 tested c =
-    let u = with_rows c.args.t c.args.rows.now in
+    let u = table_of c.args.t.now in
     let block = get_or c.args.infos.now c.loop-i.i 0 in
-    let n = (fit-facts u c.requires.0).n_to in
-    above-mask (c.args.t.symbols - 1) c.mask-most.result block (omega arith)
+    let n = (fit-facts u c.args.t.now.is_fit).n_to in
+    above-mask (c.args.t.now.symbols - 1) c.mask-most.result block (omega arith)
     c.mask-most.ensures
 
 pub returns-then-malformed : goal.returns-then-malformed
 returns-then-malformed c =
     let at = goal.at.returns-then-malformed c in
-    let u = with_rows c.args.t c.args.rows.now in
+    let u = table_of c.args.t.now in
     let block = get_or c.args.infos.now c.loop-i.i 0 in
-    refused at.At-loop-i (inside at.In-loop-i).0 14 (settled u c.loop-i.state block c.requires.0
-    (c.loop-i.invariant.1 ∙ c.requires.2) true _
+    refused at.At-loop-i (inside at.In-loop-i).0 14 (settled u c.loop-i.state block c.args.t.now.is_fit
+    (c.loop-i.invariant.1 ∙ c.requires) true _
     (sym c.malformed.ensures ∙ c.if-malformed.true) refl)
     (omega arith)
 
 pub returns-then-most-info : goal.returns-then-most-info
 returns-then-most-info c =
     let at = goal.at.returns-then-most-info c in
-    let u = with_rows c.args.t c.args.rows.now in
+    let u = table_of c.args.t.now in
     let block = get_or c.args.infos.now c.loop-i.i 0 in
     refused at.At-loop-i (inside at.In-loop-i).0 15
-    (settled u c.loop-i.state block c.requires.0
-    (c.loop-i.invariant.1 ∙ c.requires.2) false true (sym c.malformed.ensures ∙ c.if-malformed.false)
+    (settled u c.loop-i.state block c.args.t.now.is_fit
+    (c.loop-i.invariant.1 ∙ c.requires) false true (sym c.malformed.ensures ∙ c.if-malformed.false)
     (sym (tested at.At-loop-i) ∙ lt-ltb _ _ c.if-most-info.true)) (omega arith)
 
 -- no refusal applies
 none : (c : goal.Else-most-info) →
-    let u = with_rows c.args.t c.args.rows.now in
+    let u = table_of c.args.t.now in
     let block = get_or c.args.infos.now c.loop-i.i 0 in
     ltb c.mask-most.result block
-    ≡ leb (2 ^ (c.args.t.symbols - 1)) block
+    ≡ leb (2 ^ (c.args.t.now.symbols - 1)) block
     → coder_fault u c.loop-i.state block ≡ 0
 none c by-mask =
-    let u = with_rows c.args.t c.args.rows.now in
+    let u = table_of c.args.t.now in
     let block = get_or c.args.infos.now c.loop-i.i 0 in
-    settled u c.loop-i.state block c.requires.0
-    (c.loop-i.invariant.1 ∙ c.requires.2) false false
+    settled u c.loop-i.state block c.args.t.now.is_fit
+    (c.loop-i.invariant.1 ∙ c.requires) false false
     (sym c.malformed.ensures ∙ c.if-malformed.false) (sym by-mask ∙ le-ltb _ _ c.if-most-info.false)
 
 pub taken-requires : goal.taken-requires
 taken-requires c =
     let at = goal.at.taken-requires c in
-    let u = with_rows c.args.t c.args.rows.now in
+    let u = table_of c.args.t.now in
     let block = get_or c.args.infos.now c.loop-i.i 0 in
     let k = coder-taken u c.loop-i.state block
     (none at.Else-most-info (tested at.At-loop-i)) in
     let n = k.sizes.n_to in
-    let e = c.one_at-weight.ensures ∙ weight_fits _ (omega arith) in
+    let e = c.weight-weight.ensures in
     let a = c.args in
-    let h : a.t.symbols - 1 ≤ 15 = omega arith in (
+    let h : a.t.now.symbols - 1 ≤ 15 = omega arith in (
       k.size,
-      k.sizes.m_to,
       k.turn,
       subst
           (λ (w : ℕ). block < w) (sym e)
@@ -146,41 +139,41 @@ taken-requires c =
 
 -- the rows of the information's ones, looked up
 image-is : (c : goal.After-slice_known-in-loop-i-1) →
-    let u = with_rows c.args.t c.args.rows.now in
+    let u = table_of c.args.t.now in
     let block = get_or c.args.infos.now c.loop-i.i 0 in
     c.look_up-image.result ≡ combination (info_rows u)
     block
 image-is c =
-    let u = with_rows c.args.t c.args.rows.now in
+    let u = table_of c.args.t.now in
     let block = get_or c.args.infos.now c.loop-i.i 0 in
     let a = c.args in
-    let w = a.t.symbols - 1 in
-    let n = (fit-facts u c.requires.0).n_to in
-    let long = length-take-le w a.rows.now (let z = c.requires.1 in omega arith) in
+    let w = a.t.now.symbols - 1 in
+    let n = (fit-facts u c.args.t.now.is_fit).n_to in
+    let long = length-take-le w a.t.now.rows.now (omega arith) in
     let tables = c.lookup_of-tables in
     c.look_up-image.ensures
-    ∙ image-by (info_rows u) a.rows.now w refl (omega arith) tables.result tables.ensures
+    ∙ image-by (info_rows u) a.t.now.rows.now w refl (omega arith) tables.result tables.ensures
     block
 
 block-is : (c : goal.After-slice_known-in-loop-i-1) →
-    let u = with_rows c.args.t c.args.rows.now in
+    let u = table_of c.args.t.now in
     let block = get_or c.args.infos.now c.loop-i.i 0 in
     c.taken.result ≡ coded_block u c.loop-i.state block
 block-is c =
-    let u = with_rows c.args.t c.args.rows.now in
+    let u = table_of c.args.t.now in
     let block = get_or c.args.infos.now c.loop-i.i 0 in
     c.taken.ensures.block
     ∙ block_in_numbers u c.loop-i.state block c.look_up-image.result
     (image-is c)
-    c.one_at-weight.result
-    (let n = (fit-facts u c.requires.0).n_to in c.one_at-weight.ensures ∙ weight_fits _ (omega arith))
+    c.weight-weight.result
+    (let n = (fit-facts u c.args.t.now.is_fit).n_to in c.weight-weight.ensures)
 
 memory_is : (c : goal.After-slice_known-in-loop-i-1) →
-    let u = with_rows c.args.t c.args.rows.now in
+    let u = table_of c.args.t.now in
     let block = get_or c.args.infos.now c.loop-i.i 0 in
     c.taken.new.state ≡ coder_next u c.loop-i.state block
 memory_is c =
-    let u = with_rows c.args.t c.args.rows.now in
+    let u = table_of c.args.t.now in
     let block = get_or c.args.infos.now c.loop-i.i 0 in
     c.taken.ensures.memory
     ∙ memory_in_numbers u c.loop-i.state block
@@ -189,7 +182,7 @@ memory_is c =
 pub overflow_cast-out : goal.overflow_cast-out
 overflow_cast-out c =
     let at = goal.at.overflow_cast-out c in
-    let u = with_rows c.args.t c.args.rows.now in
+    let u = table_of c.args.t.now in
     let block = get_or c.args.infos.now c.loop-i.i 0 in
     let f = coded-fits u c.loop-i.state block (none at.Else-most-info (tested at.At-loop-i)) in
     let e = block-is c in
@@ -198,7 +191,7 @@ overflow_cast-out c =
 pub loop-i-preserved : goal.loop-i-preserved
 loop-i-preserved c =
     let at = goal.at.loop-i-preserved c in
-    let u = with_rows c.args.t c.args.rows.now in
+    let u = table_of c.args.t.now in
     let block = get_or c.args.infos.now c.loop-i.i 0 in
     let a = c.args in
     let s = c.loop-i.state in
@@ -220,7 +213,7 @@ loop-i-preserved c =
 pub returns : goal.returns
 unfolding code_batch
 returns c =
-    let u = with_rows c.args.t c.args.rows.now in
+    let u = table_of c.args.t.now in
     let a = c.args in
     let all : c.loop-i.i ≡ c.min-end.result = omega arith in
     subst (λ (k : ℕ). Fills (code_batch u (length a.out.now) a.state.now a.infos.now) a.out.now k c.loop-i.state

@@ -4,7 +4,7 @@ use mathlib.Core.List.{List}
 use Prim.Native.Nat.{ℕ}
 use lib.ListN.{length}
 use Rattle.tables.specs.declared.table.Table.{Table}
-use Rattle.tables.specs.Lent.{with_rows}
+use Rattle.link.specs.Fit.{table_of}
 use Rattle.link.specs.Coder.{code_answer, code_memory}
 use Rattle.link.specs.Batch.{Batch, batch, code_entries, Reached}
 use Rattle.link.proofs.code_batch.fill.Given as goal
@@ -14,5 +14,5 @@ made u = batch (λ s b. code_entries (code_answer u s b)) (code_memory u)
 
 abbrev pub invariant-loop-i : goal.invariant-loop-i
 invariant-loop-i l =
-    Reached (made (with_rows l.t l.rows)) l.initial.state l.infos l.initial.out l.i l.state l.out
+    Reached (made (table_of l.t)) l.initial.state l.infos l.initial.out l.i l.state l.out
     × (length l.state ≡ length l.initial.state)

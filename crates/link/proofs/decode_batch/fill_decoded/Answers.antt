@@ -23,20 +23,20 @@ pub returns-in_default : goal.returns-in_default
 returns-in_default c =
     let a = c.args in
     let u = lent a.t a.rows.now in
-    idle u a.state.now a.blocks.now a.out.now (decode_unfit u a.state.now c.in_default.ensures)
+    idle u a.state.now a.blocks.now a.out.now (decode_unfit u a.state.now c.in_default.ensures.1)
 
 pub returns-then-state-decoder_words : goal.returns-then-state-decoder_words
 returns-then-state-decoder_words c =
     let a = c.args in
     let u = lent a.t a.rows.now in
     idle u a.state.now a.blocks.now a.out.now
-    (decode_other u a.state.now (sym (ap fit c.in-Some.ensures) ∙ c.in-Some.fit.is_fit)
+    (decode_other u a.state.now (sym (ap fit c.in-Ok.ensures) ∙ c.in-Ok.fit.is_fit)
     (λ (z : length a.state.now ≡ decoder_words u). c.if-state-decoder_words.true
-    (z ∙ ap decoder_words (sym c.in-Some.ensures) ∙ sym c.decoder_words.ensures)))
+    (z ∙ ap decoder_words (sym c.in-Ok.ensures) ∙ sym c.decoder_words.ensures)))
 
 pub returns : goal.returns
 returns c =
     let a = c.args in
     let f = c.fill in
     subst (λ (u : Table). Fills (decode_batch u (length a.out.now) a.state.now a.blocks.now) a.out.now
-    f.result f.new.state f.new.out) c.in-Some.ensures f.ensures
+    f.result f.new.state f.new.out) c.in-Ok.ensures f.ensures
