@@ -14,7 +14,8 @@ use span::bits::{mask, select};
 use span::combine::combination;
 use tables::table::Table;
 
-// The condition of 14: the turn is tested before it is an index.
+// The condition of 14: the turn is tested before it is an index. It is not the decoder's: a coder has no fill, no
+// syndrome word and no delayed block.
 pub(crate) fn malformed(t: &FitTable, state: &[u64]) -> bool
     requires { length state.now ≡ coder_words (table_of t.now) }
     ensures { result ≡ coder_malformed (table_of t.now) state.now }

@@ -64,7 +64,8 @@ fn entry(mark: Mark, info: u64) -> u32
     (u64::from(mark) * 65536 + info) as u32
 }
 
-// A step that no refusal applies to, once the register is judged: w, and what the register says.
+// A step that no refusal applies to, once the register is judged: w, and what the register says. As a call in each of the
+// two loops it took 6 to 7 ns more a block.
 #[inline(always)]
 fn take_block(t: &FitTable, state: &mut [u64], w: u64, v: Verdict, received: u64) -> u32
     requires { Ready (table_of t.now) state.old }
