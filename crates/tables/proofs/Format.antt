@@ -9,7 +9,7 @@
 --   parse-refused, -done, -next   what one record does to a parse
 --   parse-step                    the same in one law
 --   Reaches                       the parse of the whole comes by a place
-use mathlib.Core.Path.{◌≡◌, refl, sym, ◌∙◌, subst}
+use mathlib.Core.Path.{◌≡◌, refl, sym, ap, ◌∙◌, subst}
 use mathlib.Core.Bool.{Bool, true, false, cond, not, ◌&&◌, ◌||◌}
 use mathlib.Core.Logic.{◌≢◌}
 use mathlib.Core.List.{List, [], ◌∷◌}
@@ -24,7 +24,10 @@ use lib.Dec.{leb, ltb, eqb}
 use Rattle.span.proofs.Word.{and-false}
 use Rattle.tables.specs.Format.{kind, size, word, row_word, all_given, unavailable, fault, place, begun, after}
 use Rattle.tables.specs.Format.{refused, parsed, parse_from, parse, ended, unknown, cut, misplaced, parse_at}
-use Rattle.tables.specs.Format.{ParseStep}
+use Rattle.tables.specs.Format.{ParseStep, header, fault_of, checked, kind_of, kind_number}
+use Rattle.std.specs.Prelude.{Result, Ok, Err, IsErr, IsErrAnd}
+use Rattle.tables.specs.declared.read.Fault.{Fault}
+use Rattle.tables.specs.declared.read.Kind.{Kind}
 use Rattle.tables.specs.declared.read.Progress.{Progress}
 use Rattle.tables.specs.Table.{sizes_fit}
 use Rattle.tables.specs.Refusal.{first_of}
@@ -139,11 +142,6 @@ fault-end g s k h =
     (first-end (eqb g.table.symbols 0) (not (all_given g.given (g.table.symbols - 1))) (ltb 1 (length s)))
 
 -- ---- the faults that a record of any kind may have, before the others
-
--- the first of 1 to 4, of a record of kind k that has l bytes to the end, with n symbols
-abbrev pub header : ℕ → ℕ → ℕ → ℕ
-header k l n =
-    cond (eqb l 0) 1 (cond (ltb 2 k) 2 (cond (ltb l (size k)) 3 (cond (cond (eqb k 1) (not (eqb n 0)) (eqb n 0)) 4 0)))
 
 first-header : (a b c d : Bool) (ts : List Bool) → (◌≡◌ {A = ℕ} (cond a 1 (cond b 2 (cond c 3 (cond d 4 0)))) 0 → ⊥)
     → first_of 1 (a ∷ b ∷ c ∷ d ∷ ts) ≡ cond a 1 (cond b 2 (cond c 3 (cond d 4 0)))
@@ -312,7 +310,7 @@ sound-whole g s (sizes k h n f) = rw (size-sizes (kind s) k) h
 sound-whole g s (row k h f w) = rw (size-row (kind s) k) h
 sound-whole g s (end k h n a) = rw (size-end (kind s) k, h) (omega arith)
 
-ended-fault : (g : Progress) (s : List ℕ) → length s ≡ 0 → fault g s ≢ 0
+pub ended-fault : (g : Progress) (s : List ℕ) → length s ≡ 0 → fault g s ≢ 0
 ended-fault g s e z = let f = fault-ended g s e in omega arith
 
 -- what is left to read bounds the records to come, and no greater bound says more
@@ -414,3 +412,42 @@ module _ (bytes : List ℕ) (p : ℕ) (g : Progress) (r : Reaches bytes p g) (h 
         enough = omega arith;
         same = rw (← drop-drop n p bytes) (sym (parse-next (r.left - 1) p g (drop p bytes) z k) ∙ next);
       }
+
+-- ---- a fault as a result
+
+pub checked-ok : {A : Type 0} (k : ℕ) (x y : A) → checked k x ≡ Ok y → (k ≡ 0) × (x ≡ y)
+checked-ok k x y = go (eqb k 0) refl
+  where
+    go : (b : Bool) → eqb k 0 ≡ b → cond b (Ok x) (Err (fault_of k)) ≡ Ok y → (k ≡ 0) × (x ≡ y)
+    go true q e = (eqb-true k 0 q, cc)
+    go false q e = let z : ◌≡◌ {A = ℕ} 0 1 = cc in absurd (omega arith)
+
+pub checked-err : {A : Type 0} (k : ℕ) (x : A) (f : Fault) → checked k x ≡ Err f → (k ≢ 0) × (f ≡ fault_of k)
+checked-err k x f = go (eqb k 0) refl
+  where
+    go : (b : Bool) → eqb k 0 ≡ b → cond b (Ok x) (Err (fault_of k)) ≡ Err f → (k ≢ 0) × (f ≡ fault_of k)
+    go true q e = let z : ◌≡◌ {A = ℕ} 0 1 = cc in absurd (omega arith)
+    go false q e = (eqb-false k 0 q, cc)
+
+pub kind-number : (k : ℕ) → k ≤ 2 → kind_number (kind_of k) ≡ k
+unfolding kind_of
+kind-number zero h = refl
+kind-number (suc zero) h = refl
+kind-number (suc (suc k)) h = let z : k ≡ 0 = omega arith in rw z refl
+
+-- what the kind byte of a record says
+pub kind-said : (k : ℕ) (x : Kind) → checked (cond (ltb 2 k) 2 0) (kind_of k) ≡ Ok x
+    → (k ≤ 2) × (kind_of k ≡ x) × (kind_number x ≡ k)
+kind-said k x e =
+    let o = checked-ok (cond (ltb 2 k) 2 0) (kind_of k) x e in
+    let small : k ≤ 2 = few (ltb 2 k) refl o.0 in
+    (small, o.1, subst (λ (y : Kind). kind_number y ≡ k) o.1 (kind-number k small))
+  where
+    few : (b : Bool) → ltb 2 k ≡ b → ◌≡◌ {A = ℕ} (cond b 2 0) 0 → k ≤ 2
+    few true q z = absurd (omega arith)
+    few false q z = ltb-false 2 k q
+
+-- what `?` hands on
+pub handed-on : {A : Type 0} (r : Result A Fault) (f : Fault) → IsErr r → IsErrAnd r (λ x. x ≡ f) → r ≡ Err f
+handed-on (Ok x) f i h = absurd h
+handed-on (Err x) f i h = ap Err h

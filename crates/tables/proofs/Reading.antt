@@ -69,7 +69,7 @@ unfolding parse
 refused-range bytes k p e = range-from (length bytes) 0 begun bytes k p e
 
 -- the fault of a number has that number
-number-of : (k : ℕ) → 1 ≤ k → k ≤ 9 → fault_number (fault_of k) ≡ k
+pub number-of : (k : ℕ) → 1 ≤ k → k ≤ 9 → fault_number (fault_of k) ≡ k
 unfolding fault_of
 number-of zero from to = absurd (omega arith)
 number-of (suc zero) from to = refl

@@ -11,6 +11,9 @@
 --   fault g s                the first of 1 to 9 that applies, or 0
 --   faults, fault_of k       the nine, in order; the one of this number
 --   fault_number f           01's number of a fault, 1 to 9
+--   header k l n             the first of 1 to 4, of a record of kind k that has l bytes to the end, with n symbols so far
+--   kind_number k, kind_of k a kind's number; the kind of this number
+--   checked k x              x, or where k is not 0 the fault k
 --   place k p                the place of refusal k at a record that begins at p
 --   sized, rowed, after      the progress after a sizes record, after a row record, and after either
 --   Parse                    refused, with number and place, or a table
@@ -18,9 +21,11 @@
 --   parse bytes              what bytes say
 --   ParseStep                the same, record by record
 use Rattle.std.specs.Prelude.{◌≡◌, Bool, true, false, cond, not, ◌&&◌, ◌||◌, List, [], ◌∷◌, ℕ, zero, suc, ◌+◌, ◌-◌, ◌*◌}
-use Rattle.std.specs.Prelude.{◌^◌, leb, ltb, eqb, length, get_or, drop, set, replicate}
+use Rattle.std.specs.Prelude.{◌^◌, leb, ltb, eqb, length, get_or, drop, set, replicate, Result, Ok, Err}
 use Rattle.tables.specs.declared.table.Table.{Table}
 use Rattle.tables.specs.declared.read.Progress.{Progress}
+use Rattle.tables.specs.declared.read.Kind.{Kind}
+use Rattle.tables.specs.declared.read.Kind.TheVariants.{End, Sizes, Row}
 use Rattle.tables.specs.declared.read.Fault.{Fault}
 use Rattle.tables.specs.declared.read.Fault.TheVariants.{Ended, Unknown, Cut, Misplaced, SizesOut, Misnumbered, TooLong}
 use Rattle.tables.specs.declared.read.Fault.TheVariants.{Missing, Followed}
@@ -116,6 +121,21 @@ fault_number Misnumbered = 6
 fault_number TooLong = 7
 fault_number Missing = 8
 fault_number Followed = 9
+
+abbrev pub header : ℕ → ℕ → ℕ → ℕ
+header k l n =
+    cond (eqb l 0) 1 (cond (ltb 2 k) 2 (cond (ltb l (size k)) 3 (cond (cond (eqb k 1) (not (eqb n 0)) (eqb n 0)) 4 0)))
+
+abbrev pub kind_number : Kind → ℕ
+kind_number End = 0
+kind_number Sizes = 1
+kind_number Row = 2
+
+unfoldable pub kind_of : ℕ → Kind
+kind_of k = cond (eqb k 0) End (cond (eqb k 1) Sizes Row)
+
+abbrev pub checked : {A : Type 0} → ℕ → A → Result A Fault
+checked k x = cond (eqb k 0) (Ok x) (Err (fault_of k))
 
 -- "place is the record's first byte"; of 9 it is the first byte after the end, a record of one byte
 unfoldable pub place : ℕ → ℕ → ℕ

@@ -2,9 +2,9 @@
 // does.
 ghost use Rattle.std.specs.Prelude.{◌≡◌, ◌≢◌, true, cond, not, ◌+◌, ◌-◌, ◌^◌, ◌≤◌, ◌<◌, leb, ltb, eqb, length, get_or};
 ghost use Rattle.std.specs.Prelude.{drop};
-ghost use Rattle.tables.specs.Table.{fit};
-ghost use Rattle.tables.specs.Format.{kind, size, row_word, all_given, unavailable, fault, place, after, refused};
-ghost use Rattle.tables.specs.Format.{parsed, fault_number, fault_of};
+ghost use Rattle.tables.specs.Table.{sizes_fit, fit};
+ghost use Rattle.tables.specs.Format.{kind, kind_of, kind_number, size, row_word, all_given, unavailable, fault};
+ghost use Rattle.tables.specs.Format.{fault_number, header, checked, place, after, parsed};
 ghost use Rattle.tables.specs.Reading.{read_number, read_parse, Read};
 
 use crate::judge::{Clash, first_clash};
@@ -72,6 +72,38 @@ impl ReadError {
     }
 }
 
+// What the kind byte of a record says.
+#[derive(Clone, Copy)]
+enum Kind {
+    End,
+    Sizes,
+    Row,
+}
+
+impl Kind {
+    fn of(byte: usize) -> Result<Kind, Fault>
+        ensures { result ≡ checked (cond (ltb 2 byte) 2 0) (kind_of byte) }
+    {
+        match byte {
+            0 => Ok(Kind::End),
+            1 => Ok(Kind::Sizes),
+            2 => Ok(Kind::Row),
+            _ => Err(Fault::Unknown),
+        }
+    }
+
+    // The length of such a record, its kind byte included.
+    fn size(self) -> usize
+        ensures { result ≡ size (kind_number self) }
+    {
+        match self {
+            Kind::End => 1,
+            Kind::Sizes => 4,
+            Kind::Row => 10,
+        }
+    }
+}
+
 // How far a reading came: the table so far, without symbols before the sizes, and which rows were given, row j at
 // given[j − 1].
 #[derive(Clone, Copy)]
@@ -80,167 +112,143 @@ struct Progress {
     given: [bool; 15],
 }
 
-// Byte k of the record at `at`, and 0 past the end.
-fn byte(bytes: &[u8], at: usize, k: usize) -> usize
-    requires { at ≤ length bytes.now }
-    ensures { result ≡ get_or (drop at bytes.now) k 0 }
+// Byte k of the record that the rest begins, and 0 past the end.
+fn byte(rest: &[u8], k: usize) -> usize
+    ensures { result ≡ get_or rest.now k 0 }
 {
-    if k < bytes.len() - at {
-        return bytes[at + k] as usize;
+    if k < rest.len() {
+        return rest[k] as usize;
     }
     0
 }
 
-// The length of a record of this kind.
-fn size(kind: usize) -> usize
-    ensures { result ≡ size kind }
-{
-    match kind {
-        0 => 1,
-        1 => 4,
-        _ => 10,
-    }
-}
-
-fn row_word(bytes: &[u8], at: usize) -> u64
-    requires { at ≤ length bytes.now }
-    ensures { result ≡ row_word (drop at bytes.now) }
+fn row_word(rest: &[u8]) -> u64
+    ensures { result ≡ row_word rest.now }
 {
     let mut word: u64 = 0;
-    let mut k = 10;
-    while 2 < k {
-        k -= 1;
-        word = word * 256 + byte(bytes, at, k) as u64;
+    for k in (2..10).rev() {
+        word = word * 256 + byte(rest, k) as u64;
     }
     word
 }
 
-// The number of the first test that holds, or 0.
-fn first(j: u64, a: bool, k: u64, b: bool) -> u64
-    ensures { result ≡ cond a j (cond b k 0) }
+// The faults that a record of any kind may have; otherwise its kind.
+fn header(rest: &[u8], symbols: usize) -> Result<Kind, Fault>
+    ensures { result ≡ checked (header (kind rest.now) (length rest.now) symbols) (kind_of (kind rest.now)) }
 {
-    if a {
-        return j;
+    if rest.is_empty() {
+        return Err(Fault::Ended);
     }
-    if b {
-        return k;
+    let kind = Kind::of(byte(rest, 0))?;
+    if rest.len() < kind.size() {
+        return Err(Fault::Cut);
     }
-    0
+    if misplaced(kind, symbols) {
+        return Err(Fault::Misplaced);
+    }
+    Ok(kind)
 }
 
-// The faults that a record of any kind may have.
-fn header_fault(kind: usize, left: usize, symbols: usize) -> u64
-    ensures { result ≡ cond (eqb left 0) 1 (cond (ltb 2 kind) 2
-        (cond (ltb left (size kind)) 3 (cond (cond (eqb kind 1) (not (eqb symbols 0)) (eqb symbols 0)) 4 0))) }
+// Whether a record of this kind comes before the sizes or again: sizes come first, and once.
+fn misplaced(kind: Kind, symbols: usize) -> bool
+    ensures { result ≡ cond (eqb (kind_number kind) 1) (not (eqb symbols 0)) (eqb symbols 0) }
 {
-    if left < 1 {
-        return 1;
+    match kind {
+        Kind::Sizes => symbols != 0,
+        Kind::End | Kind::Row => symbols == 0,
     }
-    if 2 < kind {
-        return 2;
+}
+
+// The other faults of a sizes record.
+fn sizes(rest: &[u8]) -> Result<Kind, Fault>
+    ensures { result ≡ checked (cond (not (sizes_fit (get_or rest.now 1 0) (get_or rest.now 2 0) (get_or rest.now 3 0)))
+        5 0) Kind.Sizes }
+{
+    if !sizes_fit(byte(rest, 1), byte(rest, 2), byte(rest, 3)) {
+        return Err(Fault::SizesOut);
     }
-    first(3, left < size(kind), 4, (kind == 1) == (0 < symbols))
+    Ok(Kind::Sizes)
 }
 
 // The other faults of a row record: its number is none of 1 to n − 1, or was given; its row is too long.
-fn row_fault(bytes: &[u8], at: usize, g: Progress) -> u64
-    requires { (at ≤ length bytes.now) × (g.table.symbols ≤ 16) × (g.table.span ≤ 64) }
-    ensures { result ≡ cond (unavailable g (get_or (drop at bytes.now) 1 0)) 6
-        (cond (leb (2 ^ g.table.span) (row_word (drop at bytes.now))) 7 0) }
+fn row(rest: &[u8], g: &Progress) -> Result<Kind, Fault>
+    requires { (g.now.table.symbols ≤ 16) × (g.now.table.span ≤ 64) }
+    ensures { result ≡ checked (cond (unavailable g.now (get_or rest.now 1 0)) 6
+        (cond (leb (2 ^ g.now.table.span) (row_word rest.now)) 7 0)) Kind.Row }
 {
-    let j = byte(bytes, at, 1);
+    let j = byte(rest, 1);
     if (1 <= j) & (j < g.table.symbols) {
-        let given = g.given;
-        return first(6, given[j - 1], 7, mask(g.table.span) < row_word(bytes, at));
+        if g.given[j - 1] {
+            return Err(Fault::Misnumbered);
+        }
+        if mask(g.table.span) < row_word(rest) {
+            return Err(Fault::TooLong);
+        }
+        return Ok(Kind::Row);
     }
-    6
+    Err(Fault::Misnumbered)
 }
 
 // The other faults of an end record: not every row was given; bytes follow.
-fn end_fault(left: usize, g: Progress) -> u64
-    requires { (1 ≤ g.table.symbols) × (g.table.symbols ≤ 16) }
-    ensures { result ≡ cond (not (all_given g.given (g.table.symbols - 1))) 8 (cond (ltb 1 left) 9 0) }
+fn end(rest: &[u8], g: &Progress) -> Result<Kind, Fault>
+    requires { (1 ≤ g.now.table.symbols) × (g.now.table.symbols ≤ 16) }
+    ensures { result ≡ checked (cond (not (all_given g.now.given (g.now.table.symbols - 1))) 8
+        (cond (ltb 1 (length rest.now)) 9 0)) Kind.End }
 {
-    let given = g.given;
-    let count = g.table.symbols - 1;
-    let mut all = true;
-    let mut i = 0;
-    while i < count {
-        all = all & given[i];
-        i += 1;
+    for i in 0..g.table.symbols - 1 {
+        if !g.given[i] {
+            return Err(Fault::Missing);
+        }
     }
-    first(8, !all, 9, 1 < left)
+    if 1 < rest.len() {
+        return Err(Fault::Followed);
+    }
+    Ok(Kind::End)
 }
 
-// The first refusal of 1 to 9 that applies to the record at `at`, or 0.
-fn record_fault(bytes: &[u8], at: usize, g: Progress) -> u64
-    requires { (at ≤ length bytes.now) × (g.table.symbols ≤ 16) × (g.table.span ≤ 64) }
-    ensures { result ≡ fault g (drop at bytes.now) }
+// The first refusal of 1 to 9 that applies to the record that the rest begins; otherwise its kind.
+fn sound(rest: &[u8], g: &Progress) -> Result<Kind, Fault>
+    requires { (g.now.table.symbols ≤ 16) × (g.now.table.span ≤ 64) }
+    ensures { result ≡ checked (fault g.now rest.now) (kind_of (kind rest.now)) }
 {
-    let kind = byte(bytes, at, 0);
-    let left = bytes.len() - at;
-    let header = header_fault(kind, left, g.table.symbols);
-    if header != 0 {
-        return header;
-    }
+    let kind = header(rest, g.table.symbols)?;
     match kind {
-        0 => end_fault(left, g),
-        1 => first(
-            5,
-            !sizes_fit(byte(bytes, at, 1), byte(bytes, at, 2), byte(bytes, at, 3)),
-            0,
-            false,
-        ),
-        _ => row_fault(bytes, at, g),
+        Kind::End => end(rest, g),
+        Kind::Sizes => sizes(rest),
+        Kind::Row => row(rest, g),
     }
 }
 
 // The progress after a sound record that is not the end.
-fn after(bytes: &[u8], at: usize, g: Progress) -> Progress
-    requires { (at ≤ length bytes.now) × (g.table.symbols ≤ 16) × (fault g (drop at bytes.now) ≡ 0)
-        × (kind (drop at bytes.now) ≢ 0) }
-    ensures { result ≡ after g (drop at bytes.now) }
+fn after(rest: &[u8], g: Progress, said: Kind) -> Progress
+    requires { (g.table.symbols ≤ 16) × (fault g rest.now ≡ 0) × (kind rest.now ≢ 0) × (kind rest.now ≡ kind_number said) }
+    ensures { result ≡ after g rest.now }
 {
-    let j = byte(bytes, at, 1);
+    let j = byte(rest, 1);
     let mut t = g.table;
     let mut given = g.given;
-    if byte(bytes, at, 0) == 1 {
+    if let Kind::Sizes = said {
         t.symbols = j;
-        t.span = byte(bytes, at, 2);
-        t.depth = byte(bytes, at, 3);
+        t.span = byte(rest, 2);
+        t.depth = byte(rest, 3);
     } else {
         let i = j - 1;
-        t.rows[i] = row_word(bytes, at);
+        t.rows[i] = row_word(rest);
         given[i] = true;
     }
     Progress { table: t, given }
 }
 
-// The fault of this number, 1 to 9.
-fn fault_of(number: u64) -> Fault
-    requires { (1 ≤ number) × (number ≤ 9) }
-    ensures { result ≡ fault_of number }
+// A refusal of the record at `at`. What follows the end begins after its one byte.
+fn refusal(fault: Fault, at: usize) -> ReadError
+    requires { at + 1 < 2 ^ 64 }
+    ensures { result ≡ ReadError.Refused fault (place (fault_number fault) at) }
 {
-    match number {
-        1 => Fault::Ended,
-        2 => Fault::Unknown,
-        3 => Fault::Cut,
-        4 => Fault::Misplaced,
-        5 => Fault::SizesOut,
-        6 => Fault::Misnumbered,
-        7 => Fault::TooLong,
-        8 => Fault::Missing,
-        _ => Fault::Followed,
-    }
-}
-
-// A refusal of the record at `at`.
-fn refusal(number: u64, at: usize) -> ReadError
-    requires { (at + 1 < 2 ^ 64) × (1 ≤ number) × (number ≤ 9) }
-    ensures { Err result ≡ read_parse (refused number (place number at)) }
-{
-    let place = if number == 9 { at + 1 } else { at };
-    ReadError::Refused(fault_of(number), place)
+    let place = match fault {
+        Fault::Followed => at + 1,
+        _ => at,
+    };
+    ReadError::Refused(fault, place)
 }
 
 // The reading of a table that was parsed.
@@ -263,14 +271,17 @@ pub fn read(bytes: &[u8]) -> Result<Table, ReadError>
         given: [false; 15],
     };
     let mut at = 0;
-    let mut number = record_fault(bytes, at, g);
-    while (number == 0) & (byte(bytes, at, 0) != 0) {
-        g = after(bytes, at, g);
-        at += size(byte(bytes, at, 0));
-        number = record_fault(bytes, at, g);
+    loop {
+        let rest = &bytes[at..];
+        match sound(rest, &g) {
+            Err(fault) => return Err(refusal(fault, at)),
+            Ok(kind) => {
+                if let Kind::End = kind {
+                    return judged(g.table);
+                }
+                g = after(rest, g, kind);
+                at += kind.size();
+            }
+        }
     }
-    if number != 0 {
-        return Err(refusal(number, at));
-    }
-    judged(g.table)
 }

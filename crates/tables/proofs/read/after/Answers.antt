@@ -1,17 +1,19 @@
 -- `tables::read::after`: a sound record that is not the end is of sizes, or of a row in range; what it says is stored.
 -- Assumes nothing.
-use mathlib.Core.Path.{◌≡◌, sym, ◌∙◌}
+use mathlib.Core.Path.{◌≡◌, refl, sym, ap, ◌∙◌}
 use native.Mathlib.Omega.{arith}
 use borrow.Author.Tests.{eq-eqb, ne_eqb}
 use mathlib.Core.List.{List}
 use mathlib.Core.Logic.{◌≢◌}
 use Prim.Native.Nat.{ℕ, ◌-◌, ◌≤◌, ◌<◌}
-use lib.ListN.{drop, get_or}
-use Rattle.tables.specs.Format.{kind, sized, rowed, after}
+use lib.ListN.{get_or}
+use Rattle.tables.specs.declared.read.Kind.{Kind}
+use Rattle.tables.specs.declared.read.Kind.TheVariants.{End, Sizes, Row}
+use Rattle.tables.specs.Format.{kind, kind_number, sized, rowed, after}
 use Rattle.tables.specs.declared.read.Progress.{Progress}
 use Rattle.tables.proofs.Format.{Sound, sizes, row, end, fault-sound, available}
 use Rattle.tables.proofs.read.after.Goals as goal
-use Rattle.tables.proofs.read.after.Goals.{Else-byte-eq1}
+use Rattle.tables.proofs.read.after.Goals.{In_default}
 
 -- a sound record of neither of the other kinds is a row in range
 numbered : (g : Progress) (s : List ℕ) → g.table.symbols ≤ 16 → Sound g s → kind s ≢ 0 → kind s ≢ 1
@@ -28,38 +30,40 @@ after-row : (g : Progress) (s : List ℕ) → kind s ≢ 1 → rowed g s ≡ aft
 unfolding after
 after-row g s e = simp (ne_eqb (kind s) 1 e)
 
+other : (k : Kind) → (k ≡ Sizes → ⊥) → kind_number k ≢ 1
+other End n e = absurd (omega arith)
+other Sizes n e = n refl
+other Row n e = absurd (omega arith)
+
+unsized : (c : goal.In_default) → kind c.args.rest.now ≢ 1
+unsized c e = other c.args.said c.in_default.not-Sizes (sym c.requires.3 ∙ e)
+
 -- the number of a row that is stored
-number : (c : goal.Else-byte-eq1)
-    → (1 ≤ c.byte-j.result) × (c.byte-j.result - 1 < 15)
+number : (c : goal.In_default) → (1 ≤ c.byte-j.result) × (c.byte-j.result - 1 < 15)
 number c =
     let a = c.args in
     let p = c.requires in
-    let s = drop a.at a.bytes.now in
-    rw c.byte-j.ensures
-    (numbered a.g s p.1 (fault-sound a.g s p.2) p.3 (λ e. c.if-byte-eq1.false (c.byte.ensures ∙ e)))
+    rw c.byte-j.ensures (numbered a.g a.rest.now p.0 (fault-sound a.g a.rest.now p.1) p.2 (unsized c))
 
 pub overflow_sub-i : goal.overflow_sub-i
-overflow_sub-i c = (number c).0
-
-pub offset_bounds-t-i : goal.offset_bounds-t-i
-offset_bounds-t-i c = let n = number (goal.at.offset_bounds-t-i c).Else-byte-eq1 in omega arith
+overflow_sub-i c = (number (goal.at.overflow_sub-i c).In_default).0
 
 pub bounds-t-i : goal.bounds-t-i
-bounds-t-i c = (number (goal.at.bounds-t-i c).Else-byte-eq1).1
+bounds-t-i c = (number (goal.at.bounds-t-i c).In_default).1
 
 pub bounds-given-i : goal.bounds-given-i
-bounds-given-i c = (number (goal.at.bounds-given-i c).Else-byte-eq1).1
+bounds-given-i c = (number (goal.at.bounds-given-i c).In_default).1
 
-pub returns-then-byte-eq1 : goal.returns-then-byte-eq1
+pub returns-in-Sizes : goal.returns-in-Sizes
 unfolding sized
-returns-then-byte-eq1 c =
+returns-in-Sizes c =
     let a = c.args in
-    rw (c.byte-j.ensures, c.byte-then-byte-eq1.ensures, c.byte-then-byte-eq1-2.ensures)
-    (after-sizes a.g (drop a.at a.bytes.now) (sym c.byte.ensures ∙ c.if-byte-eq1.true))
+    rw (c.byte-j.ensures, c.byte.ensures, c.byte-in-Sizes.ensures)
+    (after-sizes a.g a.rest.now (c.requires.3 ∙ ap kind_number c.in-Sizes.is))
 
-pub returns-else-byte-eq1 : goal.returns-else-byte-eq1
+pub returns-in_default : goal.returns-in_default
 unfolding rowed
-returns-else-byte-eq1 c =
+returns-in_default c =
     let a = c.args in
     rw (c.byte-j.ensures, c.row_word.ensures)
-    (after-row a.g (drop a.at a.bytes.now) (λ e. c.if-byte-eq1.false (c.byte.ensures ∙ e)))
+    (after-row a.g a.rest.now (unsized (goal.at.returns-in_default c).In_default))

@@ -1,143 +1,132 @@
-use mathlib.Core.Path.{◌≡◌, sym, ap, ◌∙◌}
-use mathlib.Core.Bool.{false, not, ◌&&◌}
+use mathlib.Core.Path.{◌≡◌, refl, sym, ap, ◌∙◌}
 use mathlib.Core.Logic.{◌≢◌}
 use mathlib.Core.List.{List}
-use Prim.Native.Nat.{ℕ, ◌+◌, ◌≤◌}
+use Prim.Native.Nat.{ℕ, ◌+◌, ◌-◌, ◌≤◌}
 use native.Mathlib.Omega.{arith}
-use borrow.Author.Tests.{eqb-true, eqb-false, not-true, not-false}
-use lib.Dec.{eqb}
-use lib.ListN.{length, drop, length-drop}
-use Rattle.tables.specs.Format.{kind, size, fault, place, refused, parsed, parse}
-use Rattle.tables.proofs.Fit.{and_left, and_right}
-use Rattle.tables.proofs.Format.{fault-sound, sound-whole, size-some, reaches-start, reaches-refused}
-use Rattle.tables.proofs.Format.{reaches_done, reaches_next}
-use Rattle.tables.proofs.Progress.{Good, good-begun, good-after, good-bounds, parse-fit}
+use lib.ListN.{length, take, drop, length-drop}
+use lib.Seq.{take_all}
 use Rattle.std.specs.Prelude.{Err}
-use Rattle.tables.proofs.Reading.{fault-range, read_by}
+use Rattle.tables.specs.declared.read.Kind.{Kind}
+use Rattle.tables.specs.declared.read.Progress.{Progress}
+use Rattle.tables.specs.declared.read.Kind.TheVariants.{End, Sizes, Row}
+use Rattle.tables.specs.Format.{kind, kind_of, kind_number, size, fault, fault_number, place, refused, parsed, parse}
+use Rattle.tables.proofs.Format.{fault-sound, sound-whole, size-some, reaches-start, reaches-refused}
+use Rattle.tables.proofs.Format.{reaches_done, reaches_next, checked-ok, checked-err, kind-number, Sound, sizes, row, end}
+use Rattle.tables.proofs.Progress.{good-begun, good-after, good-bounds, parse-fit}
+use Rattle.tables.proofs.Reading.{fault-range, number-of, read_by}
 use Rattle.tables.proofs.read.read.Goals as goal
-use Rattle.tables.proofs.read.read.Goals.{In-loop-number, After-size-at, Else-number-ne0}
+use Rattle.tables.proofs.read.read.Goals.{In-Ok, In_default, After-size-at}
 
-pub record_fault-number-requires : goal.record_fault-number-requires
-record_fault-number-requires c = rw c.zero_table.ensures (omega arith, omega arith, omega arith)
+pub loop-fault-init : goal.loop-fault-init
+loop-fault-init c = rw c.zero_table.ensures (omega arith, good-begun, reaches-start c.args.bytes.now)
 
-pub loop-number-init : goal.loop-number-init
-loop-number-init c =
-    let z = c.zero_table.ensures in
-    rw z (
-      omega arith,
-      good-begun,
-      reaches-start c.args.bytes.now,
-      rw z at c.record_fault-number.ensures,
-    )
+pub sound-requires : goal.sound-requires
+sound-requires c = good-bounds c.loop-fault.g c.loop-fault.invariant.1
 
--- a record that the loop goes on with: it is sound, no end, and whole
-module _ (c : goal.In-loop-number) where
-  abbrev rest : List ℕ
-  rest = drop c.loop-number.at c.args.bytes.now
+-- the rest of the bytes
+whole : (bytes : List ℕ) (at : ℕ) → take (length bytes - at) (drop at bytes) ≡ drop at bytes
+whole bytes at = take_all (length bytes - at) (drop at bytes) (let n = length-drop at bytes in omega arith)
 
-  sound : fault c.loop-number.g rest ≡ 0
-  sound =
-      sym c.loop-number.invariant.3
-      ∙ eqb-true c.loop-number.number 0
-      (and_left (eqb c.loop-number.number 0) (not (eqb c.byte.result 0)) c.loop-number-test.true)
+pub returns-in-Err : goal.returns-in-Err
+returns-in-Err c =
+    let bytes = c.args.bytes.now in
+    let l = c.loop-fault in
+    let s = drop l.at bytes in
+    let said = rw (whole bytes l.at) at (sym c.sound.ensures ∙ c.in-Err.is) in
+    let f = checked-err (fault l.g s) (kind_of (kind s)) c.in-Err.fault said in
+    let range = fault-range l.g s f.0 in
+    let same : fault_number c.in-Err.fault ≡ fault l.g s =
+    ap fault_number f.1 ∙ number-of (fault l.g s) range.0 (omega arith) in
+    read_by bytes (refused (fault l.g s) (place (fault l.g s) l.at)) _
+    (reaches-refused bytes l.at l.g l.invariant.2 f.0)
+    (ap Err c.refusal.ensures ∙ rw (same, f.1))
 
-  goes_on : kind rest ≢ 0
-  goes_on e =
-      eqb-false c.byte.result 0
-      (not-true _ (and_right (eqb c.loop-number.number 0) (not (eqb c.byte.result 0)) c.loop-number-test.true))
-      (c.byte.ensures ∙ e)
+-- a sound record has one of the kinds
+kind-small : (g : Progress) (s : List ℕ) → Sound g s → kind s ≤ 2
+kind-small g s (sizes k h n f) = omega arith
+kind-small g s (row k h f w) = omega arith
+kind-small g s (end k h n a) = omega arith
 
-  inside : c.loop-number.at + size (kind rest) ≤ length c.args.bytes.now
-  inside =
-      let whole = sound-whole c.loop-number.g rest (fault-sound c.loop-number.g rest sound) in
-      let len = length-drop c.loop-number.at c.args.bytes.now in
-      let some = size-some (kind rest) in
+-- what is said of a record that has no fault
+module _ (c : goal.In-Ok) where
+  abbrev here : List ℕ
+  here = drop c.loop-fault.at c.args.bytes.now
+
+  none : (fault c.loop-fault.g here ≡ 0) × (kind_of (kind here) ≡ c.in-Ok.kind)
+  none =
+      let said = rw (whole c.args.bytes.now c.loop-fault.at) at (sym c.sound.ensures ∙ c.in-Ok.is) in
+      checked-ok (fault c.loop-fault.g here) (kind_of (kind here)) c.in-Ok.kind said
+
+  sound : Sound c.loop-fault.g here
+  sound = fault-sound c.loop-fault.g here none.0
+
+  told : kind here ≡ kind_number c.in-Ok.kind
+  told = sym (kind-number (kind here) (kind-small c.loop-fault.g here sound)) ∙ ap kind_number none.1
+
+  some : c.loop-fault.at + size (kind here) ≤ length c.args.bytes.now
+  some =
+      let w = sound-whole c.loop-fault.g here sound in
+      let len = length-drop c.loop-fault.at c.args.bytes.now in
+      let one = size-some (kind here) in
       omega arith
+
+-- of an end record, the bytes say the table that the loop has
+says : (c : goal.In-Ok) → c.in-Ok.kind ≡ End → parse c.args.bytes.now ≡ parsed c.loop-fault.g.table
+says c e =
+    let l = c.loop-fault in
+    let i = some c in
+    let one = size-some (kind (here c)) in
+    reaches_done c.args.bytes.now l.at l.g l.invariant.2 (omega arith) (none c).0 (told c ∙ ap kind_number e)
+
+pub judged-requires : goal.judged-requires
+judged-requires c = parse-fit _ c.loop-fault.g.table (says (goal.at.judged-requires c).In-Ok c.in-End.is)
+
+pub returns-in-End : goal.returns-in-End
+returns-in-End c = read_by _ _ c.judged.result (says (goal.at.returns-in-End c).In-Ok c.in-End.is) c.judged.ensures
+
+-- any other kind has another number
+other : (k : Kind) → (k ≡ End → ⊥) → kind_number k ≢ 0
+other End n e = n refl
+other Sizes n e = absurd (omega arith)
+other Row n e = absurd (omega arith)
+
+goes_on : (c : goal.In_default) → kind (here (goal.at.after-g-requires c).In-Ok) ≢ 0
+goes_on c e = other c.in-Ok.kind c.in_default.not-End (sym (told (goal.at.after-g-requires c).In-Ok) ∙ e)
 
 pub after-g-requires : goal.after-g-requires
 after-g-requires c =
-    let b = good-bounds c.loop-number.g c.loop-number.invariant.1 in
-    let t = (goal.at.after-g-requires c).In-loop-number in
-    (c.loop-number.invariant.0, b.0, sound t, goes_on t)
+    let i = (goal.at.after-g-requires c).In-Ok in
+    let b = good-bounds c.loop-fault.g c.loop-fault.invariant.1 in
+    rw (whole c.args.bytes.now c.loop-fault.at) (b.0, (none i).0, goes_on c, told i)
 
-long : (c : goal.After-size-at) → c.size-at.result ≡ size (kind (rest (goal.at.overflow_add-at c).In-loop-number))
-long c = c.size-at.ensures ∙ ap size c.byte-in-loop-number.ensures
-
-good : (c : goal.After-size-at) → Good c.after-g.result
-good c =
-    let t = (goal.at.overflow_add-at c).In-loop-number in
-    rw c.after-g.ensures (good-after c.loop-number.g (rest t) c.loop-number.invariant.1
-    (fault-sound c.loop-number.g (rest t) (sound t)) (goes_on t))
+-- the next record begins where this one ends
+long : (c : goal.After-size-at) → c.size-at.result ≡ size (kind (here (goal.at.overflow_add-at c).In-Ok))
+long c = c.size-at.ensures ∙ ap size (sym (told (goal.at.overflow_add-at c).In-Ok))
 
 pub overflow_add-at : goal.overflow_add-at
 overflow_add-at c =
-    let i = inside (goal.at.overflow_add-at c).In-loop-number in
+    let i = some (goal.at.overflow_add-at c).In-Ok in
     let n = long c in
     omega arith
 
-pub record_fault-number-requires-in-loop-number : goal.record_fault-number-requires-in-loop-number
-record_fault-number-requires-in-loop-number c =
-    let i = inside (goal.at.record_fault-number-requires-in-loop-number c).In-loop-number in
+pub loop-fault-smaller : goal.loop-fault-smaller
+loop-fault-smaller c =
+    let t = (goal.at.loop-fault-smaller c).In-Ok in
+    let i = some t in
     let n = long c in
-    let b = good-bounds c.after-g.result (good c) in
+    let one = size-some (kind (here t)) in
     omega arith
 
-pub loop-number-smaller : goal.loop-number-smaller
-loop-number-smaller c =
-    let t = (goal.at.loop-number-smaller c).In-loop-number in
-    let i = inside t in
-    let n = long (goal.at.loop-number-smaller c).After-size-at in
-    let some = size-some (kind (rest t)) in
-    omega arith
-
-pub loop-number-preserved : goal.loop-number-preserved
-loop-number-preserved c =
-    let t = (goal.at.loop-number-preserved c).In-loop-number in
-    let i = inside t in
-    let n = long (goal.at.loop-number-preserved c).After-size-at in
-    let some = size-some (kind (rest t)) in (
+pub loop-fault-preserved : goal.loop-fault-preserved
+loop-fault-preserved c =
+    let l = c.loop-fault in
+    let t = (goal.at.loop-fault-preserved c).In-Ok in
+    let d = goes_on (goal.at.loop-fault-preserved c).In_default in
+    let i = some t in
+    let n = long c in
+    let one = size-some (kind (here t)) in
+    let next = rw (whole c.args.bytes.now l.at) at c.after-g.ensures in (
       omega arith,
-      good (goal.at.loop-number-preserved c).After-size-at,
-      rw (c.after-g.ensures, n) (reaches_next c.args.bytes.now c.loop-number.at c.loop-number.g
-          c.loop-number.invariant.2 (omega arith) (sound t) (goes_on t)),
-      c.record_fault-number-in-loop-number.ensures,
+      rw next (good-after l.g (here t) l.invariant.1 (sound t) d),
+      rw (next, n) (reaches_next c.args.bytes.now l.at l.g l.invariant.2 (omega arith) (none t).0 d),
     )
-
--- the loop ends at a fault, or at an end
-ended : (n k : ℕ) → n ≡ 0 → eqb n 0 && not (eqb k 0) ≡ false → k ≡ 0
-ended n k z e = eqb-true k 0 (not-false _ (rw z at e))
-
-pub refusal-requires : goal.refusal-requires
-refusal-requires c =
-    let l = c.loop-number in
-    let s = drop l.at c.args.bytes.now in
-    let range = fault-range l.g s (λ e. c.if-number-ne0.true (l.invariant.3 ∙ e)) in
-    let len = length-drop l.at c.args.bytes.now in
-    (omega arith, omega arith, omega arith)
-
-pub returns-then-number-ne0 : goal.returns-then-number-ne0
-returns-then-number-ne0 c =
-    let bytes = c.args.bytes.now in
-    let l = c.loop-number in
-    let n : fault l.g (drop l.at bytes) ≢ 0 = λ e. c.if-number-ne0.true (l.invariant.3 ∙ e) in
-    read_by bytes (refused l.number (place l.number l.at)) (Err c.refusal.result)
-    (rw l.invariant.3 (reaches-refused bytes l.at l.g l.invariant.2 n)) c.refusal.ensures
-
--- the bytes say the table that the loop has
-says : (c : goal.Else-number-ne0) →
-    parse c.args.bytes.now ≡ parsed c.loop-number.g.table
-says c =
-    let bytes = c.args.bytes.now in
-    let s = drop c.loop-number.at bytes in
-    let z : fault c.loop-number.g s ≡ 0 = sym c.loop-number.invariant.3 ∙ c.if-number-ne0.false in
-    let whole = sound-whole c.loop-number.g s (fault-sound c.loop-number.g s z) in
-    let len = length-drop c.loop-number.at bytes in
-    let some = size-some (kind s) in
-    reaches_done bytes c.loop-number.at c.loop-number.g c.loop-number.invariant.2 (omega arith) z
-    (sym c.byte.ensures ∙ ended c.loop-number.number c.byte.result c.if-number-ne0.false c.loop-number-test.false)
-
-pub judged-requires : goal.judged-requires
-judged-requires c = parse-fit _ c.loop-number.g.table (says (goal.at.judged-requires c).Else-number-ne0)
-
-pub returns : goal.returns
-returns c = read_by _ _ c.judged.result (says (goal.at.returns c).Else-number-ne0) c.judged.ensures
