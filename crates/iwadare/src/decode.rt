@@ -12,7 +12,7 @@ use crate::memory::{
     RECEIVED_BOUND, TERMS, TERMS_BOUND,
 };
 use link::refusal::Refusal;
-use link::stream::push;
+use link::stream::{next_fill, push};
 use span::bits::select;
 use span::dual::together;
 
@@ -94,12 +94,6 @@ fn judged(x: u64) -> Verdict
     unflipped
 }
 
-fn next_fill(fill: u64) -> u64
-    ensures { result ≡ fill_next fill }
-{
-    if fill < DELAY { fill + 1 } else { fill }
-}
-
 // The block 15 back, flipped in the symbol of that weight. Where that is 0 nothing is written, so that the word is not
 // read just after a write, when the blocks move.
 fn flip(memory: &mut [u64; WORDS], weight: u64)
@@ -116,7 +110,7 @@ fn keep(memory: &mut [u64; WORDS], w: u64, terms: u64, weight: u64, youngest: u6
         ∷ (drop 4 (set memory.old 6 (get_or memory.old 6 0 ⊕ weight)) ++ (youngest ∷ [])) }
 {
     flip(memory, weight);
-    memory[FILL] = next_fill(memory[FILL]);
+    memory[FILL] = next_fill(DELAY, memory[FILL]);
     memory[PENDING] = w >> 1;
     memory[TERMS] = terms;
     push(memory, OLDEST, youngest);
