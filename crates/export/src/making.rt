@@ -11,6 +11,6 @@ pub(crate) fn made(answer: Result<Table, MakeError>) -> u64
 {
     match answer {
         Ok(_) => 0,
-        Err(error) => error.number(),
+        Err(error) => error.into(),
     }
 }

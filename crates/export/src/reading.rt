@@ -21,7 +21,7 @@ impl From<ReadError> for BurstReading {
     ghost from_gives = { λ error told. told ≡ reading_of (read_numbers (Err error)) };
 
     fn from(error: ReadError) -> BurstReading {
-        let refused = error.number();
+        let refused = error.into();
         match error {
             ReadError::Refused(_, place) => BurstReading {
                 refused,

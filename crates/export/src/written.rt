@@ -20,7 +20,7 @@ impl From<WriteError> for BurstWritten {
     ghost from_gives = { λ error told. told ≡ written_of (write_numbers (Err error)) };
 
     fn from(error: WriteError) -> BurstWritten {
-        let refused = error.number();
+        let refused = error.into();
         match error {
             WriteError::Unsuitable(Clash { l, e0, e1 }) => BurstWritten {
                 refused,

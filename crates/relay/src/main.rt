@@ -98,7 +98,7 @@ impl From<Refusal> for Refused {
 impl fmt::Display for Refused {
     fn fmt<W: fmt::Write>(&self, f: &mut fmt::Formatter<W>) -> fmt::Result {
         let number = match *self {
-            Refused::Table(error) => error.number(),
+            Refused::Table(error) => u64::from(error),
             Refused::Memory(refusal) => u64::from(refusal),
         };
         write!(f, "refused {number}")

@@ -64,7 +64,7 @@ fn after_header(n: usize, m: usize, memory: &mut [u64], lines: &mut Lines) -> Op
     match make(n, m) {
         Ok(table) => Some(started(table, memory)),
         Err(error) => {
-            lines.refusal(error.number());
+            lines.refusal(error.into());
             None
         }
     }

@@ -16,12 +16,12 @@ pub enum MakeError {
     OutOfRange,
 }
 
-impl MakeError {
-    // The refusal's number, 11.
-    pub fn number(self) -> u64
-        ensures { result ≡ make_number self }
-    {
-        match self {
+// The refusal's number, 11.
+impl From<MakeError> for u64 {
+    ghost from_gives = { λ error number. number ≡ make_number error };
+
+    fn from(error: MakeError) -> u64 {
+        match error {
             MakeError::OutOfRange => 11,
         }
     }

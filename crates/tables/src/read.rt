@@ -33,12 +33,12 @@ pub enum Fault {
     Followed,
 }
 
-impl Fault {
-    // The refusal's number.
-    fn number(self) -> u64
-        ensures { result ≡ fault_number self }
-    {
-        match self {
+// The refusal's number.
+impl From<Fault> for u64 {
+    ghost from_gives = { λ fault number. number ≡ fault_number fault };
+
+    fn from(fault: Fault) -> u64 {
+        match fault {
             Fault::Ended => 1,
             Fault::Unknown => 2,
             Fault::Cut => 3,
@@ -60,13 +60,13 @@ pub enum ReadError {
     Unsuitable(Clash),
 }
 
-impl ReadError {
-    // The refusal's number.
-    pub fn number(self) -> u64
-        ensures { result ≡ read_number self }
-    {
-        match self {
-            ReadError::Refused(fault, _) => fault.number(),
+// The refusal's number.
+impl From<ReadError> for u64 {
+    ghost from_gives = { λ error number. number ≡ read_number error };
+
+    fn from(error: ReadError) -> u64 {
+        match error {
+            ReadError::Refused(fault, _) => fault.into(),
             ReadError::Unsuitable(_) => 10,
         }
     }

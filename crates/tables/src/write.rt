@@ -17,12 +17,12 @@ pub enum WriteError {
     NoRoom,
 }
 
-impl WriteError {
-    // The refusal's number.
-    pub fn number(self) -> u64
-        ensures { result ≡ write_number self }
-    {
-        match self {
+// The refusal's number.
+impl From<WriteError> for u64 {
+    ghost from_gives = { λ error number. number ≡ write_number error };
+
+    fn from(error: WriteError) -> u64 {
+        match error {
             WriteError::Unfit => 12,
             WriteError::Unsuitable(_) => 10,
             WriteError::NoRoom => 16,
