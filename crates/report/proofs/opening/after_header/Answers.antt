@@ -20,4 +20,4 @@ returns-in-Ok-clause-text c = rw (sym c.make.ensures.answer ∙ c.in-Ok.is) (pus
 pub returns-in-Err-clause-text : goal.returns-in-Err-clause-text
 returns-in-Err-clause-text c =
     rw (sym c.make.ensures.answer ∙ c.in-Err.is)
-    (puts-pushes (refused_line (make_number c.in-Err.error)) c.requires.1 (rw c.number.ensures at c.refusal.ensures))
+    (puts-pushes (refused_line (make_number c.in-Err.error)) c.requires.1 (rw c.into.ensures at c.refusal.ensures))
