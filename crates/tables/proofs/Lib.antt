@@ -2,6 +2,7 @@
 pub mod Fit
 pub mod Image
 pub mod Clash
+mod Behind
 mod ClashWords
 pub mod Judging
 pub mod Every

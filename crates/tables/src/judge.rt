@@ -24,41 +24,30 @@ pub enum Unsound {
     Clashing(Clash),
 }
 
-// Row i + 1 of the code: a stored one, or the parity's.
-fn code_row(rows: &[u64], n: usize, i: usize) -> u64
-    requires { (i < n) × (n - 1 ≤ length rows.now) }
-    ensures { result ≡ get_or (code_rows n rows.now) i 0 }
+// The shifted rows, then the rows, so that the least relation has the least e0 and then the least e1: each row is fetched
+// once.
+fn clash_words(rows: &[u64], span: usize, l: usize) -> [u64; 32]
+    requires { (length rows.now ≤ 16) × (span ≤ 64) }
+    ensures { take (length rows.now + length rows.now) result ≡ map (shifted span l) rows.now ++ rows.now }
 {
-    if i < n - 1 {
-        return rows[i];
-    }
-    1
-}
-
-// The n shifted rows, then the n rows, so that the least relation has the least e0 and then the least e1: each row is
-// fetched once.
-fn clash_words(rows: &[u64], n: usize, span: usize, l: usize) -> [u64; 32]
-    requires { (2 ≤ n) × (n ≤ 16) × (span ≤ 64) × (n - 1 ≤ length rows.now) }
-    ensures { take (n + n) result ≡ map (shifted span l) (code_rows n rows.now) ++ code_rows n rows.now }
-{
+    let n = rows.len();
     let mut words = [0u64; 32];
-    for i in 0..n {
-        let row = code_row(rows, n, i);
-        words[i] = shift(row, l, span);
-        words[n + i] = row;
+    for (i, row) in rows.iter().enumerate() {
+        words[i] = shift(*row, l, span);
+        words[n + i] = *row;
     }
     words
 }
 
-// The least clash of the first shift that has one.
-fn search(rows: &[u64], n: usize, span: usize) -> Option<Clash>
-    requires { (2 ≤ n) × (n ≤ 16) × (span ≤ 64) × (n - 1 ≤ length rows.now) }
-    ensures { result ≡ first_clash span (code_rows n rows.now) }
+// The least clash of the first shift that has one, of the code's n rows.
+fn search(rows: &[u64], span: usize) -> Option<Clash>
+    requires { (length rows.now ≤ 16) × (span ≤ 64) }
+    ensures { result ≡ first_clash span rows.now }
 {
+    let n = rows.len();
     for l in 1..span {
-        let words = clash_words(rows, n, span, l);
-        let found = least_relation(&words, n + n, n);
-        if let Some(c) = found {
+        let words = clash_words(rows, span, l);
+        if let Some(c) = least_relation(&words, n + n, n) {
             return Some(Clash {
                 l: l as u64,
                 e0: c >> (n as u64),
@@ -69,12 +58,15 @@ fn search(rows: &[u64], n: usize, span: usize) -> Option<Clash>
     None
 }
 
-// The first clash of a fit table.
+// The first clash of a fit table. The parity's row, 1, stands behind the stored ones.
 pub(crate) fn first_clash(t: Table) -> Option<Clash>
     requires { fit t ≡ true }
     ensures { result ≡ first_clash t.span (rows_of t) }
 {
-    search(&t.rows, t.symbols, t.span)
+    let n = t.symbols;
+    let mut rows = [1; 16];
+    rows[..n - 1].copy_from_slice(&t.rows[..n - 1]);
+    search(&rows[..n], t.span)
 }
 
 pub(crate) fn judge(t: Table) -> Result<(), Unsound>

@@ -1,4 +1,4 @@
-use mathlib.Core.Path.{◌≡◌, sym, ap, ◌∙◌, subst}
+use mathlib.Core.Path.{◌≡◌, refl, sym, ap, ◌∙◌, subst}
 use mathlib.Core.Logic.{◌≢◌}
 use mathlib.Core.List.{List, ◌++◌, map}
 use Prim.Native.Nat.{ℕ, ◌+◌, ◌-◌, ◌≤◌, ◌<◌, min}
@@ -8,8 +8,6 @@ use lib.ListN.{length, get_or, set, take, length-append, length-map, length-set,
 use lib.Seq.{ext_get_or, get_or-take, get_or-append-add, get_or-set_same, get_or-set_other, length-take-le}
 use Rattle.span.specs.Word.{shifted}
 use Rattle.span.proofs.Word.{shifted-zero}
-use Rattle.tables.specs.Table.{code_rows}
-use Rattle.tables.proofs.Fit.{code-length}
 use Rattle.tables.proofs.judge.clash_words.Goals as goal
 use Rattle.tables.proofs.judge.clash_words.Invariants.{Filled}
 
@@ -72,19 +70,20 @@ map_at N l rows k =
 pub loop-i-preserved : goal.loop-i-preserved
 loop-i-preserved c =
     let a = c.args in
+    let i = c.loop-i.i in
+    let row = get_or a.rows.now i 0 in
     let span : min a.span 64 ≡ a.span = omega arith in (
       simp length-set c.loop-i.invariant.0,
-      filled_more a.n a.span a.l (code_rows a.n a.rows.now) c.loop-i.i c.loop-i.words
-          c.shift.result c.code_row-row.result
-          (omega arith) (omega arith) (c.shift.ensures ∙ ap (λ (N : ℕ). shifted N a.l c.code_row-row.result) span)
-          c.code_row-row.ensures c.loop-i.invariant.1,
+      filled_more (length a.rows.now) a.span a.l a.rows.now i c.loop-i.words c.shift.result row
+          (omega arith) (omega arith) (c.shift.ensures ∙ ap (λ (N : ℕ). shifted N a.l row) span) refl
+          c.loop-i.invariant.1,
     )
 
 pub returns : goal.returns
 returns c =
     let a = c.args in
-    let R = code_rows a.n a.rows.now in
-    let size : length R ≡ a.n = code-length a.n a.rows.now (omega arith) (omega arith) in
-    halves a.n c.loop-i.words (map (shifted a.span a.l) R) R
-    (length-map R (shifted a.span a.l) ∙ size) size (omega arith)
+    let R = a.rows.now in
+    let n = length R in
+    halves n c.loop-i.words (map (shifted a.span a.l) R) R
+    (length-map R (shifted a.span a.l)) refl (omega arith)
     (λ k h. let f = c.loop-i.invariant.1 k (omega arith) in (f.0 ∙ sym (map_at a.span a.l R k), f.1))

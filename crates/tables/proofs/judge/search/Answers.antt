@@ -1,4 +1,4 @@
-use mathlib.Core.Path.{◌≡◌, sym, ap, ◌∙◌, subst}
+use mathlib.Core.Path.{◌≡◌, refl, sym, ap, ◌∙◌, subst}
 use mathlib.Core.List.{List}
 use Prim.Native.Nat.{ℕ, ◌+◌, ◌-◌, ◌/◌, ◌%◌, ◌^◌, ◌<◌, min}
 use native.Mathlib.Decide.{ℕ_discrete}
@@ -6,8 +6,6 @@ use native.Mathlib.Omega.{arith}
 use lib.Bits.{bit_and, and_mask}
 use lib.ListN.{length}
 use Rattle.tables.specs.Code.{Clashes}
-use Rattle.tables.specs.Table.{code_rows}
-use Rattle.tables.proofs.Fit.{code-length}
 use Rattle.tables.proofs.Clash.{LeastAt, first-at, first-clash, no-clash}
 use Rattle.tables.proofs.ClashWords.{clash_found, clash_missing, clash_counted}
 use Rattle.tables.proofs.judge.search.Goals as goal
@@ -27,14 +25,14 @@ loop-l-init c = λ k e0 e1 h cl. let z = cl.shift_from in omega arith
 
 pub returns-in-Some : goal.returns-in-Some
 returns-in-Some c =
-    let r = c.least_relation-found in
+    let r = c.least_relation in
     let w = c.clash_words-words in
     let a = c.args in
     let N = a.span in
-    let n = a.n in
-    let R = code_rows n a.rows.now in
+    let n = length a.rows.now in
+    let R = a.rows.now in
     let e = c.in-Some.c in
-    let size : length R ≡ n = code-length n a.rows.now (omega arith) (omega arith) in
+    let size : length R ≡ n = refl in
     let small : min n 64 ≡ n = omega arith in
     let same = r.ensures ∙ clash_counted N R c.loop-l.l n w.result w.ensures size (omega arith) in
     let low : bit_and e c.mask.result ≡ e % 2 ^ n =
@@ -49,18 +47,18 @@ returns-in-Some c =
 
 pub loop-l-preserved : goal.loop-l-preserved
 loop-l-preserved c =
-    let r = c.least_relation-found in
+    let r = c.least_relation in
     let w = c.clash_words-words in
     let a = c.args in
-    let R = code_rows a.n a.rows.now in
-    let size : length R ≡ a.n = code-length a.n a.rows.now (omega arith) (omega arith) in
+    let R = a.rows.now in
+    let size : length R ≡ length R = refl in
     let same = r.ensures
-    ∙ clash_counted a.span R c.loop-l.l a.n w.result w.ensures size (omega arith) in
+    ∙ clash_counted a.span R c.loop-l.l (length a.rows.now) w.result w.ensures size (omega arith) in
     none_more a.span R c.loop-l.l c.loop-l.invariant
     (clash_missing a.span R c.loop-l.l (sym same ∙ c.in_default.is))
 
 pub returns : goal.returns
 returns c =
     let a = c.args in
-    sym ((no-clash a.span (code_rows a.n a.rows.now)).1
+    sym ((no-clash a.span a.rows.now).1
     (λ k e0 e1 h. let z = h.shift_to in c.loop-l.invariant k e0 e1 (omega arith) h))

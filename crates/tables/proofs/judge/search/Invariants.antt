@@ -2,8 +2,7 @@
 -- nothing.
 use Prim.Native.Nat.{ℕ, ◌<◌}
 use Rattle.tables.specs.Code.{Clashes}
-use Rattle.tables.specs.Table.{code_rows}
 use Rattle.tables.proofs.judge.search.Given as goal
 
 abbrev pub invariant-loop-l : goal.invariant-loop-l
-invariant-loop-l l = (k e0 e1 : ℕ) → k < l.l → Clashes l.span (code_rows l.n l.rows) k e0 e1 → ⊥
+invariant-loop-l l = (k e0 e1 : ℕ) → k < l.l → Clashes l.span l.rows k e0 e1 → ⊥
