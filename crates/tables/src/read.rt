@@ -106,6 +106,8 @@ impl Kind {
 
 // How far a reading came: the table so far, without symbols before the sizes, and which rows were given, row j at
 // given[j − 1].
+// The bounds on n and N stand in contracts, and are no ghost fields: `progress` of specs/Format is of any table, and a
+// struct with such fields can be built only where they hold (tried: the definitions of reading do not stand then).
 #[derive(Clone, Copy)]
 struct Progress {
     table: Table,
