@@ -197,10 +197,8 @@ fn end(rest: &[u8], g: &Progress) -> Result<Kind, Fault>
     ensures { result ≡ checked (cond (not (all_given g.now.given (g.now.table.symbols - 1))) 8
         (cond (ltb 1 (length rest.now)) 9 0)) Kind.End }
 {
-    for i in 0..g.table.symbols - 1 {
-        if !g.given[i] {
-            return Err(Fault::Missing);
-        }
+    if g.given[..g.table.symbols - 1].contains(&false) {
+        return Err(Fault::Missing);
     }
     if 1 < rest.len() {
         return Err(Fault::Followed);

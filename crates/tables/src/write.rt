@@ -59,11 +59,7 @@ fn put_row(out: &mut [u8], at: usize, j: usize, row: u64)
 {
     out[at] = 2;
     out[at + 1] = j as u8;
-    let mut rest = row;
-    for k in 2..10 {
-        out[at + k] = (rest % 256) as u8;
-        rest /= 256;
-    }
+    out[at + 2..at + 10].copy_from_slice(&row.to_le_bytes());
 }
 
 // The row records, ascending, after the sizes record.
