@@ -10,6 +10,7 @@ ghost use Rattle.tables.specs.Reading.{read_number, read_parse, Read};
 use crate::judge::{Clash, first_clash};
 use crate::table::{Table, sizes_fit, zero_table};
 use span::bits::mask;
+use std::array;
 
 #[derive(Clone, Copy, Debug, PartialEq, Eq)]
 pub enum Fault {
@@ -124,14 +125,11 @@ fn byte(rest: &[u8], k: usize) -> usize
     0
 }
 
+// The row of a row record, its low byte first. Where the record is cut short, `byte` gives 0 for what is missing.
 fn row_word(rest: &[u8]) -> u64
     ensures { result ≡ row_word rest.now }
 {
-    let mut word: u64 = 0;
-    for k in (2..10).rev() {
-        word = word * 256 + byte(rest, k) as u64;
-    }
-    word
+    u64::from_le_bytes(array::from_fn(|i| byte(rest, i + 2) as u8))
 }
 
 // The faults that a record of any kind may have; otherwise its kind.

@@ -1,6 +1,6 @@
 -- `tables::read::end`: a row that was not given; then the length. Assumes nothing.
-use Rattle.std.proofs.Common.{rules, ◌≡◌, true, not, ◌-◌, ◌≤◌, ◌<◌, length, get_or, ℕ, Bool, false, List, [], ◌∷◌}
-use mathlib.Core.Path.{refl, sym, ◌∙◌, ap}
+use Rattle.std.proofs.Common.{rules, ◌≡◌, true, not, ◌-◌, ◌≤◌, length, get_or, ℕ, Bool, false, List, [], ◌∷◌}
+use mathlib.Core.Path.{refl, sym, ◌∙◌}
 use mathlib.Core.Bool.{beq, ◌||◌, ◌&&◌}
 use Prim.Native.Nat.{zero, suc}
 use native.Mathlib.Omega.{arith}
@@ -18,8 +18,12 @@ any_missing : (test : Bool → Bool) → ((b : Bool) → test b ≡ not b) → (
 unfolding all_given
 any_missing test t given zero h = refl
 any_missing test t given (suc c) h =
-    rw (take-suc given c false (omega arith), list_any-append test (take c given) (get_or given c false ∷ []),
-      any_missing test t given c (omega arith), t (get_or given c false))
+    rw (
+      take-suc given c false (omega arith),
+      list_any-append test (take c given) (get_or given c false ∷ []),
+      any_missing test t given c (omega arith),
+      t (get_or given c false),
+    )
     (either (all_given given c) (get_or given c false))
   where
     either : (a b : Bool) → (not a || (not b || false)) ≡ not (a && b)
@@ -40,19 +44,27 @@ pub returns-then-contains : goal.returns-then-contains
 unfolding fault_of
 returns-then-contains c =
     let g = c.args.g.now in
-    rw (missing g.given g.table.symbols (search rules) c.requires.1 c.contains.result c.contains.ensures.value,
-      c.if-contains.true) refl
+    rw (
+      missing g.given g.table.symbols (search rules) c.requires.1 c.contains.result c.contains.ensures.value,
+      c.if-contains.true,
+    ) refl
 
 pub returns-then-rest-gt1 : goal.returns-then-rest-gt1
 unfolding fault_of
 returns-then-rest-gt1 c =
     let g = c.args.g.now in
-    rw (missing g.given g.table.symbols (search rules) c.requires.1 c.contains.result c.contains.ensures.value,
-      c.if-contains.false, lt-ltb 1 (length c.args.rest.now) (omega arith)) refl
+    rw (
+      missing g.given g.table.symbols (search rules) c.requires.1 c.contains.result c.contains.ensures.value,
+      c.if-contains.false,
+      lt-ltb 1 (length c.args.rest.now) (omega arith),
+    ) refl
 
 pub returns : goal.returns
 unfolding fault_of
 returns c =
     let g = c.args.g.now in
-    rw (missing g.given g.table.symbols (search rules) c.requires.1 c.contains.result c.contains.ensures.value,
-      c.if-contains.false, le-ltb 1 (length c.args.rest.now) (omega arith)) refl
+    rw (
+      missing g.given g.table.symbols (search rules) c.requires.1 c.contains.result c.contains.ensures.value,
+      c.if-contains.false,
+      le-ltb 1 (length c.args.rest.now) (omega arith),
+    ) refl

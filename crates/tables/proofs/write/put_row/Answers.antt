@@ -1,5 +1,5 @@
 -- `tables::write::put_row`: the row's eight bytes are stored as one part. Assumes nothing.
-use Rattle.std.proofs.Common.{rules, ◌≡◌, ◌∷◌, ◌+◌, ◌-◌, ◌≤◌, length, ℕ, List, w64}
+use Rattle.std.proofs.Common.{rules, ◌≡◌, ◌+◌, ◌-◌, ◌≤◌, length, ℕ, List, w64}
 use mathlib.Core.List.{◌++◌, append_assoc}
 use mathlib.Core.Path.{refl, sym, ◌∙◌, ap}
 use native.Mathlib.Omega.{arith}
@@ -26,11 +26,11 @@ part out bs at n h =
     ∙ rw e (sym (append_assoc (take (at + 2) out) bs _) ∙ sym (sets-eq bs out (at + 2) (omega arith)))
 
 pub returns : goal.returns
+unfolding bytes_of
 returns c =
     let a = c.args in
     let stored = set (set a.out.now a.at 2) (a.at + 1) a.j in
     let room : a.at + 10 ≤ length stored = simp length-set c.requires.0 in
-    let bytes : c.copy_from_slice.new.self ≡ bytes_of 8 a.row =
-      c.copy_from_slice.ensures.after ∙ c.to_le_bytes.ensures ∙ same_bytes a.row in
     let next : a.at + 2 ≡ suc (suc a.at) = omega arith in
-    rw bytes (part stored (bytes_of 8 a.row) a.at (sym (ap length (same_bytes a.row))) room ∙ rw (next, add-one a.at) refl)
+    rw (c.copy_from_slice.ensures.after ∙ c.to_le_bytes.ensures ∙ same_bytes a.row)
+    (part stored (bytes_of 8 a.row) a.at refl room ∙ rw (next, add-one a.at) refl)
