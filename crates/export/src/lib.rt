@@ -10,7 +10,6 @@ mod decoded;
 mod iwadare_decoded;
 pub mod iwadare_stations;
 pub mod make;
-mod making;
 pub mod read;
 mod reading;
 pub mod start;

@@ -1,7 +1,7 @@
 // Making a table.
 ghost use Rattle.export.specs.Promises.{MakesTable};
 
-use crate::making::made;
+use crate::answer::refused;
 use crate::table::give_back;
 use tables::make::make;
 
@@ -11,5 +11,5 @@ pub extern "C" fn burst_make(n: u64, m: u64, table: &mut [u64; 18]) -> u64
 {
     let answer = make(n as usize, m as usize);
     give_back(answer, table);
-    made(answer)
+    refused(answer)
 }

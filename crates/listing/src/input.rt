@@ -12,7 +12,8 @@ pub(crate) struct Input {
     pub failure: Option<io::Error>,
 }
 
-// Reads until the buffer is full, the input ends or a read fails. An odd byte before a failure does not count: it would
+// Reads until the buffer is full, the input ends or a read fails: a `while`, since how far a read comes is what the system
+// answers. An odd byte before a failure does not count: it would
 // be listed as the last of the input, which it need not be.
 pub(crate) fn read(from: &mut impl Read, buf: &mut [u8]) -> Input
     ensures within { result.count ≤ length buf.new }

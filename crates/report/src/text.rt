@@ -111,7 +111,7 @@ impl<'a> Lines<'a> {
         }
     }
 
-    // The line of a refusal.
+    // The line of a refusal, of making a table or of a step: what they share is the number.
     pub(crate) fn refusal(&mut self, number: u64)
         ensures { Puts (refused_line number) self.old self.new }
     {

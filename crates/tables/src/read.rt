@@ -260,7 +260,8 @@ fn judged(t: Table) -> Result<Table, ReadError>
     }
 }
 
-// The records left to right, and then the judgement.
+// The records left to right, and then the judgement. How far a record reaches is told by its kind, and the place of a
+// fault is told by its position, so this is a `loop` with the position beside it.
 pub fn read(bytes: &[u8]) -> Result<Table, ReadError>
     ensures { Read bytes.now result }
 {

@@ -7,6 +7,7 @@ ghost use Rattle.tables.specs.Lent.{lent};
 use span::bits::mask;
 use span::dual::together;
 
+// Fifteen rows with n beside them, since nothing here is on a heap.
 #[derive(Clone, Copy)]
 pub struct Table {
     pub symbols: usize,
@@ -36,7 +37,7 @@ pub(crate) fn sizes_fit(symbols: usize, span: usize, depth: usize) -> bool
 
 // Whether the table of these sizes and rows is fit: the condition of refusal 12 does not hold. The rows are lent, since
 // each step asks it, and compared once, all their ones together; of fewer than n − 1, those that are there are looked
-// at.
+// at. The sizes come one by one, and no table: the rows may stand elsewhere (`lent_fits`).
 pub fn is_fit(symbols: usize, span: usize, depth: usize, rows: &[u64]) -> bool
     ensures { result ≡ fit (table symbols span depth rows.now) }
 {
