@@ -5,6 +5,7 @@ ghost use Rattle.export.specs.Answers.{coded_of};
 
 use link::refusal::Refusal;
 
+// As C has it: numbers alone, of which those that do not apply are 0.
 #[repr(C)]
 #[derive(Clone, Copy)]
 pub struct BurstCoded {

@@ -3,9 +3,10 @@ ghost use Rattle.std.specs.Prelude.{◌≡◌, ◌∷◌};
 ghost use Rattle.link.specs.Decoder.{record_numbers, decode_numbers};
 ghost use Rattle.export.specs.Answers.{decoded_of};
 
-use link::decode::{Delivered, Mark};
+use link::decode::Delivered;
 use link::refusal::Refusal;
 
+// As C has it: numbers alone, of which those that do not apply are 0.
 #[repr(C)]
 #[derive(Clone, Copy)]
 pub struct BurstDecoded {
@@ -20,18 +21,12 @@ impl From<Delivered> for BurstDecoded {
     ghost from_gives = { λ delivered told. told ≡ decoded_of (0 ∷ record_numbers delivered) };
 
     fn from(delivered: Delivered) -> BurstDecoded {
-        let (mark, error) = match delivered.mark {
-            Mark::Clean => (1, 0),
-            Mark::Held => (2, 0),
-            Mark::Corrected(e) => (3, e),
-            Mark::Doubtful => (4, 0),
-            Mark::Parity(e) => (5, e),
-        };
+        let mark = delivered.mark;
         BurstDecoded {
             refused: 0,
             info: delivered.info.into(),
-            mark,
-            error: error.into(),
+            mark: mark.into(),
+            error: mark.error().into(),
         }
     }
 }

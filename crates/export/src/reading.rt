@@ -7,6 +7,7 @@ use tables::judge::Clash;
 use tables::read::ReadError;
 use tables::table::Table;
 
+// As C has it: numbers alone, of which those that do not apply are 0.
 #[repr(C)]
 #[derive(Clone, Copy)]
 pub struct BurstReading {

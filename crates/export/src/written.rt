@@ -6,6 +6,7 @@ ghost use Rattle.export.specs.Answers.{written_of};
 use tables::judge::Clash;
 use tables::write::WriteError;
 
+// As C has it: numbers alone, of which those that do not apply are 0.
 #[repr(C)]
 #[derive(Clone, Copy)]
 pub struct BurstWritten {

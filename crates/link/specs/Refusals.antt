@@ -9,7 +9,6 @@
 --   refusal_number e         the number of a refusal
 --   refusal_of k             the refusal of a number from 12 to 15
 --   Answer X                 what a call answers that may be refused: an X, or why not
---   Answer X                 what a call answers that may be refused: an X, or why not
 --   refused k                what a call that is refused answers
 --   answered fault x refused   the answer of a call that has this fault: x, or its refusal
 --   settled fault            whether a call is refused, and why

@@ -9,7 +9,7 @@ ghost use Rattle.link.specs.Fit.{table_of, Ready};
 ghost use Rattle.link.specs.Memory.{turn_of, pending_of, syndrome_of, delayed_of, decoder_words};
 ghost use Rattle.link.specs.Step.{found, error_of, kept_of, mark_found, mark_of};
 ghost use Rattle.link.specs.Refusals.{some_above, decoder_malformed, decoder_fault, settled};
-ghost use Rattle.link.specs.Decoder.{advanced, decoder_next, delivery, mark_number, Decodes};
+ghost use Rattle.link.specs.Decoder.{mark_error, advanced, decoder_next, delivery, mark_number, Decodes};
 
 use crate::fit::FitTable;
 use crate::refusal::Refusal;
@@ -42,6 +42,18 @@ impl From<Mark> for u64 {
             Mark::Corrected(_) => 3,
             Mark::Doubtful => 4,
             Mark::Parity(_) => 5,
+        }
+    }
+}
+
+impl Mark {
+    // The error block that it carries, or 0.
+    pub fn error(self) -> u16
+        ensures { result ≡ mark_error self }
+    {
+        match self {
+            Mark::Corrected(e) | Mark::Parity(e) => e,
+            Mark::Clean | Mark::Doubtful | Mark::Held => 0,
         }
     }
 }

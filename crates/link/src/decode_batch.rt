@@ -56,7 +56,7 @@ fn declines(t: &FitTable, i: usize, most: u64, state: &[u64], received: u64) -> 
     most < received
 }
 
-// The entry of a record: the mark's number above the information.
+// The entry of a record, a number as 02 and C have it: the mark's above the information. 0 is nothing yet.
 fn entry(mark: Mark, info: u64) -> u32
     requires { info < 2 ^ 16 }
     ensures { result ≡ decode_entry (mark_number mark) info }

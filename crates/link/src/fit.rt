@@ -1,4 +1,6 @@
-// A table that refusal 12 does not apply to, its rows lent: what that says of its sizes is known wherever it goes.
+// A table that refusal 12 does not apply to, its rows lent: what that says of its sizes is known wherever it goes. The
+// memory stays beside it, a lent slice as 01 has it, since contracts speak of its words before and after: so its length
+// stands in them (`Ready`, or an equation where 14 is still to be tested).
 ghost use Rattle.std.specs.Prelude.{◌≡◌, ◌≤◌, true, length};
 ghost use Rattle.tables.specs.Table.{table, fit};
 

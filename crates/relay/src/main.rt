@@ -24,7 +24,7 @@ const LEVELS: usize = 24;
 // As many more as the decoder's delay, m × (N − 1), so that the last level is delivered.
 const BLOCKS: usize = LEVELS + DEPTH * (SPAN - 1);
 
-// What the decoder found of a block.
+// What the decoder found of a block, as an entry tells it: without the error block that link's `Mark` carries.
 #[derive(Clone, Copy)]
 enum Mark {
     Clean,

@@ -9,7 +9,7 @@ use link::refusal::Refusal;
 use std::ops::ControlFlow;
 use tables::table::Table;
 
-// How far a listing came: the count of bytes written, and the number of the next delivery. The listing goes on with that
+// How far a listing came: the count of bytes written, as in an opening, and the number of the next delivery. The listing goes on with that
 // number (`Continue`), or it stopped there (`Break`).
 #[derive(Clone, Copy)]
 pub struct Progress {

@@ -2,7 +2,6 @@
 // the position stays. No `write!` here: its contract says what is written where it answers `Ok`, and none says that it
 // does where there is room. So a mark has its word by a function, and no `Display`, and digits come from `itoa`.
 ghost use Rattle.std.specs.Prelude.{◌≡◌, [], ◌∷◌, ◌++◌, ◌+◌, ◌≤◌, length};
-ghost use Rattle.link.specs.Decoder.{mark_error};
 ghost use Rattle.report.specs.Text.{mark_word, decimal_of, space, header_line, line_of, refused_line, odd_line};
 ghost use Rattle.report.specs.Writing.{longest, room, put, put_end, Pushes, Puts};
 
@@ -29,16 +28,6 @@ fn word(mark: Mark) -> &'static [u8]
         Mark::Parity(_) => b"parity ",
         Mark::Doubtful => b"doubtful ",
         Mark::Held => b"held ",
-    }
-}
-
-// Its e, or 0.
-fn error_of(mark: Mark) -> u16
-    ensures { result ≡ mark_error mark }
-{
-    match mark {
-        Mark::Corrected(e) | Mark::Parity(e) => e,
-        Mark::Clean | Mark::Doubtful | Mark::Held => 0,
     }
 }
 
@@ -86,7 +75,7 @@ impl<'a> Lines<'a> {
         self.push_number(number, b" ");
         self.push_number(d.info as u64, b" ");
         self.push(word(mark));
-        self.push_number(error_of(mark) as u64, b"\n");
+        self.push_number(mark.error() as u64, b"\n");
     }
 
     // A line that is always the same.

@@ -40,7 +40,8 @@ pub fn dual_basis(words: &[u64], count: usize) -> Basis
     b
 }
 
-// A word reduced by the triples, each of which tests the word itself, with no branch but the loop's. Any basis has an
+// A word reduced by the triples, each of which tests the word itself and not what is left of it, as in `reduce_by`
+// (`AtOnce` says when the two agree): with no branch but the loop's. Any basis has an
 // answer: a size above 32 counts as 32.
 fn reduce_at_once(b: &Basis, x: u64) -> Reduced
     ensures { result ≡ at_once b.now x }

@@ -25,7 +25,7 @@ pub enum Unsound {
 }
 
 // The shifted rows, then the rows, so that the least relation has the least e0 and then the least e1: each row is fetched
-// once.
+// once. An array of as many words as a search for relations takes, since nothing here is on a heap.
 fn clash_words(rows: &[u64], span: usize, l: usize) -> [u64; 32]
     requires { (length rows.now ≤ 16) × (span ≤ 64) }
     ensures { take (length rows.now + length rows.now) result ≡ map (shifted span l) rows.now ++ rows.now }

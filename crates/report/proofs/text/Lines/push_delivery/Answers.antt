@@ -56,7 +56,7 @@ push_number-requires-3 c =
     let f = pushes-end (info s) c.push_number-2.ensures (omega arith) in
     let m = rw c.word.ensures at c.push.ensures in
     let g = pushes-end (mark s) m (omega arith) in
-    omega (arith, digits-16 c.error_of.result (omega arith), field-length c.error_of.result newline)
+    omega (arith, digits-16 c.error.result (omega arith), field-length c.error.result newline)
 
 pub returns-clause-line : goal.returns-clause-line
 returns-clause-line c =
@@ -67,7 +67,7 @@ returns-clause-line c =
     let e = pushes-end (number s) c.push_number.ensures (omega arith) in
     let f = pushes-end (info s) c.push_number-2.ensures (omega arith) in
     let m = rw c.word.ensures at c.push.ensures in
-    let z : Pushes error c.push.new.self c.push_number-3.new.self = rw c.error_of.ensures at c.push_number-3.ensures in
+    let z : Pushes error c.push.new.self c.push_number-3.new.self = rw c.error.ensures at c.push_number-3.ensures in
     rw (← line-fields a.number a.d)
     (pushes_then (number s) (info s ++ (mark s ++ error)) c.push_number.ensures
     (pushes_then (info s) (mark s ++ error) c.push_number-2.ensures
@@ -84,6 +84,6 @@ returns-clause-short c =
     omega (
       arith,
       ap length c.word.ensures,
-      digits-16 c.error_of.result (omega arith),
-      field-length c.error_of.result newline,
+      digits-16 c.error.result (omega arith),
+      field-length c.error.result newline,
     )
