@@ -13,7 +13,8 @@ fn words(text: &[u8]) -> &str {
         .map_or(text, |(before, _)| before)
 }
 
-// In one line, made in a fixed buffer (no heap): what failed, a colon and the system's words. If that cannot be written, nobody is told.
+// In one line, made in a fixed buffer (no heap): what failed, a colon and the system's words. If that cannot be written,
+// nobody is told.
 pub(crate) fn tell(rt: &impl Eprint, what: &str, error: &io::Error) -> Told {
     let mut text = Cursor::new([0u8; 256]);
     let _ = write!(text, "{error}");

@@ -163,7 +163,8 @@ fn relay(rt: &impl Print, t: Table, coder: &mut [u64], decoder: &mut [u64]) -> i
     Ok(())
 }
 
-// The table of these numbers, with both memories started. Nothing is refused, and the answers are looked at all the same.
+// The table of these numbers, with both memories started. Nothing is refused, and the answers are looked at all the
+// same.
 fn start(coder: &mut [u64], decoder: &mut [u64]) -> Result<Table, Refused> {
     let table = make(SYMBOLS, DEPTH)?;
     start_coder(table, coder)?;

@@ -17,7 +17,8 @@ use Rattle.report.specs.Listing.{Printed}
 use Rattle.report.proofs.Written.{pushes_nothing}
 
 -- with room, what is put is written
-pub puts-pushes : {l₀ l₁ : Lines} (bs : List ℕ) → l₀.end + longest ≤ length l₀.bytes.now → Puts bs l₀ l₁ → Pushes bs l₀ l₁
+pub puts-pushes : {l₀ l₁ : Lines} (bs : List ℕ) → l₀.end + longest ≤ length l₀.bytes.now → Puts bs l₀ l₁
+    → Pushes bs l₀ l₁
 unfolding put put_end
 puts-pushes {l₀} {l₁} bs h p =
     let r = le-leb (l₀.end + longest) (length l₀.bytes.now) h in
@@ -38,7 +39,8 @@ pub printed-nothing : (l : Lines) (k : ℕ) (a : Answer (Option Delivered)) → 
 printed-nothing l k a told = record { pushed = rw told (pushes_nothing l); counted = rw told; short = omega arith }
 
 pub printed-refusal : {l₀ l₁ : Lines} (k : ℕ) (a : Answer (Option Delivered)) (f : Refusal) → a ≡ Err f
-    → l₀.end + longest ≤ length l₀.bytes.now → Puts (refused_line (refusal_number f)) l₀ l₁ → length (refused_line (refusal_number f)) ≤ longest
+    → l₀.end + longest ≤ length l₀.bytes.now → Puts (refused_line (refusal_number f)) l₀ l₁
+    → length (refused_line (refusal_number f)) ≤ longest
     → Printed k a l₀ l₁ (Break k)
 printed-refusal k a f told h p n =
     let w = puts-pushes (refused_line (refusal_number f)) h p in

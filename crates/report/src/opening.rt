@@ -21,7 +21,8 @@ pub struct Decoder {
     pub number: u64,
 }
 
-// The count of bytes written, and no part of the lent ones, of which the promise says every byte; and the decoder, or none where the program is to stop.
+// The count of bytes written, and no part of the lent ones, of which the promise says every byte; and the decoder, or
+// none where the program is to stop.
 #[derive(Clone, Copy)]
 pub struct Opened {
     pub end: usize,

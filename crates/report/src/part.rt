@@ -9,8 +9,8 @@ use link::refusal::Refusal;
 use std::ops::ControlFlow;
 use tables::table::Table;
 
-// How far a listing came: the count of bytes written, as in an opening, and the number of the next delivery. The listing goes on with that
-// number (`Continue`), or it stopped there (`Break`).
+// How far a listing came: the count of bytes written, as in an opening, and the number of the next delivery. The listing
+// goes on with that number (`Continue`), or it stopped there (`Break`).
 #[derive(Clone, Copy)]
 pub struct Progress {
     pub end: usize,
