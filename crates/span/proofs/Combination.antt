@@ -122,6 +122,10 @@ combination-map f f0 fx (w ∷ ws) c =
 pub counted-length : (n : ℕ) (ws : List ℕ) → length (counted n ws) ≡ min 32 (min n (length ws))
 counted-length n ws = length-take 32 (take n ws) ∙ ap (min 32) (length-take n ws)
 
+-- there is room for them in a basis, whatever the count is
+pub counted-most : (n : ℕ) (ws xs : List ℕ) → xs ≡ counted n ws → length xs ≤ 32
+counted-most n ws xs e = omega (arith, ap length e, counted-length n ws)
+
 pub counted-at : (n : ℕ) (ws : List ℕ) (i : ℕ) → i < length (counted n ws) → get_or (counted n ws) i 0 ≡ get_or ws i 0
 counted-at n ws i h =
     let l = counted-length n ws in

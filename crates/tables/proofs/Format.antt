@@ -1,5 +1,6 @@
 -- The fault of a record, by its kind, and one record of a parse. Assumes nothing.
 --
+--   word_fits                     a row's number fits a word
 --   fault-ended, -unknown, -cut   refusals 1 to 3
 --   fault-sizes, -row, -end       the tests of a whole record
 --   header, Passed                the first of 1 to 4, and what it says where there is none
@@ -13,6 +14,7 @@ use mathlib.Core.Bool.{Bool, true, false, cond, not, ◌&&◌, ◌||◌}
 use mathlib.Core.Logic.{◌≢◌}
 use mathlib.Core.List.{List, [], ◌∷◌}
 use Prim.Native.Nat.{ℕ, zero, suc, ◌+◌, ◌-◌, ◌^◌, ◌≤◌, ◌<◌}
+use native.Mathlib.Nat.{pow-succ', pow-le-pow_right}
 use native.Mathlib.Omega.{arith}
 use lib.ListN.{length, get_or, drop, length-drop}
 use lib.Seq.{drop-drop}
@@ -20,7 +22,7 @@ use borrow.Author.Tests.{ltb-true, ltb-false, leb-true, leb-false, eqb-true, eqb
 use borrow.Author.Tests.{lt-ltb, le-ltb}
 use lib.Dec.{leb, ltb, eqb}
 use Rattle.span.proofs.Word.{and-false}
-use Rattle.tables.specs.Format.{kind, size, row_word, all_given, unavailable, fault, place, begun, after}
+use Rattle.tables.specs.Format.{kind, size, word, row_word, all_given, unavailable, fault, place, begun, after}
 use Rattle.tables.specs.Format.{refused, parsed, parse_from, parse, ended, unknown, cut, misplaced, parse_at}
 use Rattle.tables.specs.Format.{ParseStep, header, fault_of, checked, kind_of, kind_number}
 use Rattle.std.specs.Prelude.{Result, Ok, Err, IsErr, IsErrAnd}
@@ -29,6 +31,18 @@ use Rattle.tables.specs.declared.read.Kind.{Kind}
 use Rattle.tables.specs.declared.read.Progress.{Progress}
 use Rattle.tables.specs.Table.{sizes_fit}
 use Rattle.tables.specs.Refusal.{first_of}
+
+-- ---- the number of a row record
+
+pub word_lt : (s : List ℕ) → ((i : ℕ) → get_or s i 0 < 256) → (k c : ℕ) → word s k c < 256 ^ c
+unfolding word
+word_lt s b k zero = omega arith
+word_lt s b k (suc c) = rw (pow-succ' 256 c) (omega (arith, word_lt s b (suc k) c, b k))
+
+pub word_fits : (s : List ℕ) → ((i : ℕ) → get_or s i 0 < 256) → (k c : ℕ) → c ≤ 8 → word s k c < 2 ^ 64
+word_fits s b k c h =
+    let p : 256 ^ c ≤ 256 ^ 8 = pow-le-pow_right (omega arith) h in
+    omega (arith, word_lt s b k c)
 
 -- ---- rows given
 

@@ -25,18 +25,17 @@ pub enum Unsound {
 }
 
 // The shifted rows, then the rows, so that the least relation has the least e0 and then the least e1: each row is fetched
-// once. An array of as many words as a search for relations takes, since nothing here is on a heap.
-fn clash_words(rows: &[u64], span: usize, l: usize) -> [u64; 32]
+// once. They go into an array of as many words as a search for relations takes, since nothing here is on a heap; it is
+// lent, so that it is made once for all shifts.
+fn clash_words(rows: &[u64], span: usize, l: usize, words: &mut [u64; 32])
     requires { (length rows.now ≤ 16) × (span ≤ 64) }
-    ensures { take (length rows.now + length rows.now) result ≡ map (shifted span l) rows.now ++ rows.now }
+    ensures { take (length rows.now + length rows.now) words.new ≡ map (shifted span l) rows.now ++ rows.now }
 {
     let n = rows.len();
-    let mut words = [0u64; 32];
     for (i, row) in rows.iter().enumerate() {
         words[i] = shift(*row, l, span);
         words[n + i] = *row;
     }
-    words
 }
 
 // The least clash of the first shift that has one, of the code's n rows.
@@ -45,8 +44,9 @@ fn search(rows: &[u64], span: usize) -> Option<Clash>
     ensures { result ≡ first_clash span rows.now }
 {
     let n = rows.len();
+    let mut words = [0u64; 32];
     for l in 1..span {
-        let words = clash_words(rows, span, l);
+        clash_words(rows, span, l, &mut words);
         if let Some(c) = least_relation(&words, n + n, n) {
             return Some(Clash {
                 l: l as u64,
@@ -58,10 +58,11 @@ fn search(rows: &[u64], span: usize) -> Option<Clash>
     None
 }
 
-// The first clash of a fit table. The parity's row, 1, stands behind the stored ones.
-pub(crate) fn first_clash(t: Table) -> Option<Clash>
-    requires { fit t ≡ true }
-    ensures { result ≡ first_clash t.span (rows_of t) }
+// The first clash of a fit table, which is lent, so that its rows alone are copied. The parity's row, 1, stands behind
+// the stored ones.
+pub(crate) fn first_clash(t: &Table) -> Option<Clash>
+    requires { fit t.now ≡ true }
+    ensures { result ≡ first_clash t.now.span (rows_of t.now) }
 {
     let n = t.symbols;
     let mut rows = [1; 16];
@@ -75,7 +76,7 @@ pub(crate) fn judge(t: Table) -> Result<(), Unsound>
     if !is_fit(t.symbols, t.span, t.depth, &t.rows) {
         return Err(Unsound::NotFit);
     }
-    match first_clash(t) {
+    match first_clash(&t) {
         Some(clash) => Err(Unsound::Clashing(clash)),
         None => Ok(()),
     }

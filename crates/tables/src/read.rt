@@ -217,24 +217,22 @@ fn sound(rest: &[u8], g: &Progress) -> Result<Kind, Fault>
     }
 }
 
-// The progress after a sound record that is not the end.
-fn after(rest: &[u8], g: Progress, said: Kind) -> Progress
-    requires { (g.table.symbols ≤ 16) × (fault g rest.now ≡ 0) × (kind rest.now ≢ 0) × (kind rest.now ≡ kind_number said) }
-    ensures { result ≡ after g rest.now }
+// The progress after a sound record that is not the end. It is lent: by value it was copied three times a record.
+fn after(rest: &[u8], g: &mut Progress, said: Kind)
+    requires { (g.old.table.symbols ≤ 16) × (fault g.old rest.now ≡ 0) × (kind rest.now ≢ 0)
+        × (kind rest.now ≡ kind_number said) }
+    ensures { g.new ≡ after g.old rest.now }
 {
     let j = byte(rest, 1);
-    let mut t = g.table;
-    let mut given = g.given;
     if let Kind::Sizes = said {
-        t.symbols = j;
-        t.span = byte(rest, 2);
-        t.depth = byte(rest, 3);
+        g.table.symbols = j;
+        g.table.span = byte(rest, 2);
+        g.table.depth = byte(rest, 3);
     } else {
         let i = j - 1;
-        t.rows[i] = row_word(rest);
-        given[i] = true;
+        g.table.rows[i] = row_word(rest);
+        g.given[i] = true;
     }
-    Progress { table: t, given }
 }
 
 // A refusal of the record at `at`. What follows the end begins after its one byte.
@@ -254,7 +252,7 @@ fn judged(t: Table) -> Result<Table, ReadError>
     requires { fit t ≡ true }
     ensures { result ≡ read_parse (parsed t) }
 {
-    match first_clash(t) {
+    match first_clash(&t) {
         Some(clash) => Err(ReadError::Unsuitable(clash)),
         None => Ok(t),
     }
@@ -278,7 +276,7 @@ pub fn read(bytes: &[u8]) -> Result<Table, ReadError>
                 if let Kind::End = kind {
                     return judged(g.table);
                 }
-                g = after(rest, g, kind);
+                after(rest, &mut g, kind);
                 at += kind.size();
             }
         }

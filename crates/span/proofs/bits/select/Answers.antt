@@ -1,5 +1,5 @@
 -- `span::bits::select`: 0 less an odd bit is all ones, which mask nothing. Assumes nothing.
-use Rattle.std.proofs.Common.{◌≡◌, ℕ, ◌+◌, ◌%◌, ◌^◌, ◌<◌, Bool, true, false, sym, ap, ◌∙◌, mod-eq_of_lt, arith}
+use Rattle.std.proofs.Common.{◌≡◌, ℕ, ◌+◌, ◌%◌, ◌^◌, ◌<◌, Bool, true, false, ap, ◌∙◌, mod-eq_of_lt, arith}
 use lib.Bits.{bit_and, and_mask, and_zero_r}
 use Rattle.span.specs.Word.{sel, digit, odd}
 use Rattle.span.proofs.Word.{odd-mod}
@@ -14,6 +14,4 @@ masked word mask false hw hm e = ap (bit_and word) (omega arith) ∙ and_zero_r 
 pub returns : goal.returns
 returns c =
     let on = c.args.on in
-    let mask = c.wrapping_neg.result in
-    masked c.args.word mask (odd on) c.ranges.word.fits (omega arith)
-    (ap (λ (x : ℕ). (mask + x) % 2 ^ 64) (sym (odd-mod on)) ∙ c.wrapping_neg.ensures)
+    masked c.args.word _ (odd on) c.ranges.word.fits (omega arith) (omega (arith, odd-mod on, c.wrapping_neg.ensures))

@@ -26,7 +26,7 @@ loop-l-init c = λ k e0 e1 h cl. let z = cl.shift_from in omega arith
 pub returns-in-Some : goal.returns-in-Some
 returns-in-Some c =
     let r = c.least_relation in
-    let w = c.clash_words-words in
+    let w = c.clash_words in
     let a = c.args in
     let N = a.span in
     let n = length a.rows.now in
@@ -34,7 +34,7 @@ returns-in-Some c =
     let e = c.in-Some.c in
     let size : length R ≡ n = refl in
     let small : min n 64 ≡ n = omega arith in
-    let same = r.ensures ∙ clash_counted N R c.loop-l.l n w.result w.ensures size (omega arith) in
+    let same = r.ensures ∙ clash_counted N R c.loop-l.l n w.new.words w.ensures size (omega arith) in
     let low : bit_and e c.mask.result ≡ e % 2 ^ n =
     ap (bit_and e) (c.mask.ensures ∙ ap (λ (k : ℕ). 2 ^ k - 1) small) ∙ and_mask e n
     in
@@ -48,12 +48,12 @@ returns-in-Some c =
 pub loop-l-preserved : goal.loop-l-preserved
 loop-l-preserved c =
     let r = c.least_relation in
-    let w = c.clash_words-words in
+    let w = c.clash_words in
     let a = c.args in
     let R = a.rows.now in
     let size : length R ≡ length R = refl in
     let same = r.ensures
-    ∙ clash_counted a.span R c.loop-l.l (length a.rows.now) w.result w.ensures size (omega arith) in
+    ∙ clash_counted a.span R c.loop-l.l (length a.rows.now) w.new.words w.ensures size (omega arith) in
     none_more a.span R c.loop-l.l c.loop-l.invariant
     (clash_missing a.span R c.loop-l.l (sym same ∙ c.in_default.is))
 

@@ -43,27 +43,27 @@ number : (c : goal.In_default) → (1 ≤ c.byte-j.result) × (c.byte-j.result -
 number c =
     let a = c.args in
     let p = c.requires in
-    rw c.byte-j.ensures (numbered a.g a.rest.now p.0 (fault-sound a.g a.rest.now p.1) p.2 (unsized c))
+    rw c.byte-j.ensures (numbered a.g.now a.rest.now p.0 (fault-sound a.g.now a.rest.now p.1) p.2 (unsized c))
 
 pub overflow_sub-i : goal.overflow_sub-i
 overflow_sub-i c = (number (goal.at.overflow_sub-i c).In_default).0
 
-pub bounds-t-i : goal.bounds-t-i
-bounds-t-i c = (number (goal.at.bounds-t-i c).In_default).1
+pub bounds-g-i : goal.bounds-g-i
+bounds-g-i c = (number (goal.at.bounds-g-i c).In_default).1
 
-pub bounds-given-i : goal.bounds-given-i
-bounds-given-i c = (number (goal.at.bounds-given-i c).In_default).1
+pub bounds-g-i-in_default : goal.bounds-g-i-in_default
+bounds-g-i-in_default c = (number (goal.at.bounds-g-i-in_default c).In_default).1
 
 pub returns-in-Sizes : goal.returns-in-Sizes
 unfolding sized
 returns-in-Sizes c =
     let a = c.args in
-    rw (c.byte-j.ensures, c.byte.ensures, c.byte-in-Sizes.ensures)
-    (after-sizes a.g a.rest.now (c.requires.3 ∙ ap kind_number c.in-Sizes.is))
+    rw (c.byte-j.ensures, c.byte-g.ensures, c.byte-g-in-Sizes.ensures)
+    (after-sizes a.g.now a.rest.now (c.requires.3 ∙ ap kind_number c.in-Sizes.is))
 
 pub returns-in_default : goal.returns-in_default
 unfolding rowed
 returns-in_default c =
     let a = c.args in
     rw (c.byte-j.ensures, c.row_word.ensures)
-    (after-row a.g a.rest.now (unsized (goal.at.returns-in_default c).In_default))
+    (after-row a.g.now a.rest.now (unsized (goal.at.returns-in_default c).In_default))

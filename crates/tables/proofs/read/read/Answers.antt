@@ -90,14 +90,15 @@ other End n e = n refl
 other Sizes n e = absurd (omega arith)
 other Row n e = absurd (omega arith)
 
-goes_on : (c : goal.In_default) → kind (here (goal.at.after-g-requires c).In-Ok) ≢ 0
-goes_on c e = other c.in-Ok.kind c.in_default.not-End (sym (told (goal.at.after-g-requires c).In-Ok) ∙ e)
+goes_on : (c : goal.In-Ok) → (c.in-Ok.kind ≡ End → ⊥) → kind (here c) ≢ 0
+goes_on c n e = other c.in-Ok.kind n (sym (told c) ∙ e)
 
-pub after-g-requires : goal.after-g-requires
-after-g-requires c =
-    let i = (goal.at.after-g-requires c).In-Ok in
+pub after-requires : goal.after-requires
+after-requires c =
+    let at = goal.at.after-requires c in
+    let i = at.In-Ok in
     let b = good-bounds c.loop-fault.g c.loop-fault.invariant.1 in
-    rw (whole c.args.bytes.now c.loop-fault.at) (b.0, (none i).0, goes_on c, told i)
+    rw (whole c.args.bytes.now c.loop-fault.at) (b.0, (none i).0, goes_on i at.In_default.in_default.not-End, told i)
 
 -- the next record begins where this one ends
 long : (c : goal.After-size-at) → c.size-at.result ≡ size (kind (here (goal.at.overflow_add-at c).In-Ok))
@@ -121,11 +122,11 @@ pub loop-fault-preserved : goal.loop-fault-preserved
 loop-fault-preserved c =
     let l = c.loop-fault in
     let t = (goal.at.loop-fault-preserved c).In-Ok in
-    let d = goes_on (goal.at.loop-fault-preserved c).In_default in
+    let d = goes_on t (goal.at.loop-fault-preserved c).In_default.in_default.not-End in
     let i = some t in
     let n = long c in
     let one = size-some (kind (here t)) in
-    let next = rw (whole c.args.bytes.now l.at) at c.after-g.ensures in (
+    let next = rw (whole c.args.bytes.now l.at) at c.after.ensures in (
       omega arith,
       rw next (good-after l.g (here t) l.invariant.1 (sound t) d),
       rw (next, n) (reaches_next c.args.bytes.now l.at l.g l.invariant.2 (omega arith) (none t).0 d),
