@@ -1,8 +1,13 @@
 -- `report::opening::after_header`: a made table is fit, and no larger than N = 32; otherwise the refusal. Assumes
 -- nothing.
-use mathlib.Core.Path.{sym, ◌∙◌}
+use mathlib.Core.Path.{◌≡◌, refl, sym, ◌∙◌, subst}
+use Prim.Native.Nat.{ℕ}
+use native.Mathlib.Omega.{arith}
+use Rattle.tables.specs.declared.make.MakeError.{MakeError}
+use Rattle.tables.specs.declared.make.MakeError.TheVariants.{OutOfRange}
 use Rattle.tables.specs.Made.{make_number}
 use Rattle.report.specs.Text.{refused_line}
+use Rattle.report.specs.Writing.{Pushes}
 use Rattle.report.proofs.Answer.{puts-pushes}
 use Rattle.report.proofs.Opens.{made-fits}
 use Rattle.report.proofs.Written.{pushes_nothing}
@@ -17,7 +22,14 @@ started-requires c =
 pub returns-in-Ok-clause-text : goal.returns-in-Ok-clause-text
 returns-in-Ok-clause-text c = rw (sym c.make.ensures.answer ∙ c.in-Ok.is) (pushes_nothing c.args.lines.now)
 
+-- a making is refused by 11 alone
+eleven : (e : MakeError) → make_number e ≡ 11
+eleven OutOfRange = refl
+
 pub returns-in-Err-clause-text : goal.returns-in-Err-clause-text
 returns-in-Err-clause-text c =
+    let e = eleven c.in-Err.error in
+    let printed : c.into.result ≡ 11 = omega (arith, c.into.ensures) in
     rw (sym c.make.ensures.answer ∙ c.in-Err.is)
-    (puts-pushes (refused_line (make_number c.in-Err.error)) c.requires.1 (rw c.into.ensures at c.refusal.ensures))
+    (subst (λ (k : ℕ). Pushes (refused_line k) c.args.lines.now c.refusal.new.self) (sym e)
+    (puts-pushes (refused_line 11) c.requires.1 (rw printed at c.refusal.ensures)))

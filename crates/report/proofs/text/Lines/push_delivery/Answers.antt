@@ -1,5 +1,4 @@
 -- `report::text::Lines::push_delivery`: number, information, mark and e, one after the other. Assumes nothing.
-use mathlib.Core.Path.{ap}
 use mathlib.Core.List.{List, [], ◌∷◌, ◌++◌}
 use Prim.Native.Nat.{ℕ, ◌≤◌}
 use native.Mathlib.Omega.{arith}
@@ -40,13 +39,13 @@ push_number-requires-2 c =
     let e = pushes-end (number s) c.push_number.ensures (omega arith) in
     omega arith
 
-pub push-requires : goal.push-requires
-push-requires c =
-    let s = (goal.at.push-requires c).Start in
+pub push_word-requires : goal.push_word-requires
+push_word-requires c =
+    let s = (goal.at.push_word-requires c).Start in
     let k = known s in
     let e = pushes-end (number s) c.push_number.ensures (omega arith) in
     let f = pushes-end (info s) c.push_number-2.ensures (omega arith) in
-    omega (arith, ap length c.word.ensures)
+    omega arith
 
 pub push_number-requires-3 : goal.push_number-requires-3
 push_number-requires-3 c =
@@ -54,8 +53,7 @@ push_number-requires-3 c =
     let k = known s in
     let e = pushes-end (number s) c.push_number.ensures (omega arith) in
     let f = pushes-end (info s) c.push_number-2.ensures (omega arith) in
-    let m = rw c.word.ensures at c.push.ensures in
-    let g = pushes-end (mark s) m (omega arith) in
+    let g = pushes-end (mark s) c.push_word.ensures (omega arith) in
     omega (arith, digits-16 c.error.result (omega arith), field-length c.error.result newline)
 
 pub returns-clause-line : goal.returns-clause-line
@@ -66,12 +64,12 @@ returns-clause-line c =
     let error = decimal_of (mark_error a.d.mark) ++ (newline ∷ []) in
     let e = pushes-end (number s) c.push_number.ensures (omega arith) in
     let f = pushes-end (info s) c.push_number-2.ensures (omega arith) in
-    let m = rw c.word.ensures at c.push.ensures in
-    let z : Pushes error c.push.new.self c.push_number-3.new.self = rw c.error.ensures at c.push_number-3.ensures in
+    let z : Pushes error c.push_word.new.self c.push_number-3.new.self =
+    rw c.error.ensures at c.push_number-3.ensures in
     rw (← line-fields a.number a.d)
     (pushes_then (number s) (info s ++ (mark s ++ error)) c.push_number.ensures
     (pushes_then (info s) (mark s ++ error) c.push_number-2.ensures
-    (pushes_then (mark s) error m z (omega arith)) (omega arith)) (omega arith))
+    (pushes_then (mark s) error c.push_word.ensures z (omega arith)) (omega arith)) (omega arith))
 
 pub returns-clause-short : goal.returns-clause-short
 returns-clause-short c =
@@ -79,11 +77,10 @@ returns-clause-short c =
     let k = known s in
     let e = pushes-end (number s) c.push_number.ensures (omega arith) in
     let f = pushes-end (info s) c.push_number-2.ensures (omega arith) in
-    let g = c.push.ensures.wrote.position in
+    let g = c.push_word.ensures.wrote.position in
     let h = c.push_number-3.ensures.wrote.position in
     omega (
       arith,
-      ap length c.word.ensures,
       digits-16 c.error.result (omega arith),
       field-length c.error.result newline,
     )
