@@ -1,14 +1,14 @@
 -- Seed 1, worked out.
 --
 --   FirstDraw                     "seed 1 draws 270369 first"
---   small_table                   the made table for n = 2 and m = 3
+--   small_table, SmallMade        the made table for n = 2 and m = 3
 --   first_blocks, FirstBlocks     the first 53 blocks of its load of that table
 --   first_answers, FirstAnswers   what a started decoder answers to the first 31 of them
 use Rattle.link.specs.Refusals.{Answer}
 use Rattle.link.specs.declared.decode.Delivered.{Delivered}
 use Rattle.std.specs.Prelude.{Option, ◌≡◌, List, [], ◌∷◌, ◌++◌, ℕ, replicate, None, Ok}
 use Rattle.tables.specs.declared.table.Table.{Table}
-use Rattle.tables.specs.Made.{made_table}
+use Rattle.tables.specs.Made.{made_table, making}
 use Rattle.link.specs.declared.decode.Mark.TheVariants.{Clean, Held, Corrected, Parity}
 use Rattle.link.specs.Computed.{delivers}
 use Rattle.link.specs.Sums.{answers_to}
@@ -24,6 +24,9 @@ FirstDraw =
 
 abbrev pub small_table : Table
 small_table = made_table 2 3
+
+abbrev pub SmallMade : Type 0
+SmallMade = making 2 3 ≡ Ok small_table
 
 -- n is 2, N is 4, m is 3, so that m × (N − 1) is 9. The draws, and what each is used for:
 --

@@ -2,6 +2,8 @@
 // decodes what it received by the batch. Prints a line a delivery: its number, the level and the mark.
 #![tactic(auto)]
 
+ghost use Rattle.std.specs.Prelude.{◌≤◌, length};
+
 use link::code_batch::code_batch;
 use link::decode_batch::decode_batch;
 use link::refusal::Refusal;
@@ -70,12 +72,6 @@ impl Delivery {
     }
 }
 
-impl fmt::Display for Delivery {
-    fn fmt<W: fmt::Write>(&self, f: &mut fmt::Formatter<W>) -> fmt::Result {
-        write!(f, "{} {}", self.level, self.mark)
-    }
-}
-
 // Why nothing is sent.
 #[derive(Clone, Copy)]
 enum Refused {
@@ -127,7 +123,9 @@ fn error(block: usize) -> u16 {
 }
 
 // The channel. An entry of the coder is the coded block. Returns the part of the lent blocks that it filled.
-fn receive<'a>(sent: &[u32], received: &'a mut [u16]) -> &'a [u16] {
+fn receive<'a>(sent: &[u32], received: &'a mut [u16]) -> &'a [u16]
+    ensures within { length result.now ≤ length received.old }
+{
     let count = sent.len().min(received.len());
     let received = &mut received[..count];
     for (i, (entry, block)) in sent.iter().zip(received.iter_mut()).enumerate() {
@@ -136,12 +134,15 @@ fn receive<'a>(sent: &[u32], received: &'a mut [u16]) -> &'a [u16] {
     received
 }
 
+// Three writes a line, so that where one fails the fields before it have been written.
 fn print(rt: &impl Print, entries: &[u32]) -> io::Result<()> {
     let deliveries = entries
         .iter()
         .filter_map(|entry| Delivery::from_entry(*entry));
     for (number, delivery) in deliveries.enumerate() {
-        println!(rt; "{number} {delivery}")?;
+        print!(rt; "{number} ")?;
+        print!(rt; "{} ", delivery.level)?;
+        println!(rt; "{}", delivery.mark)?;
     }
     Ok(())
 }
