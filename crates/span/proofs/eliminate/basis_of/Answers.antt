@@ -4,12 +4,12 @@ use Rattle.std.specs.Prelude.{None, Result, Ok, Err}
 use Rattle.std.specs.Result.{IsOk, result_err}
 use Rattle.std.proofs.lemmas.Option.{none-some}
 use Rattle.span.specs.declared.eliminate.Basis.{Basis}
-use Rattle.span.proofs.Combination.{counted-length}
+use Rattle.span.proofs.Combination.{counted-most}
 use Rattle.span.proofs.Relation.{relation-missing}
 use Rattle.span.proofs.eliminate.basis_of.Goals as goal
 
 pub eliminate-requires : goal.eliminate-requires
-eliminate-requires c = rw c.counted-words.ensures (omega (arith, counted-length c.args.count c.args.words.now))
+eliminate-requires c = counted-most _ _ _ c.counted-words.ensures
 
 no_error : (r : Result Basis ℕ) → result_err r ≡ None → IsOk r
 no_error (Ok b) e = refl
