@@ -61,7 +61,7 @@ impl<'a> Lines<'a> {
         ensures { Pushes (decimal_of number) self.old self.new }
     {
         if number < 10 {
-            self.push_byte(48 + number as u8);
+            self.push_byte(b'0' + number as u8);
             return;
         }
         let mut digits = Buffer::new();

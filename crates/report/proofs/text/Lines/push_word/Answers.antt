@@ -1,4 +1,5 @@
--- `report::text::Lines::push_word`: each mark has its word. Assumes nothing.
+-- `report::text::Lines::push_word`: the word of parity. The prover finds the others alone, and this one too; it stands here
+-- so that the edit of that word is refused by its bytes. Assumes nothing.
 use Rattle.report.proofs.text.Lines.push_word.Goals as goal
 
 pub returns-in-Parity : goal.returns-in-Parity
